@@ -1,0 +1,303 @@
+-- Laws of the job's definitions, in the order in which the proofs use them.
+-- Assumes nothing.
+use Prim.Native.Nat.{ℕ, zero, suc, _+_, _-_, _*_, _<_, _≤_}
+use mathlib.Core.Bool.{Bool, true, false}
+use mathlib.Core.List.{List, [], _∷_, _++_, append-nil}
+use mathlib.Core.Path.{_≡_, refl, sym, ap, _∙_}
+use lib.ListN.{length, getD, set, drop, replicate, List·getD-eq-default}
+use Rattle.job.specs.declared.Answer.{Answer}
+use Rattle.job.specs.declared.Answer.the-variants.{Lines, Refused}
+use Rattle.job.specs.declared.Section.{Section}
+use Rattle.job.specs.declared.Section.the-variants as section
+use native.Mathlib.Omega.{arith}
+use native.Mathlib.Numerals.{add-one}
+use native.Mathlib.Nat.{suc-mul}
+use borrow.Author.Tests.{le-leb, lt-leb, leb-true, eqb-true}
+use lib.Dec.{leb, eqb}
+use borrow.Author.Fill.{fill-more}
+use lib.Seq.{drop-cons, drop-length}
+use Rattle.job.specs.Job.{byteAt, wordAt, sections, sizeOf, mostOf, overOf, keyAt, note, pick, first, cut, whyKey, whyEntry, whyEntries, noted, whyCount, whyLeft, whySections, stored, listed, wordsAt, linesAt, imageOf, mapOf, linesOf, Filled, pageOf, After, after, unless, whyRead, jobOf}
+
+-- from the third on, a section is the line words
+pub nth-rest : (i : ℕ) → (i ≡ 0 → ⊥) → (i ≡ 1 → ⊥) → section.Lines ≡ getD sections i section.Lines
+unfolding sections
+nth-rest zero n m = absurd (n refl)
+nth-rest (suc zero) n m = absurd (m refl)
+nth-rest (suc (suc zero)) n m = refl
+nth-rest (suc (suc (suc i))) n m = refl
+
+-- past the end of the input a word is 0
+pub word-past : (input : List ℕ) (at : ℕ) → length input ≤ at → 0 ≡ wordAt input at
+word-past input at h =
+    let low = List·getD-eq-default input 0 h in
+    let high : getD input (at + 1) 0 ≡ 0 = List·getD-eq-default input 0 (omega arith) in
+    omega arith
+
+-- an entry or a count of this size is cut short, or is not
+cut-short : (input : List ℕ) (at size : ℕ) → length input - at < size → cut input at size ≡ 11
+cut-short input at size h = simp (lt-leb (at + size) (length input) (omega arith))
+
+cut-none : (input : List ℕ) (at size : ℕ) → at ≤ length input → size ≤ length input - at → cut input at size ≡ 0
+cut-none input at size b h = simp (le-leb (at + size) (length input) (omega arith))
+
+-- the refusal of an entry
+pub entry-cut : (s : Section) (input : List ℕ) (at low : ℕ) (map : List ℕ) → length input - at < sizeOf s
+    → 11 ≡ whyEntry s input at low map
+unfolding whyEntry
+entry-cut s input at low map h = rw (cut-short input at (sizeOf s) h) refl
+
+pub entry-own : (s : Section) (input : List ℕ) (at low : ℕ) (map : List ℕ) (key why : ℕ) → at ≤ length input → sizeOf s ≤ length input - at
+    → key ≡ keyAt s input at → why ≡ whyKey s map low key → why ≡ whyEntry s input at low map
+unfolding whyEntry
+entry-own s input at low map key why b h k e =
+    rw (cut-none input at (sizeOf s) b h) (e ∙ ap (λ (x : ℕ). whyKey s map low x) k)
+
+-- the refusal of a count
+pub count-cut : (s : Section) (input : List ℕ) (at : ℕ) → length input - at < 2 → 11 ≡ whyCount s input at
+unfolding whyCount
+count-cut s input at h = rw (cut-short input at 2 h) refl
+
+pub count-over : (s : Section) (input : List ℕ) (at : ℕ) → at ≤ length input → 2 ≤ length input - at → mostOf s < wordAt input at
+    → overOf s ≡ whyCount s input at
+unfolding whyCount
+count-over s input at b h m = rw (cut-none input at 2 b h, lt-leb (wordAt input at) (mostOf s) m) refl
+
+pub count-good : (s : Section) (input : List ℕ) (at : ℕ) → at ≤ length input → 2 ≤ length input - at → wordAt input at ≤ mostOf s
+    → 0 ≡ whyCount s input at
+unfolding whyCount
+count-good s input at b h m = rw (cut-none input at 2 b h, le-leb (wordAt input at) (mostOf s) m) refl
+
+-- the first of two refusals
+first-is : (why later : ℕ) → (why ≡ 0 → ⊥) → why ≡ first why later
+first-is zero later n = absurd (n refl)
+first-is (suc k) later n = refl
+
+first-some : {why k : ℕ} (later : ℕ) → why ≡ k → (why ≡ 0 → ⊥) → why ≡ first k later
+first-some {why} {k} later e n = first-is why later n ∙ ap (λ (x : ℕ). first x later) e
+
+first-none : (why later : ℕ) → why ≡ 0 → first why later ≡ later
+first-none why later e = rw e refl
+
+first-first : (a b later : ℕ) → first (first a b) later ≡ first a (first b later)
+first-first zero b later = refl
+first-first (suc a) b later = refl
+
+first-both : (a b : ℕ) → first a b ≡ 0 → (a ≡ 0) × (b ≡ 0)
+first-both zero b e = (refl, e)
+first-both (suc a) b e = absurd (omega (arith, e))
+
+pick-zero : (b : Bool) (k : ℕ) → (k ≡ 0 → ⊥) → pick b 0 k ≡ 0 → b ≡ true
+pick-zero true k n e = refl
+pick-zero false k n e = absurd (n e)
+
+cut-zero : (input : List ℕ) (at size : ℕ) → cut input at size ≡ 0 → at + size ≤ length input
+cut-zero input at size e =
+    leb-true (at + size) (length input) (pick-zero (leb (at + size) (length input)) 11 (λ h. omega arith) e)
+
+-- what is not cut short is there
+pub count-room : (s : Section) (input : List ℕ) (at : ℕ) → whyCount s input at ≡ 0 → at + 2 ≤ length input
+unfolding whyCount
+count-room s input at e = cut-zero input at 2 (first-both (cut input at 2) _ e .0)
+
+pub entry-room : (s : Section) (input : List ℕ) (at low : ℕ) (map : List ℕ) → whyEntry s input at low map ≡ 0 → at + sizeOf s ≤ length input
+unfolding whyEntry
+entry-room s input at low map e = cut-zero input at (sizeOf s) (first-both (cut input at (sizeOf s)) _ e .0)
+
+-- what is left from inside a section on: n entries, then the other sections
+unfoldable pub whyRest : Section → List Section → List ℕ → ℕ → ℕ → ℕ → List ℕ → ℕ
+whyRest s rest input n at low map =
+    first (whyEntries s input n at low map) (whySections rest input (at + n * sizeOf s) (noted s input n at map))
+
+in-sections : (i : ℕ) → i < 3 → i < length sections
+unfolding sections
+in-sections i h = h
+
+rest-starts : (i : ℕ) (input : List ℕ) (at : ℕ) (map : List ℕ) → i < 3
+    → whySections (drop i sections) input at map
+    ≡ first (whyCount (getD sections i section.Lines) input at)
+    (whyRest (getD sections i section.Lines) (drop (i + 1) sections) input (wordAt input at) (at + 2) 0 map)
+unfolding whyRest whySections
+rest-starts i input at map h = rw (drop-cons sections i section.Lines (in-sections i h), add-one i) refl
+
+rest-suc : (s : Section) (rest : List Section) (input : List ℕ) (n at low : ℕ) (map : List ℕ)
+    → whyRest s rest input (suc n) at low map
+    ≡ first (whyEntry s input at low map)
+    (whyRest s rest input n (at + sizeOf s) (keyAt s input at + 1) (note s (keyAt s input at) map))
+unfolding whyRest whyEntries noted
+rest-suc s rest input n at low map =
+    let e : at + suc n * sizeOf s ≡ at + sizeOf s + n * sizeOf s = omega (arith, suc-mul n (sizeOf s)) in
+    rw e (first-first (whyEntry s input at low map) _ _)
+
+rest-entry : (s : Section) (rest : List Section) (input : List ℕ) (n at low : ℕ) (map : List ℕ) → 0 < n
+    → whyRest s rest input n at low map
+    ≡ first (whyEntry s input at low map)
+    (whyRest s rest input (n - 1) (at + sizeOf s) (keyAt s input at + 1) (note s (keyAt s input at) map))
+rest-entry s rest input n at low map h =
+    let e : n ≡ suc (n - 1) = omega arith in
+    ap (λ (m : ℕ). whyRest s rest input m at low map) e ∙ rest-suc s rest input (n - 1) at low map
+
+-- the loops' steps: what is left from here comes to the whole job's refusal, `whole`
+module _ (input : List ℕ) (whole : ℕ) where
+  -- past the last section nothing may be left over
+  pub sections-end : (i at : ℕ) (map : List ℕ) (why : ℕ) → i ≡ 3 → why ≡ whyLeft input at
+      → whySections (drop i sections) input at map ≡ whole → why ≡ whole
+  unfolding whySections sections
+  sections-end i at map why e w h = w ∙ (rw e at h)
+
+  -- a count
+  pub count-refused : (i at : ℕ) (map : List ℕ) (s : Section) (why : ℕ) → i < 3 → s ≡ getD sections i section.Lines
+      → why ≡ whyCount s input at → (why ≡ 0 → ⊥) → whySections (drop i sections) input at map ≡ whole → why ≡ whole
+  count-refused i at map s why l e w n h =
+      first-some _ (w ∙ ap (λ (t : Section). whyCount t input at) e) n ∙ sym (rest-starts i input at map l) ∙ h
+
+  pub count-taken : (i at : ℕ) (map : List ℕ) (s : Section) (why n : ℕ) → i < 3 → s ≡ getD sections i section.Lines
+      → why ≡ whyCount s input at → why ≡ 0 → n ≡ wordAt input at → whySections (drop i sections) input at map ≡ whole
+      → whyRest s (drop (i + 1) sections) input n (at + 2) 0 map ≡ whole
+  count-taken i at map s why n l e w z k h =
+      rw (k, e) (sym (first-none _ _ (rw e at (sym w ∙ z))) ∙ sym (rest-starts i input at map l) ∙ h)
+
+  -- an entry
+  pub entry-refused : (s : Section) (rest : List Section) (n at low : ℕ) (map : List ℕ) (why : ℕ) → 0 < n
+      → why ≡ whyEntry s input at low map → (why ≡ 0 → ⊥) → whyRest s rest input n at low map ≡ whole → why ≡ whole
+  entry-refused s rest n at low map why l w m h =
+      first-some _ w m ∙ sym (rest-entry s rest input n at low map l) ∙ h
+
+  pub entry-taken : (s : Section) (rest : List Section) (n at low : ℕ) (map : List ℕ) (why key size : ℕ) (map′ : List ℕ) → 0 < n
+      → why ≡ whyEntry s input at low map → why ≡ 0 → key ≡ keyAt s input at → size ≡ sizeOf s → map′ ≡ note s (keyAt s input at) map
+      → whyRest s rest input n at low map ≡ whole → whyRest s rest input (n - 1) (at + size) (key + 1) map′ ≡ whole
+  entry-taken s rest n at low map why key size map′ l w z k e m h =
+      rw (k, e, m) (sym (first-none _ _ (sym w ∙ z)) ∙ sym (rest-entry s rest input n at low map l) ∙ h)
+
+  -- the end of a section
+  pub entries-end : (s : Section) (rest : List Section) (n at low : ℕ) (map : List ℕ) → n ≡ 0
+      → whyRest s rest input n at low map ≡ whole → whySections rest input at map ≡ whole
+  unfolding whyRest whyEntries noted
+  entries-end s rest n at low map e h =
+      let z : at ≡ at + 0 * sizeOf s = omega arith in
+      rw z (rw e at h)
+
+-- one more entry of each section, as the filling loops count them down
+pub noted-more : (input : List ℕ) (n at : ℕ) (map : List ℕ) (page : ℕ) → 0 < n → page ≡ byteAt input at
+    → noted section.Pages input (n - 1) (at + 1) (set map page 1) ≡ noted section.Pages input n at map
+unfolding noted
+noted-more input n at map page h e =
+    let k : n ≡ suc (n - 1) = omega arith in
+    rw e (ap (λ (m : ℕ). noted section.Pages input m at map) (sym k))
+
+pub stored-more : (input : List ℕ) (n at : ℕ) (image image′ image″ : List ℕ) (address low high : ℕ) → 0 < n
+    → address ≡ wordAt input at → low ≡ byteAt input (at + 2) → high ≡ byteAt input (at + 3)
+    → image′ ≡ set image address low → image″ ≡ set image′ (address + 1) high
+    → stored input (n - 1) (at + 4) image″ ≡ stored input n at image
+unfolding stored
+stored-more input n at image image′ image″ address low high h a l g e f =
+    let k : n ≡ suc (n - 1) = omega arith in
+    rw (f, e, a, l, g) (ap (λ (m : ℕ). stored input m at image) (sym k))
+
+pub listed-more : (input : List ℕ) (n at k : ℕ) (lines lines′ : List ℕ) (line : ℕ) → 0 < n → line ≡ wordAt input at
+    → lines′ ≡ set lines k line → listed input (n - 1) (at + 2) (k + 1) lines′ ≡ listed input n at k lines
+unfolding listed
+listed-more input n at k lines lines′ line h l e =
+    let m : n ≡ suc (n - 1) = omega arith in
+    rw (e, l) (ap (λ (x : ℕ). listed input x at k lines) (sym m))
+
+-- a buffer that is filled with 0 from its start, one more place, and to its end
+pub cleared-more : (b d : List ℕ) (i : ℕ) → i < length d → b ≡ replicate i 0 ++ drop i d → set b i 0 ≡ replicate (i + 1) 0 ++ drop (i + 1) d
+cleared-more b d i l h = ap (λ (x : List ℕ). set x i 0) h ∙ fill-more i 0 d l
+
+pub cleared : (b d : List ℕ) (i : ℕ) → i ≡ length d → b ≡ replicate i 0 ++ drop i d → b ≡ replicate (length d) 0
+cleared b d i e h = h ∙ rw (e, drop-length d, append-nil) refl
+
+-- nothing is left of a section
+pub noted-end : (input : List ℕ) (n at : ℕ) (map : List ℕ) → n ≡ 0 → map ≡ noted section.Pages input n at map
+unfolding noted
+noted-end input n at map e = rw e refl
+
+pub stored-end : (input : List ℕ) (n at : ℕ) (image : List ℕ) → n ≡ 0 → image ≡ stored input n at image
+unfolding stored
+stored-end input n at image e = rw e refl
+
+pub listed-end : (input : List ℕ) (n at k : ℕ) (lines : List ℕ) → n ≡ 0 → lines ≡ listed input n at k lines
+unfolding listed
+listed-end input n at k lines e = rw e refl
+
+-- what the filling pass leaves
+zeros : (b d : List ℕ) (size : ℕ) → length d ≡ size → b ≡ replicate (length d) 0 → b ≡ replicate size 0
+zeros b d size e h = h ∙ ap (λ (n : ℕ). replicate n 0) e
+
+pub map-filled : (input lent clean map : List ℕ) (n : ℕ) → length lent ≡ 256 → clean ≡ replicate (length lent) 0
+    → n ≡ wordAt input 0 → map ≡ noted section.Pages input n 2 clean → map ≡ mapOf input
+unfolding mapOf
+map-filled input lent clean map n l z e h =
+    h ∙ ap (λ (b : List ℕ). noted section.Pages input n 2 b) (zeros clean lent 256 l z)
+    ∙ ap (λ (k : ℕ). noted section.Pages input k 2 (replicate 256 0)) e
+
+pub image-filled : (input lent clean image : List ℕ) (at n : ℕ) → length lent ≡ 65536 → clean ≡ replicate (length lent) 0
+    → at ≡ wordsAt input → n ≡ wordAt input at → image ≡ stored input n (at + 2) clean → image ≡ imageOf input
+unfolding imageOf
+image-filled input lent clean image at n l z a e h =
+    h ∙ ap (λ (b : List ℕ). stored input n (at + 2) b) (zeros clean lent 65536 l z)
+    ∙ ap (λ (k : ℕ). stored input k (at + 2) (replicate 65536 0)) e
+    ∙ ap (λ (x : ℕ). stored input (wordAt input x) (x + 2) (replicate 65536 0)) a
+
+pub lines-filled : (input lent clean lines : List ℕ) (at n : ℕ) → length lent ≡ 4096 → clean ≡ replicate (length lent) 0
+    → at ≡ linesAt input → n ≡ wordAt input at → lines ≡ listed input n (at + 2) 0 clean → lines ≡ linesOf input
+unfolding linesOf
+lines-filled input lent clean lines at n l z a e h =
+    h ∙ ap (λ (b : List ℕ). listed input n (at + 2) 0 b) (zeros clean lent 4096 l z)
+    ∙ ap (λ (k : ℕ). listed input k (at + 2) 0 (replicate 4096 0)) e
+    ∙ ap (λ (x : ℕ). listed input (wordAt input x) (x + 2) 0 (replicate 4096 0)) a
+
+-- where the sections start, as the filling pass reckons it
+pub words-at : (input : List ℕ) (n : ℕ) → n ≡ wordAt input 0 → 2 + n ≡ wordsAt input
+words-at input n e = omega (arith, e)
+
+pub lines-at : (input : List ℕ) (at n : ℕ) → at ≡ wordsAt input → n ≡ wordAt input at → at + 2 + n * 4 ≡ linesAt input
+lines-at input at n a e = rw e (ap (λ (x : ℕ). x + 2 + wordAt input x * 4) a)
+
+-- where nothing is refused, the lent buffers have their lengths
+pub read-lengths : (image map lines : ℕ) (input : List ℕ) → whyRead image map lines input ≡ 0
+    → (image ≡ 65536) × ((map ≡ 256) × (lines ≡ 4096))
+unfolding whyRead
+read-lengths image map lines input e =
+    let a = first-both (pick (eqb image 65536) 0 1) _ e in
+    let b = first-both (pick (eqb map 256) 0 2) _ (a .1) in
+    let c = first-both (pick (eqb lines 4096) 0 4) _ (b .1) in (
+      eqb-true _ _ (pick-zero (eqb image 65536) 1 (λ h. omega arith) (a .0)),
+      (
+        eqb-true _ _ (pick-zero (eqb map 256) 2 (λ h. omega arith) (b .0)),
+        eqb-true _ _ (pick-zero (eqb lines 4096) 4 (λ h. omega arith) (c .0)),
+      ),
+    )
+
+unless-is : (k : ℕ) (taken : After) (refused : ℕ → After) → (k ≡ 0 → ⊥) → refused k ≡ unless k taken refused
+unless-is zero taken refused n = absurd (n refl)
+unless-is (suc k) taken refused n = refl
+
+unless-some : {why k : ℕ} (taken : After) (refused : ℕ → After) → why ≡ k → (why ≡ 0 → ⊥) → refused why ≡ unless k taken refused
+unless-some {why} taken refused e n = unless-is why taken refused n ∙ ap (λ (x : ℕ). unless x taken refused) e
+
+-- a refused job, and an accepted one
+pub read-refused : (input image map lines : List ℕ) (why : ℕ) → why ≡ whyRead (length image) (length map) (length lines) input
+    → (why ≡ 0 → ⊥) → after (pageOf (Refused why)) image map lines ≡ jobOf input image map lines
+unfolding jobOf
+read-refused input image map lines why e n = unless-some _ (λ (k : ℕ). after (pageOf (Refused k)) image map lines) e n
+
+pub read-filled : (input image map lines image′ map′ lines′ : List ℕ) (count : ℕ)
+    → whyRead (length image) (length map) (length lines) input ≡ 0 → Filled input image′ map′ lines′ count
+    → after (pageOf (Lines count)) image′ map′ lines′ ≡ jobOf input image map lines
+unfolding jobOf
+read-filled input image map lines image′ map′ lines′ count e f = rw (e, f .image-is, f .map-is, f .lines-is, f .count-is) refl
+
+-- the promise leaves no choice: one page's numbers and buffers, one answer and buffers
+pub one-answer : (a b : Answer) → pageOf a ≡ pageOf b → a ≡ b
+one-answer (Lines n) (Lines m) e = cc
+one-answer (Lines n) (Refused m) e = cc
+one-answer (Refused n) (Lines m) e = cc
+one-answer (Refused n) (Refused m) e = cc
+
+pub one-outcome : (a b : Answer) (i j m n k l : List ℕ) → after (pageOf a) i m k ≡ after (pageOf b) j n l
+    → (a ≡ b) × ((i ≡ j) × ((m ≡ n) × (k ≡ l)))
+one-outcome a b i j m n k l e = (
+  one-answer a b (ap (λ (x : After). x .page) e),
+  (ap (λ (x : After). x .image) e, (ap (λ (x : After). x .map) e, ap (λ (x : After). x .lines) e)),
+)

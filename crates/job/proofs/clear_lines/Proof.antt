@@ -1,0 +1,52 @@
+-- The line buffer is 0 below i, and as lent from there on.
+-- Assumes nothing.
+use Rattle.job.proofs.Laws.{cleared-more, cleared}
+use lib.ListN.{length, drop, replicate, length-set}
+use mathlib.Core.List.{_++_}
+use borrow.Author.Needs.{needs}
+use native.Mathlib.Omega.{arith}
+use mathlib.Core.Path.{_≡_, refl}
+use Prim.Native.Nat.{_-_, _≤_}
+use Rattle.job.proofs.clear_lines.Statement.{statement}
+use Rattle.job.proofs.clear_lines.Tie as tie
+
+abbrev Inv-loop : tie.InvT-loop
+Inv-loop lines₀ i₀ lines i = (i ≤ length lines₀) × (length lines ≡ length lines₀) × (lines ≡ replicate i 0 ++ drop i lines₀)
+
+abbrev μ-loop : tie.MeasureT-loop
+μ-loop lines₀ i₀ lines i = length lines₀ - i
+
+loop-holds : tie.Need-loop-holds Inv-loop μ-loop
+loop-holds c = (search needs, refl, refl)
+
+loop-less : tie.Need-loop-less Inv-loop μ-loop
+loop-less c = omega (arith, c .loop-test .taken, c .before .loop .inv .1)
+
+loop-again : tie.Need-loop-again Inv-loop μ-loop
+loop-again c =
+    let h = c .loop-test .taken in (
+      omega (arith, c .before .loop .inv .1),
+      simp length-set (c .before .loop .inv .1),
+      cleared-more _ _ (c .before .loop .i) (omega (arith, c .before .loop .inv .1)) (c .before .loop .inv .2),
+    )
+
+same-length : tie.Need-same-length Inv-loop μ-loop
+same-length c = c .before .loop .inv .1
+
+returns : tie.Need-returns Inv-loop μ-loop
+returns c = cleared _ _ (c .before .loop .i) (omega (arith, c .loop-test .left, c .before .loop .inv .0, c .before .loop .inv .1)) (c .before .loop .inv .2)
+
+pub clear-lines-spec : {M : Type 1} → statement M
+clear-lines-spec =
+    tie.close
+    (tie.spec
+    Inv-loop
+    μ-loop
+    loop-holds
+    (λ c. search needs)
+    (λ c. search needs)
+    (λ c. search needs)
+    loop-less
+    loop-again
+    same-length
+    returns)

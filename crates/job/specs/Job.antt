@@ -1,0 +1,197 @@
+-- A job: three sections, each after its count. What is refused, and what an accepted job leaves in the lent buffers.
+-- Assumes nothing.
+use Prim.Native.Nat.{ℕ, zero, suc, _+_, _*_, _/_, _%_}
+use mathlib.Core.Bool.{Bool, true, false}
+use mathlib.Core.List.{List, [], _∷_}
+use mathlib.Core.Path.{_≡_}
+use lib.ListN.{length, getD, set, replicate}
+use lib.Dec.{eqb, leb}
+use Rattle.job.specs.declared.Answer.{Answer}
+use Rattle.job.specs.declared.Answer.the-variants.{Lines, Refused}
+use Rattle.job.specs.declared.Section.{Section}
+use Rattle.job.specs.declared.Section.the-variants as section
+
+abbrev pub pick : {A : Type 0} → Bool → A → A → A
+pick true a b = a
+pick false a b = b
+
+-- the first refusal met: 0 is none
+abbrev pub first : ℕ → ℕ → ℕ
+first zero later = later
+first (suc n) later = suc n
+
+-- the input: a byte, and a word, low byte first
+abbrev pub byteAt : List ℕ → ℕ → ℕ
+byteAt input at = getD input at 0
+
+abbrev pub wordAt : List ℕ → ℕ → ℕ
+wordAt input at = byteAt input at + byteAt input (at + 1) * 256
+
+-- "Three sections": fitted pages, words, line words
+unfoldable pub sections : List Section
+sections = section.Pages ∷ section.Words ∷ section.Lines ∷ []
+
+-- an entry's bytes
+abbrev pub sizeOf : Section → ℕ
+sizeOf section.Pages = 1
+sizeOf section.Words = 4
+sizeOf section.Lines = 2
+
+-- the most entries, and the refusal of more
+abbrev pub mostOf : Section → ℕ
+mostOf section.Pages = 256
+mostOf section.Words = 4096
+mostOf section.Lines = 4096
+
+abbrev pub overOf : Section → ℕ
+overOf section.Pages = 12
+overOf section.Words = 14
+overOf section.Lines = 18
+
+-- what an entry's checks look at: the page, the address, the line word
+abbrev pub keyAt : Section → List ℕ → ℕ → ℕ
+keyAt section.Pages input at = byteAt input at
+keyAt section.Words input at = wordAt input at
+keyAt section.Lines input at = wordAt input at
+
+-- the map with this entry's page fitted
+abbrev pub note : Section → ℕ → List ℕ → List ℕ
+note section.Pages page map = set map page 1
+note section.Words page map = map
+note section.Lines page map = map
+
+-- bits 2, 4 to 6 and 12 to 15 of a line word are not used
+abbrev pub plain : ℕ → Bool
+plain x = eqb (x / 4 % 2 + x / 16 % 8 + x / 4096) 0
+
+-- 11: the job ends inside a count or entry of this size
+abbrev pub cut : List ℕ → ℕ → ℕ → ℕ
+cut input at size = pick (leb (at + size) (length input)) 0 11
+
+-- an entry's own checks, by number. `low` is the least that rises above the entry before
+abbrev pub whyPage : ℕ → ℕ → ℕ
+whyPage low page = pick (leb low page) 0 13
+
+unfoldable pub whyAddress : List ℕ → ℕ → ℕ → ℕ
+whyAddress map low address =
+    first (pick (eqb (address % 2) 0) 0 15)
+    (first (pick (leb low address) 0 16)
+    (pick (eqb (getD map (address / 256) 0) 1) 0 17))
+
+abbrev pub whyLine : ℕ → ℕ
+whyLine line = pick (plain line) 0 19
+
+abbrev pub whyKey : Section → List ℕ → ℕ → ℕ → ℕ
+whyKey section.Pages map low page = whyPage low page
+whyKey section.Words map low address = whyAddress map low address
+whyKey section.Lines map low line = whyLine line
+
+unfoldable pub whyEntry : Section → List ℕ → ℕ → ℕ → List ℕ → ℕ
+whyEntry s input at low map = first (cut input at (sizeOf s)) (whyKey s map low (keyAt s input at))
+
+-- n entries from a place on; the first of a section has nothing to rise above
+unfoldable pub whyEntries : Section → List ℕ → ℕ → ℕ → ℕ → List ℕ → ℕ
+whyEntries s input zero at low map = 0
+whyEntries s input (suc n) at low map =
+    first (whyEntry s input at low map)
+    (whyEntries s input n (at + sizeOf s) (keyAt s input at + 1) (note s (keyAt s input at) map))
+
+-- the map with the pages of n entries fitted
+unfoldable pub noted : Section → List ℕ → ℕ → ℕ → List ℕ → List ℕ
+noted s input zero at map = map
+noted s input (suc n) at map = noted s input n (at + sizeOf s) (note s (keyAt s input at) map)
+
+-- a count: two bytes; its own check as soon as it is read
+unfoldable pub whyCount : Section → List ℕ → ℕ → ℕ
+whyCount s input at = first (cut input at 2) (pick (leb (wordAt input at) (mostOf s)) 0 (overOf s))
+
+-- the place after a section that starts with its count
+abbrev pub next : Section → List ℕ → ℕ → ℕ
+next s input at = at + 2 + wordAt input at * sizeOf s
+
+-- 20: bytes left over
+abbrev pub whyLeft : List ℕ → ℕ → ℕ
+whyLeft input at = pick (eqb at (length input)) 0 20
+
+-- each section after its count; then nothing is left over
+unfoldable pub whySections : List Section → List ℕ → ℕ → List ℕ → ℕ
+whySections [] input at map = whyLeft input at
+whySections (s ∷ rest) input at map =
+    first (whyCount s input at)
+    (first (whyEntries s input (wordAt input at) (at + 2) 0 map)
+    (whySections rest input (next s input at) (noted s input (wordAt input at) (at + 2) map)))
+
+-- why a job is refused, or 0
+unfoldable pub whyJob : List ℕ → ℕ
+whyJob input = whySections sections input 0 (replicate 256 0)
+
+-- What an accepted job leaves in the lent buffers.
+-- the image with n words at their addresses, low byte at the even address
+unfoldable pub stored : List ℕ → ℕ → ℕ → List ℕ → List ℕ
+stored input zero at image = image
+stored input (suc n) at image =
+    stored input n (at + 4)
+    (set (set image (wordAt input at) (byteAt input (at + 2))) (wordAt input at + 1) (byteAt input (at + 3)))
+
+-- the line buffer with n line words from place k on
+unfoldable pub listed : List ℕ → ℕ → ℕ → ℕ → List ℕ → List ℕ
+listed input zero at k lines = lines
+listed input (suc n) at k lines = listed input n (at + 2) (k + 1) (set lines k (wordAt input at))
+
+-- where the sections start
+abbrev pub wordsAt : List ℕ → ℕ
+wordsAt input = next section.Pages input 0
+
+abbrev pub linesAt : List ℕ → ℕ
+linesAt input = next section.Words input (wordsAt input)
+
+-- every byte of the buffers: what the job names, all else 0
+unfoldable pub mapOf : List ℕ → List ℕ
+mapOf input = noted section.Pages input (wordAt input 0) 2 (replicate 256 0)
+
+unfoldable pub imageOf : List ℕ → List ℕ
+imageOf input = stored input (wordAt input (wordsAt input)) (wordsAt input + 2) (replicate 65536 0)
+
+unfoldable pub linesOf : List ℕ → List ℕ
+linesOf input = listed input (wordAt input (linesAt input)) (linesAt input + 2) 0 (replicate 4096 0)
+
+-- the buffers and the number of line words of an accepted job
+pub record Filled (input image map lines : List ℕ) (count : ℕ) : Type 0 where
+  pub image-is : image ≡ imageOf input
+  pub map-is : map ≡ mapOf input
+  pub lines-is : lines ≡ linesOf input
+  pub count-is : count ≡ wordAt input (linesAt input)
+
+-- an answer in the page's numbers: 0 and the number of line words, or the refusal's number alone
+abbrev pub pageOf : Answer → List ℕ
+pageOf (Lines n) = 0 ∷ n ∷ []
+pageOf (Refused why) = why ∷ []
+
+-- an answer, and the lent buffers after it
+pub record After : Type 0 where
+  pub page : List ℕ
+  pub image : List ℕ
+  pub map : List ℕ
+  pub lines : List ℕ
+
+abbrev pub after : List ℕ → List ℕ → List ℕ → List ℕ → After
+after page image map lines = record { page = page; image = image; map = map; lines = lines }
+
+-- the first refusal that applies, or 0: the lent buffers' lengths, then the job in reading order
+unfoldable pub whyRead : ℕ → ℕ → ℕ → List ℕ → ℕ
+whyRead image map lines input =
+    first (pick (eqb image 65536) 0 1)
+    (first (pick (eqb map 256) 0 2)
+    (first (pick (eqb lines 4096) 0 4)
+    (whyJob input)))
+
+-- a refusal returns its number alone and changes no buffer
+abbrev pub unless : ℕ → After → (ℕ → After) → After
+unless zero taken refused = taken
+unless (suc k) taken refused = refused (suc k)
+
+unfoldable pub jobOf : List ℕ → List ℕ → List ℕ → List ℕ → After
+jobOf input image map lines =
+    unless (whyRead (length image) (length map) (length lines) input)
+    (after (pageOf (Lines (wordAt input (linesAt input)))) (imageOf input) (mapOf input) (linesOf input))
+    (λ why. after (pageOf (Refused why)) image map lines)

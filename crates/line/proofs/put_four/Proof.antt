@@ -1,0 +1,27 @@
+use Rattle.line.proofs.Laws.{wrote-sets}
+use Rattle.line.specs.Line.{four}
+use lib.ListN.{length-set}
+use native.Mathlib.Omega.{arith}
+use borrow.Author.Needs.{needs}
+use Rattle.line.proofs.put_four.Statement.{statement}
+use Rattle.line.proofs.put_four.Tie as tie
+
+slice-write-out-2 : tie.Need-slice-write-out-2
+slice-write-out-2 c = simp length-set (omega arith)
+
+slice-write-out-3 : tie.Need-slice-write-out-3
+slice-write-out-3 c = simp length-set (omega arith)
+
+returns : tie.Need-returns
+returns c = wrote-sets (four (c .args .a) (c .args .b) (c .args .c) (c .args .d)) (c .args .out .now) (omega arith)
+
+pub put-four-spec : {M : Type 1} → statement M
+put-four-spec =
+    tie.close
+    (tie.spec
+    (λ c. search needs)
+    slice-write-out-2
+    slice-write-out-3
+    (λ c. search needs)
+    (λ c. search needs)
+    returns)

@@ -1,0 +1,77 @@
+-- The line that bench prints: R0-R5, SP, PC, PS, mode digit, blanks, first place or ----. Or REFUSED and a number in decimal.
+-- Assumes nothing.
+use mathlib.Core.Bool.{Bool, true, false}
+use mathlib.Core.List.{List, [], _∷_, _++_}
+use Prim.Native.Nat.{ℕ, zero, suc, _+_, _/_, _%_}
+use lib.Dec.{leb, ltb}
+use lib.ListN.{length, getD}
+use Rattle.line.specs.Over.{over}
+use Rattle.line.specs.declared.Place.{Place}
+use Rattle.line.specs.declared.Place.the-variants.{At, Nowhere}
+
+abbrev pub pick : {A : Type 0} → Bool → A → A → A
+pick true a b = a
+pick false a b = b
+
+-- 0 to 9, A to F
+unfoldable pub digits : List ℕ
+digits = 48 ∷ 49 ∷ 50 ∷ 51 ∷ 52 ∷ 53 ∷ 54 ∷ 55 ∷ 56 ∷ 57 ∷ 65 ∷ 66 ∷ 67 ∷ 68 ∷ 69 ∷ 70 ∷ []
+
+unfoldable pub hexOf : ℕ → ℕ
+hexOf d = getD digits d 0
+
+-- four digits
+abbrev pub four : ℕ → ℕ → ℕ → ℕ → List ℕ
+four a b c d = a ∷ b ∷ c ∷ d ∷ []
+
+unfoldable pub hex4 : ℕ → List ℕ
+hex4 x = four (hexOf (x / 4096)) (hexOf (x / 256 % 16)) (hexOf (x / 16 % 16)) (hexOf (x % 16))
+
+-- four digits and a space
+unfoldable pub field : ℕ → List ℕ
+field x = hex4 x ++ (32 ∷ [])
+
+-- the first n of the values, one field after the other
+unfoldable pub fields : List ℕ → ℕ → List ℕ
+fields values zero = []
+fields values (suc n) = fields values n ++ field (getD values n 0)
+
+-- one digit and a space
+unfoldable pub modeText : ℕ → List ℕ
+modeText mode = hexOf (mode % 16) ∷ 32 ∷ []
+
+-- the first blank's place, or ----
+unfoldable pub placeText : Place → List ℕ
+placeText (At x) = hex4 x
+placeText Nowhere = four 45 45 45 45
+
+-- PS has bits 15 and 14 clear
+unfoldable pub lineText : List ℕ → ℕ → ℕ → ℕ → Place → List ℕ
+lineText regs ps mode blanks place =
+    (((fields regs 8 ++ field (ps % 16384)) ++ modeText mode) ++ field blanks) ++ placeText place
+
+-- REFUSED and a space
+unfoldable pub name : List ℕ
+name = 82 ∷ 69 ∷ 70 ∷ 85 ∷ 83 ∷ 69 ∷ 68 ∷ 32 ∷ []
+
+-- a number below 1000 in decimal
+unfoldable pub decimal : ℕ → List ℕ
+decimal n =
+    pick (ltb n 10) ((48 + n) ∷ [])
+    (pick (ltb n 100) ((48 + n / 10) ∷ (48 + n % 10) ∷ [])
+    ((48 + n / 100) ∷ (48 + n / 10 % 10) ∷ (48 + n % 10) ∷ []))
+
+unfoldable pub refusedText : ℕ → List ℕ
+refusedText n = name ++ decimal n
+
+-- how many characters were written, and the buffer after
+pub record Left : Type 0 where
+  pub count : ℕ
+  pub bytes : List ℕ
+
+abbrev pub left : ℕ → List ℕ → Left
+left n b = record { count = n; bytes = b }
+
+-- a text goes to the front of the buffer and the rest stays; where it does not fit, nothing is written
+unfoldable pub written : List ℕ → List ℕ → Left
+written text b = pick (leb (length text) (length b)) (left (length text) (over text b)) (left 0 b)

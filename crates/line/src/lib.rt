@@ -1,0 +1,221 @@
+// The one line that bench prints, written into a lent text buffer from plain numbers.
+ghost use mathlib.Core.Path.{_≡_};
+ghost use Prim.Native.Nat.{_+_, _*_, _≤_, _<_};
+ghost use lib.ListN.{length};
+ghost use Rattle.line.specs.Line.{hexOf, field, four, fields, modeText, placeText, lineText, name, decimal, refusedText, left, written};
+ghost use Rattle.line.specs.Over.{Wrote, WroteAt};
+
+// Where the first blank was: a place in the list of line words, or none.
+pub enum Place {
+    At(u16),
+    Nowhere,
+}
+
+const DIGITS: [u8; 16] = [
+    48,
+    49,
+    50,
+    51,
+    52,
+    53,
+    54,
+    55,
+    56,
+    57,
+    65,
+    66,
+    67,
+    68,
+    69,
+    70,
+];
+
+// A hex digit, upper case.
+fn hex(n: u16) -> u8
+    requires { ⌜ n < 16 ⌝ }
+    ensures { λ r. ⌜ r ≡ hexOf n ⌝ }
+{
+    let i = n as usize;
+    DIGITS[i]
+}
+
+// Four hex digits and a space.
+fn put_field(out: &mut [u8], x: u16) -> usize
+    requires { ⌜ 5 ≤ length (now out) ⌝ }
+    ensures { λ n. ⌜ Wrote (field x) (now (out .entry)) (now (out .exit)) n ⌝ }
+{
+    out[0] = hex(x / 4096);
+    out[1] = hex(x / 256 % 16);
+    out[2] = hex(x / 16 % 16);
+    out[3] = hex(x % 16);
+    out[4] = b' ';
+    5
+}
+
+// The mode's digit and a space.
+fn put_mode(out: &mut [u8], mode: u8) -> usize
+    requires { ⌜ 2 ≤ length (now out) ⌝ }
+    ensures { λ n. ⌜ Wrote (modeText mode) (now (out .entry)) (now (out .exit)) n ⌝ }
+{
+    out[0] = hex((mode % 16) as u16);
+    out[1] = b' ';
+    2
+}
+
+// Four characters.
+fn put_four(out: &mut [u8], a: u8, b: u8, c: u8, d: u8) -> usize
+    requires { ⌜ 4 ≤ length (now out) ⌝ }
+    ensures { λ n. ⌜ Wrote (four a b c d) (now (out .entry)) (now (out .exit)) n ⌝ }
+{
+    out[0] = a;
+    out[1] = b;
+    out[2] = c;
+    out[3] = d;
+    4
+}
+
+// The first blank's place in four hex digits, or four dashes.
+fn put_place(out: &mut [u8], place: Place) -> usize
+    requires { ⌜ 4 ≤ length (now out) ⌝ }
+    ensures { λ n. ⌜ Wrote (placeText place) (now (out .entry)) (now (out .exit)) n ⌝ }
+{
+    match place {
+        Place::At(x) => put_four(
+            out,
+            hex(x / 4096),
+            hex(x / 256 % 16),
+            hex(x / 16 % 16),
+            hex(x % 16),
+        ),
+        Place::Nowhere => put_four(out, b'-', b'-', b'-', b'-'),
+    }
+}
+
+// A field goes into its place of the text; the answer is the place after it.
+fn field_at(text: &mut [u8], at: usize, x: u16) -> usize
+    requires { ⌜ at + 5 ≤ length (now text) ⌝ }
+    ensures { λ n. ⌜ WroteAt at (field x) (now (text .entry)) (now (text .exit)) n ⌝ }
+{
+    at + put_field(&mut text[at..], x)
+}
+
+// The mode's digit in its place.
+fn mode_at(text: &mut [u8], at: usize, mode: u8) -> usize
+    requires { ⌜ at + 2 ≤ length (now text) ⌝ }
+    ensures { λ n. ⌜ WroteAt at (modeText mode) (now (text .entry)) (now (text .exit)) n ⌝ }
+{
+    at + put_mode(&mut text[at..], mode)
+}
+
+// The first blank's place in its place of the line.
+fn place_at(text: &mut [u8], at: usize, place: Place) -> usize
+    requires { ⌜ at + 4 ≤ length (now text) ⌝ }
+    ensures { λ n. ⌜ WroteAt at (placeText place) (now (text .entry)) (now (text .exit)) n ⌝ }
+{
+    at + put_place(&mut text[at..], place)
+}
+
+// The registers' fields, one after the other.
+fn put_registers(text: &mut [u8], regs: [u16; 8]) -> usize
+    requires { ⌜ 40 ≤ length (now text) ⌝ }
+    ensures { λ n. ⌜ Wrote (fields regs 8) (now (text .entry)) (now (text .exit)) n ⌝ }
+{
+    let mut i: usize = 0;
+    let mut at: usize = 0;
+    while i < 8 {
+        at = field_at(text, at, regs[i]);
+        i += 1;
+    }
+    at
+}
+
+// Writes bench's line: R0 to R5, SP and PC, PS with bits 15 and 14 clear, the mode's digit, the blanks, the first blank's
+// place. Answers its length, 56. A shorter buffer is left as it is, and the answer is 0.
+pub fn write_line(
+    text: &mut [u8],
+    regs: [u16; 8],
+    ps: u16,
+    mode: u8,
+    blanks: u16,
+    place: Place,
+) -> usize
+    ensures { λ r. ⌜ left r (now (text .exit)) ≡ written (lineText regs ps mode blanks place) (now (text .entry)) ⌝ }
+{
+    if text.len() < 56 {
+        return 0;
+    }
+    let registers = put_registers(text, regs);
+    let status = field_at(text, registers, ps % 0x4000);
+    let digit = mode_at(text, status, mode);
+    let count = field_at(text, digit, blanks);
+    place_at(text, count, place)
+}
+
+// REFUSED and a space.
+fn put_name(out: &mut [u8]) -> usize
+    requires { ⌜ 8 ≤ length (now out) ⌝ }
+    ensures { λ n. ⌜ Wrote name (now (out .entry)) (now (out .exit)) n ⌝ }
+{
+    out[0] = b'R';
+    out[1] = b'E';
+    out[2] = b'F';
+    out[3] = b'U';
+    out[4] = b'S';
+    out[5] = b'E';
+    out[6] = b'D';
+    out[7] = b' ';
+    8
+}
+
+// How many decimal digits a number has.
+fn digits_of(n: u8) -> usize
+    ensures { λ r. ⌜ r ≡ length (decimal n) ⌝ }
+{
+    if n < 10 {
+        return 1;
+    }
+    if n < 100 {
+        return 2;
+    }
+    3
+}
+
+// A number in decimal.
+fn put_decimal(out: &mut [u8], n: u8) -> usize
+    requires { ⌜ length (decimal n) ≤ length (now out) ⌝ }
+    ensures { λ r. ⌜ Wrote (decimal n) (now (out .entry)) (now (out .exit)) r ⌝ }
+{
+    if n < 10 {
+        out[0] = 48 + n;
+        return 1;
+    }
+    if n < 100 {
+        out[0] = 48 + n / 10;
+        out[1] = 48 + n % 10;
+        return 2;
+    }
+    out[0] = 48 + n / 100;
+    out[1] = 48 + n / 10 % 10;
+    out[2] = 48 + n % 10;
+    3
+}
+
+// A number in decimal in its place.
+fn decimal_at(text: &mut [u8], at: usize, n: u8) -> usize
+    requires { ⌜ at + length (decimal n) ≤ length (now text) ⌝ }
+    ensures { λ r. ⌜ WroteAt at (decimal n) (now (text .entry)) (now (text .exit)) r ⌝ }
+{
+    at + put_decimal(&mut text[at..], n)
+}
+
+// Writes a refusal's line: REFUSED, a space and the number in decimal. Answers its length. A buffer that is too short is left
+// as it is, and the answer is 0.
+pub fn write_refused(text: &mut [u8], number: u8) -> usize
+    ensures { λ r. ⌜ left r (now (text .exit)) ≡ written (refusedText number) (now (text .entry)) ⌝ }
+{
+    if text.len() < 8 + digits_of(number) {
+        return 0;
+    }
+    let name = put_name(text);
+    decimal_at(text, name, number)
+}

@@ -1,0 +1,3 @@
+pub mod Digit
+pub mod Turns
+pub mod Product

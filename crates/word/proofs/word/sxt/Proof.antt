@@ -1,0 +1,11 @@
+use borrow.Author.Needs.{needs}
+use native.Mathlib.Omega.{arith}
+use Rattle.word.proofs.Digit.{digit-le}
+use Rattle.word.proofs.word.sxt.Statement.{statement}
+use Rattle.word.proofs.word.sxt.Tie as tie
+
+mul-t3 : tie.Need-mul-t3
+mul-t3 c = omega (arith, digit-le (c .before .args .f .n))
+
+pub sxt-spec : {M : Type 1} → statement M
+sxt-spec = tie.close (tie.spec (λ c. search needs) mul-t3 (λ c. search needs))
