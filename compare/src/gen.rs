@@ -1,0 +1,393 @@
+//! Random boards, states, op codes, line words and jobs, the same from the same seed.
+//!
+//! Op codes are chosen by mnemonic, so that each comes up as often as any other;
+//! registers and pointers lie mostly in fitted pages, often at page borders, at both
+//! ends of memory and in the fixed locations.
+
+use crate::board::{IMAGE, PAGES};
+use crate::job::MOST_WORDS;
+use crate::machine::MOST_LINES;
+use crate::state::{Flags, Line, Mode, State, PC, SP};
+use crate::table::ROWS;
+
+/// A small generator of random numbers (xorshift64*).
+pub struct Random(u64);
+
+impl Random {
+    pub fn new(seed: u64) -> Random {
+        let mut random = Random(seed.wrapping_mul(0x9E37_79B9_7F4A_7C15) | 1);
+        random.number();
+        random
+    }
+
+    pub fn number(&mut self) -> u64 {
+        self.0 ^= self.0 >> 12;
+        self.0 ^= self.0 << 25;
+        self.0 ^= self.0 >> 27;
+        self.0.wrapping_mul(0x2545_F491_4F6C_DD1D)
+    }
+
+    pub fn word(&mut self) -> u16 {
+        (self.number() >> 48) as u16
+    }
+
+    /// A number below `limit`, which is not 0.
+    pub fn below(&mut self, limit: usize) -> usize {
+        ((self.number() >> 32) as usize) % limit
+    }
+
+    pub fn percent(&mut self, chance: usize) -> bool {
+        self.below(100) < chance
+    }
+
+    pub fn pick<T: Copy>(&mut self, items: &[T]) -> T {
+        items[self.below(items.len())]
+    }
+}
+
+// ---- boards ----
+
+/// An image and its map.
+pub struct RandomBoard {
+    pub image: Vec<u8>,
+    pub map: [u8; PAGES],
+}
+
+fn random_map(random: &mut Random) -> [u8; PAGES] {
+    let fitted = random.pick(&[100, 97, 90, 75, 50, 10]);
+    let mut map = [0; PAGES];
+    for page in &mut map {
+        *page = u8::from(random.percent(fitted));
+    }
+    map[0] = u8::from(random.percent(95));
+    map[PAGES - 1] = u8::from(random.percent(60));
+    map
+}
+
+/// An address anywhere, often one where something ends or begins.
+fn any_address(random: &mut Random) -> u16 {
+    match random.below(8) {
+        0 => random.pick(&[0x0000, 0x0001, 0x0002, 0xFFFC, 0xFFFD, 0xFFFE, 0xFFFF]),
+        1 => 0x0010 + random.below(0x30) as u16,
+        2..=4 => {
+            let border = (random.word() & 0xFF) << 8;
+            border
+                .wrapping_add(random.below(32) as u16)
+                .wrapping_sub(14)
+        }
+        _ => random.word(),
+    }
+}
+
+/// An address that is fitted most of the time, and even most of the time.
+pub fn address(random: &mut Random, map: &[u8; PAGES]) -> u16 {
+    let mut address = any_address(random);
+    for _ in 0..6 {
+        if map[usize::from(address >> 8)] == 1 || random.percent(10) {
+            break;
+        }
+        address = any_address(random);
+    }
+    if random.percent(80) {
+        address & 0xFFFE
+    } else {
+        address
+    }
+}
+
+/// A value of a register or a word of data.
+fn value(random: &mut Random, map: &[u8; PAGES]) -> u16 {
+    match random.below(10) {
+        0 => random.below(20) as u16,
+        1 => 0_u16.wrapping_sub(random.below(20) as u16),
+        2 => random.pick(&[0x7F, 0x80, 0xFF, 0x100, 0x7FFF, 0x8000, 0x8001, 0xFFFE]),
+        3 => random.word(),
+        _ => address(random, map),
+    }
+}
+
+/// An op code, reserved ones among them.
+pub fn op_code(random: &mut Random) -> u16 {
+    let choice = random.below(ROWS.len() + 2);
+    let word = random.word();
+    match ROWS.get(choice) {
+        Some(row) => row.base | word & row.operands.bits(),
+        None if choice == ROWS.len() => 0x0E00 | word & 0x01FF,
+        None => 0xF000 | word & 0x0FFF,
+    }
+}
+
+fn put(image: &mut [u8], at: u16, word: u16) {
+    let at = usize::from(at & 0xFFFE);
+    image[at..at + 2].copy_from_slice(&word.to_le_bytes());
+}
+
+/// The fixed locations, from 12 to 2E.
+fn vectors(random: &mut Random, map: &[u8; PAGES]) -> Vec<(u16, u16)> {
+    (0x12..0x30)
+        .step_by(2)
+        .map(|at| (at, address(random, map)))
+        .collect()
+}
+
+pub fn board(random: &mut Random) -> RandomBoard {
+    let map = random_map(random);
+    let mut image = vec![0; IMAGE];
+    for pair in image.chunks_exact_mut(2) {
+        let word = if random.percent(60) {
+            op_code(random)
+        } else {
+            value(random, &map)
+        };
+        pair.copy_from_slice(&word.to_le_bytes());
+    }
+    for (at, word) in vectors(random, &map) {
+        put(&mut image, at, word);
+    }
+    RandomBoard { image, map }
+}
+
+// ---- cases ----
+
+/// Words to put into the image, a state, and the line words to step over.
+pub struct Case {
+    pub words: Vec<(u16, u16)>,
+    pub state: State,
+    pub lines: Vec<u16>,
+}
+
+pub fn line(random: &mut Random) -> u16 {
+    let noise = random.word() & !Line::UNUSED;
+    match random.below(10) {
+        0..=4 => noise & 0x0F80 & random.word(),
+        5 => noise & 0x0F83,
+        6 => noise & 0x0F80 | 0x0001,
+        7 => noise & 0x0F80 | 0x0002,
+        8 => noise & 0x0F80 | 0x0008,
+        _ => noise,
+    }
+}
+
+pub fn state(random: &mut Random, map: &[u8; PAGES]) -> State {
+    let mut r = [0; 8];
+    for register in &mut r {
+        *register = value(random, map);
+    }
+    r[SP] = address(random, map);
+    r[PC] = address(random, map);
+    let mode = match random.below(100) {
+        0..=5 => Mode::Waiting,
+        6..=9 => Mode::HaltedPowerFail,
+        10..=13 => Mode::HaltedSwitch,
+        14 => Mode::Locked,
+        _ => Mode::Running,
+    };
+    State {
+        r,
+        flags: Flags::from_bits(random.word()),
+        i2: random.percent(50),
+        mode,
+    }
+}
+
+/// An op code with what may follow it.
+fn op_code_at(
+    words: &mut Vec<(u16, u16)>,
+    at: u16,
+    op: u16,
+    random: &mut Random,
+    map: &[u8; PAGES],
+) {
+    words.push((at, op));
+    for place in 1..3 {
+        words.push((at.wrapping_add(2 * place), value(random, map)));
+    }
+}
+
+pub fn case(random: &mut Random, map: &[u8; PAGES]) -> Case {
+    let state = state(random, map);
+    let mut words = Vec::new();
+    if random.percent(20) {
+        words = vectors(random, map);
+    }
+    let op = if random.percent(25) {
+        0x0005
+    } else {
+        op_code(random)
+    };
+    op_code_at(&mut words, state.r[PC], op, random, map);
+    if op == 0x0005 {
+        let traced = address(random, map);
+        let op = op_code(random);
+        words.push((state.r[SP], traced));
+        words.push((state.r[SP].wrapping_add(2), random.word()));
+        op_code_at(&mut words, traced, op, random, map);
+    }
+    let lines = (0..=random.below(4)).map(|_| line(random)).collect();
+    Case {
+        words,
+        state,
+        lines,
+    }
+}
+
+// ---- jobs ----
+
+/// The three sections of a job, to be damaged before they become bytes.
+struct Sections {
+    pages: Vec<u8>,
+    words: Vec<(u16, u16)>,
+    lines: Vec<u16>,
+}
+
+/// The bytes of a job whose counts may lie.
+fn bytes_of(sections: &Sections, counts: [usize; 3]) -> Vec<u8> {
+    let mut bytes = (counts[0] as u16).to_le_bytes().to_vec();
+    bytes.extend(&sections.pages);
+    bytes.extend((counts[1] as u16).to_le_bytes());
+    for (address, value) in &sections.words {
+        bytes.extend(address.to_le_bytes());
+        bytes.extend(value.to_le_bytes());
+    }
+    bytes.extend((counts[2] as u16).to_le_bytes());
+    for line in &sections.lines {
+        bytes.extend(line.to_le_bytes());
+    }
+    bytes
+}
+
+impl Sections {
+    fn counts(&self) -> [usize; 3] {
+        [self.pages.len(), self.words.len(), self.lines.len()]
+    }
+}
+
+/// Two pages and one unfitted page, two words and one line word at least.
+fn sections(random: &mut Random) -> Sections {
+    let mut map = random_map(random);
+    map[0] = 1;
+    map[1 + random.below(127)] = 1;
+    map[128 + random.below(127)] = 0;
+    let mut image = std::collections::BTreeMap::new();
+    let start = address(random, &map);
+    for (at, word) in vectors(random, &map) {
+        image.insert(at, word);
+    }
+    image.insert(0x16, start);
+    let most = random.pick(&[8, 60, 400]);
+    for place in 0..most {
+        let at = if place % 2 == 0 {
+            start.wrapping_add(place)
+        } else {
+            address(random, &map)
+        };
+        let word = if place % 3 < 2 {
+            op_code(random)
+        } else {
+            value(random, &map)
+        };
+        image.insert(at & 0xFFFE, word);
+    }
+    if random.percent(2) {
+        for at in (0..=0xFFFE).step_by(2) {
+            image.entry(at).or_insert_with(|| op_code(random));
+        }
+    }
+    let fitted = |at: u16| map[usize::from(at >> 8)] == 1;
+    let words = image.into_iter().filter(|&(at, _)| fitted(at));
+    let number = random.pick(&[1, 10, 100, MOST_LINES]);
+    Sections {
+        pages: (0..=255)
+            .filter(|&page| map[usize::from(page)] == 1)
+            .collect(),
+        words: words.take(MOST_WORDS).collect(),
+        lines: (0..number).map(|_| line(random)).collect(),
+    }
+}
+
+pub fn good_job(random: &mut Random) -> Vec<u8> {
+    if random.percent(2) {
+        return vec![0; 6];
+    }
+    let mut job = sections(random);
+    if random.percent(5) {
+        job.pages = (0..=255).collect();
+    }
+    if random.percent(5) {
+        job.lines.clear();
+    }
+    bytes_of(&job, job.counts())
+}
+
+/// A count that is too large.
+fn over(random: &mut Random, most: usize) -> usize {
+    match random.below(3) {
+        0 => most + 1,
+        1 => 0xFFFF,
+        _ => most + 1 + random.below(0xFFFF - most),
+    }
+}
+
+/// An address of an unfitted page, put where it is rising.
+fn add_unfitted(job: &mut Sections, random: &mut Random) {
+    let unfitted: Vec<u8> = (0..=255).filter(|page| !job.pages.contains(page)).collect();
+    let address = u16::from(random.pick(&unfitted)) << 8 | random.word() & 0xFE;
+    job.words.truncate(MOST_WORDS - 1);
+    job.words.push((address, random.word()));
+    job.words.sort();
+}
+
+/// A job that is refused with this number, from 11 to 20.
+pub fn damaged_job(random: &mut Random, number: u8) -> Vec<u8> {
+    let mut job = sections(random);
+    let mut counts = job.counts();
+    match number {
+        11 => {}
+        12 => counts[0] = over(random, PAGES),
+        13 => {
+            let at = 1 + random.below(job.pages.len() - 1);
+            job.pages[at] = job.pages[random.below(at)];
+        }
+        14 => counts[1] = over(random, MOST_WORDS),
+        15 => {
+            let at = random.below(job.words.len());
+            job.words[at].0 |= 1;
+        }
+        16 => {
+            let at = 1 + random.below(job.words.len() - 1);
+            job.words[at].0 = job.words[random.below(at)].0;
+        }
+        17 => {
+            add_unfitted(&mut job, random);
+            counts[1] = job.words.len();
+        }
+        18 => counts[2] = over(random, MOST_LINES),
+        19 => {
+            let at = random.below(job.lines.len());
+            job.lines[at] |= random.pick(&[4, 0x10, 0x20, 0x40, 0x1000, 0x2000, 0x4000, 0x8000]);
+        }
+        _ => {}
+    }
+    let mut bytes = bytes_of(&job, counts);
+    if number == 11 {
+        bytes.truncate(random.below(bytes.len()));
+    } else if number == 20 || random.percent(30) {
+        let more = 1 + random.below(3);
+        bytes.resize(bytes.len() + more, 0);
+    }
+    bytes
+}
+
+/// A good job with a few bytes changed, whatever that comes to.
+pub fn changed_job(random: &mut Random) -> Vec<u8> {
+    let mut bytes = good_job(random);
+    for _ in 0..=random.below(3) {
+        let at = if random.percent(50) {
+            random.below(bytes.len().min(300))
+        } else {
+            random.below(bytes.len())
+        };
+        bytes[at] = random.word() as u8;
+    }
+    bytes
+}

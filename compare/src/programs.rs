@@ -1,0 +1,52 @@
+//! The programs that the speed is measured with, read from `programs.txt`.
+
+use crate::board::{IMAGE, PAGES};
+
+/// The list as people read it.
+pub const LIST: &str = include_str!("../programs.txt");
+
+/// A program of the list.
+pub struct Program {
+    pub name: String,
+    pub map: [u8; PAGES],
+    pub image: Vec<u8>,
+    pub runs: usize,
+}
+
+fn hex(text: &str) -> usize {
+    usize::from_str_radix(text, 16).expect("a hex number")
+}
+
+fn named(name: &str) -> Program {
+    Program {
+        name: name.to_string(),
+        map: [0; PAGES],
+        image: vec![0; IMAGE],
+        runs: 0,
+    }
+}
+
+/// All programs of a list. A list that can't be read is an error of its writer.
+pub fn read_programs(list: &str) -> Vec<Program> {
+    let mut programs: Vec<Program> = Vec::new();
+    for line in list.lines() {
+        let said = line.split([';', '#']).next().unwrap_or("").trim();
+        let Some((first, rest)) = said.split_once([' ', '=']) else {
+            continue;
+        };
+        if first == "program" {
+            programs.push(named(rest));
+            continue;
+        }
+        let program = programs.last_mut().expect("a program's name first");
+        match first {
+            "pages" => rest.split(' ').for_each(|page| program.map[hex(page)] = 1),
+            "runs" => program.runs = rest.parse().expect("a number of runs"),
+            address => {
+                let (at, word) = (hex(address), hex(rest) as u16);
+                program.image[at..at + 2].copy_from_slice(&word.to_le_bytes());
+            }
+        }
+    }
+    programs
+}

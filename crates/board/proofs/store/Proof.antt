@@ -1,0 +1,21 @@
+use mathlib.Core.Path.{sym, _∙_}
+use mathlib.Core.Path.{refl}
+use Rattle.board.specs.Work.{word}
+use Rattle.board.specs.Laws.{got-written, got-lost, did, and-right, room-few}
+use borrow.Author.Needs.{needs}
+use Rattle.board.proofs.store.Statement.{statement}
+use Rattle.board.proofs.store.Tie as tie
+
+note-requires : tie.Need-note-requires
+note-requires c κs = (c .before .before .before .before .before .before .before .pre .lent .size, room-few (c .before .before .before .before .before .before .before .args .log .now) (and-right _ _ (sym (c .before .before .before .writable .ensures) ∙ c .before .before .if1 .taken)))
+
+returns : tie.Need-returns
+returns c = did refl (c .before .before .before .before .before .before .before .before .before .before .before .before .pre) (got-written word _ _ (sym (c .before .before .before .before .before .before .before .before .writable .ensures) ∙ c .before .before .before .before .before .before .before .if1 .taken) (rw (c .before .before .put-word .ensures, c .before .before .before .before .note .ensures)))
+
+returns-2 : tie.Need-returns-2
+returns-2 c = did refl (c .before .before .before .before .before .pre) (got-lost word _ (sym (c .before .writable .ensures) ∙ c .if1 .left))
+
+pub store-spec : {M : Type 1} → statement M
+store-spec =
+    tie.close
+    (tie.spec (λ c κs. search needs) note-requires (λ c κs. search needs) (λ c. search needs) returns returns-2)

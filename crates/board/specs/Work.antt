@@ -1,0 +1,80 @@
+-- What one step does to memory, as a tree of accesses, each of a word or of a byte; and what it comes to on a map and an image.
+use Prim.Native.Nat.{ℕ, zero, suc, _+_, _-_, _*_, _/_, _%_}
+use mathlib.Core.Bool.{Bool, true, false}
+use mathlib.Core.List.{List, [], _∷_}
+use mathlib.Core.Path.{_≡_}
+use lib.ListN.{getD, set}
+use lib.Dec.{eqb}
+
+-- an access is of a word or of a byte
+pub data Size : Type 0 where
+  word : Size
+  byte : Size
+
+-- A piece of a step's work that ends in an A.
+pub data Work (A : Type 0) : Type 0 where
+  give : A → Work A
+  readAt : Size → ℕ → (ℕ → Work A) → Work A
+  writeAt : Size → ℕ → ℕ → Work A → Work A
+
+-- What it comes to: an A with the image as it then is, or a blank with the address that was reached, before bit 0 is dropped.
+pub data Came (A : Type 0) : Type 0 where
+  value : A → List ℕ → Came A
+  blank : ℕ → Came A
+
+-- A read asks this: page a / 256 of the map says 1.
+unfoldable pub fitted : List ℕ → ℕ → Bool
+fitted map a = eqb (getD map (a / 256) 0) 1
+
+-- A write asks this: every fitted page can be written.
+abbrev pub writable : List ℕ → ℕ → Bool
+writable map a = fitted map a
+
+-- a word access drops bit 0 of its address
+unfoldable pub even : ℕ → ℕ
+even a = a / 2 * 2
+
+unfoldable pub wordAt : List ℕ → ℕ → ℕ
+unfolding even
+wordAt m a = getD m (even a) 0 + getD m (even a + 1) 0 * 256
+
+unfoldable pub withWord : List ℕ → ℕ → ℕ → List ℕ
+unfolding even
+withWord m a v = set (set m (even a) (v % 256)) (even a + 1) (v / 256 % 256)
+
+unfoldable pub withByte : List ℕ → ℕ → ℕ → List ℕ
+withByte m a v = set m a (v % 256)
+
+abbrev pub get : Size → List ℕ → ℕ → ℕ
+get word m a = wordAt m a
+get byte m a = getD m a 0
+
+abbrev pub put : Size → List ℕ → ℕ → ℕ → List ℕ
+put word m a v = withWord m a v
+put byte m a v = withByte m a v
+
+-- what follows an access that is answered, or a blank at its address
+abbrev pub found : {A : Type 0} → Bool → ℕ → Came A → Came A
+found true a x = x
+found false a x = blank a
+
+unfoldable pub run : {A : Type 0} → List ℕ → Work A → List ℕ → Came A
+run map (give x) m = value x m
+run map (readAt z a k) m = found (fitted map a) a (run map (k (get z m a)) m)
+run map (writeAt z a v w) m = found (writable map a) a (run map w (put z m a v))
+
+-- a word or a byte is read or written
+abbrev pub write : Size → ℕ → ℕ → Work (Unit {0})
+write z a v = writeAt z a v (give tt)
+
+abbrev pub load : ℕ → Work ℕ
+load a = readAt word a (λ v. give v)
+
+abbrev pub store : ℕ → ℕ → Work (Unit {0})
+store a v = writeAt word a v (give tt)
+
+abbrev pub loadByte : ℕ → Work ℕ
+loadByte a = readAt byte a (λ v. give v)
+
+abbrev pub storeByte : ℕ → ℕ → Work (Unit {0})
+storeByte a v = writeAt byte a v (give tt)

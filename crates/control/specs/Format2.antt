@@ -1,0 +1,52 @@
+-- Format 2, 0010 to 002F: a register k; and format 3, 0030 to 003F.
+use Prim.Native.Nat.{ℕ, _+_, _*_, _/_, _%_, _≤_}
+use mathlib.Core.List.{List, [], _∷_}
+use mathlib.Core.Path.{_≡_}
+use lib.ListN.{getD, List·getD-eq-default}
+use Rattle.word.specs.Status.{flagsOf}
+use Rattle.board.specs.Work.{Work, give, load}
+use Rattle.board.specs.Work as Work
+use Rattle.board.specs.Bind.{_>>=_, _>>_}
+use Rattle.state.specs.declared.State.{State}
+use Rattle.state.specs.declared.Outside.{Outside}
+use Rattle.state.specs.State.{reg, withReg, withSp, withPc, withFlags, plus, twice}
+use Rattle.state.specs.Stack.{popReg}
+
+-- the acknowledge code that IAK reads
+abbrev pub acknowledge : Outside → ℕ
+acknowledge out = twice (out .device)
+
+-- IAK: it is placed in REG
+abbrev pub iak : Outside → State → ℕ → State
+iak out s k = withReg s k (acknowledge out)
+
+-- RTN: PC ← REG; REG ← @SP, SP ↑
+unfoldable pub rtn : State → ℕ → Work State
+rtn s k = popReg (withPc s (reg s k)) k
+
+-- MSKO: (loc 2E) ← REG
+unfoldable pub msko : State → ℕ → Work State
+msko s k = do
+  Work.store 0x2e (reg s k)
+  give s
+
+-- PRTN: TMP ← @SP; SP ← SP + TMP * 2; RTN REG
+unfoldable pub prtn : State → ℕ → Work State
+prtn s k = do
+  tmp ← load (s .regs .sp)
+  rtn (withSp s (plus (s .regs .sp) (twice tmp))) k
+
+-- IAK, RTN, MSKO, PRTN, by bits 5 to 3, from 2
+abbrev codes2 : Outside → State → ℕ → List (Work State)
+codes2 out s k = give (iak out s k) ∷ rtn s k ∷ msko s k ∷ []
+
+unfoldable pub format2 : Outside → State → ℕ → Work State
+format2 out s op = getD (codes2 out s (op % 8)) ((op / 8 + 6) % 8) (prtn s (op % 8))
+
+pub format2-last : (out : Outside) (s : State) (op : ℕ) → 3 ≤ (op / 8 + 6) % 8 → format2 out s op ≡ prtn s (op % 8)
+unfolding format2
+format2-last out s op h = List·getD-eq-default (codes2 out s (op % 8)) (prtn s (op % 8)) h
+
+-- LCC: N Z V C from bits 3 to 0 of the op code
+abbrev pub lcc : State → ℕ → State
+lcc s op = withFlags s (flagsOf op)

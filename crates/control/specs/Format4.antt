@@ -1,0 +1,37 @@
+-- Format 4, 0040 to 00FF: supervisor calls with a number n of 6 bits. All keep I2.
+use Prim.Native.Nat.{ℕ, _+_, _*_, _/_, _%_}
+use mathlib.Core.Bool.{false}
+use lib.Dec.{eqb}
+use Rattle.board.specs.Work.{Work, give, load}
+use Rattle.board.specs.Bind.{_>>=_, _>>_}
+use Rattle.state.specs.declared.State.{State}
+use Rattle.state.specs.declared.Outside.{Outside}
+use Rattle.state.specs.State.{withReg, withPc, psOf, plus, twice, pick}
+use Rattle.state.specs.Stack.{push, fromLoc, pushBoth}
+use Rattle.control.specs.Format1.{save}
+
+-- PC ← at; PC ← PC + @PC
+unfoldable pub tabled : State → ℕ → Work State
+tabled s at = do
+  offset ← load at
+  give (withPc s (plus at offset))
+
+-- SVCA: ↓ PS, ↓ PC; PC ← (loc 22) + ARG * 2; PC ← PC + @PC
+unfoldable pub svca : Outside → State → ℕ → Work State
+svca out s n = do
+  s ← pushBoth s (psOf out false s)
+  table ← load 0x22
+  tabled s (plus table (twice n))
+
+-- SVCB, SVCC: TMPA ← SP; ↓ PS, ↓ PC; TMPB ← SP; ↓ TMPA; SAVE; R1 ← TMPB; R5 ← ARG * 2; PC ← (loc at)
+unfoldable pub svc : Outside → State → ℕ → ℕ → Work State
+svc out s n at = do
+  both ← pushBoth s (psOf out false s)
+  t ← push both (s .regs .sp)
+  t ← save t
+  fromLoc (withReg (withReg t 1 (both .regs .sp)) 5 (twice n)) at
+
+-- SVCA 0040, SVCB 0080, SVCC 00C0
+unfoldable pub format4 : Outside → State → ℕ → Work State
+format4 out s op =
+    pick (eqb (op / 64) 1) (svca out s (op % 64)) (pick (eqb (op / 64) 2) (svc out s (op % 64) 0x24) (svc out s (op % 64) 0x26))

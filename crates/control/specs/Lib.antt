@@ -1,0 +1,5 @@
+pub mod Format1
+pub mod Format2
+pub mod Format4
+pub mod Low
+pub mod Bounds

@@ -1,0 +1,84 @@
+// Formats 2 and 3, 0010 to 003F.
+use board::Kept;
+use board::Word;
+use state::Outside;
+use state::State;
+use state::Went;
+use state::plus;
+use state::unread;
+use state::unwritten;
+ghost use mathlib.Core.Path.{_≡_};
+ghost use Rattle.board.specs.Exec.{beside, Lent, Board, Saw};
+ghost use Rattle.state.specs.Answer.{Works, wentAs};
+ghost use Prim.Native.Nat.{_<_};
+ghost use Rattle.control.specs.Format2 as Spec;
+
+// Twice the device code, a number of 4 bits.
+fn acknowledge(out: Outside) -> u16
+    ensures { λ r. ⌜ r ≡ Spec.acknowledge out ⌝ }
+{
+    plus(out.device, out.device)
+}
+
+fn iak(s: State, out: Outside, k: u16) -> State
+    ensures { λ r. ⌜ r ≡ Spec.iak out s k ⌝ }
+{
+    s.with_reg(k, acknowledge(out))
+}
+
+fn rtn(s: State, image: &[u8], map: &[u8], k: u16) -> Went
+    requires { ⌜ Lent (now map) (now image) ⌝ }
+    ensures { λ r. ⌜ Saw (now (map .entry)) (Spec.rtn s k) (now (image .entry)) (wentAs r) ⌝ }
+{
+    s.with_pc(s.reg(k)).pop_reg(image, map, k)
+}
+
+fn msko(s: State, image: &mut [u8], map: &[u8], log: &mut [u16; 32], k: u16) -> Went
+    requires { ⌜ Board (now map) (beside (now image) (now log)) ⌝ }
+    ensures { λ r. ⌜ Works (now (map .entry)) (Spec.msko s k) (now (image .entry)) (now (log .entry)) r (now (image .exit)) (now (log .exit)) ⌝ }
+{
+    let kept = board::store(image, map, log, 0x2e, s.reg(k));
+    let Kept::Done = kept else {
+        return unwritten(kept);
+    };
+    Went::Done(s)
+}
+
+fn prtn(s: State, image: &[u8], map: &[u8], k: u16) -> Went
+    requires { ⌜ Lent (now map) (now image) ⌝ }
+    ensures { λ r. ⌜ Saw (now (map .entry)) (Spec.prtn s k) (now (image .entry)) (wentAs r) ⌝ }
+{
+    let sp = s.regs.sp;
+    let word = board::load(image, map, sp);
+    let Word::Value(tmp) = word else {
+        return unread(word);
+    };
+    rtn(s.with_sp(plus(sp, plus(tmp, tmp))), image, map, k)
+}
+
+pub fn format2(
+    s: State,
+    image: &mut [u8],
+    map: &[u8],
+    log: &mut [u16; 32],
+    out: Outside,
+    op: u16,
+) -> Went
+    requires { ⌜ Board (now map) (beside (now image) (now log)) ⌝ }
+    ensures { λ r. ⌜ Works (now (map .entry)) (Spec.format2 out s op) (now (image .entry)) (now (log .entry)) r (now (image .exit)) (now (log .exit)) ⌝ }
+{
+    let k = op % 8;
+    let which = (op / 8 + 6) % 8;
+    match which {
+        0 => Went::Done(iak(s, out, k)),
+        1 => rtn(s, image, map, k),
+        2 => msko(s, image, map, log, k),
+        _ => prtn(s, image, map, k),
+    }
+}
+
+pub fn lcc(s: State, op: u16) -> State
+    ensures { λ r. ⌜ r ≡ Spec.lcc s op ⌝ }
+{
+    s.with_flags(word::status::flags_of(op))
+}

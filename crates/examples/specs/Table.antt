@@ -1,0 +1,106 @@
+-- THE STARRED EXAMPLES OF THE PAGE, one table under one proved statement: what the definitions give, beside what the page says.
+use Prim.Native.Nat.{ℕ, _+_, _*_}
+use mathlib.Core.Bool.{Bool, true, false}
+use mathlib.Core.List.{List, [], _∷_, _++_, map}
+use mathlib.Core.Path.{_≡_, refl}
+use lib.ListN.{replicate, getD}
+use Rattle.word.specs.declared.Flags.{Flags}
+use Rattle.word.specs.Number.{digit}
+use Rattle.word.specs.Shift.{turns}
+use Rattle.word.specs.Status.{flagsOf}
+use Rattle.plate.specs.Plate.{formatOf}
+use Rattle.board.specs.Work.{run, fitted, even, wordAt, withWord, withByte}
+use Rattle.board.specs.Bind.{_>>=_}
+use Rattle.state.specs.declared.State.{State}
+use Rattle.state.specs.declared.Mode.the-variants.{Running}
+use Rattle.state.specs.State.{regOf, setReg, reg, withReg, withPc, withSp, withFlags, withI2, withMode, withStatus, cleared, heard, psOf}
+use Rattle.state.specs.Stack.{push, pushReg, pop, popReg, popStatus, fetch, fromLoc, pushBoth, trap}
+use Rattle.operand.specs.Operand.{incrementDeferred, decrementDeferred, indexed, indexedDeferred, locate, moved, decode, readOf, writeTo}
+use Rattle.operate.specs.Format5.{branch}
+use Rattle.operate.specs.Format6.{withDone, withPair, immediate, single, double, format6}
+use Rattle.operate.specs.Operands.{destination}
+use Rattle.operate.specs.Format7.{wordOf, byteOf, stored, modify, format7low, format7high, format7}
+use Rattle.operate.specs.Format9.{ash, sob, div, presetCode, format9}
+use Rattle.operate.specs.Format10.{settle, onWords, moveByte, settleByte, onBytes, format10}
+use Rattle.optext.specs.Digits.{letters, digits, hexOf, hex4, hex2}
+use Rattle.optext.specs.Rows.{theRow, rows}
+use Rattle.optext.specs.Line.{registers, regA, regB, regText, upText, literalText, downText, offsetText, plainText, modeText, modeTakes, addressed, rowOf, sepText, lineText, taken, textOf}
+use Rattle.step.specs.Execute.{further, byFormat}
+use Rattle.step.specs.Xct.{begun, traced, carry, opWork}
+use Rattle.step.specs.Step.{After, kindOf, workOf, busError, errorOf, stepOf}
+
+-- a row: what is got, and what the page says
+pub record Row : Type 0 where
+  pub got : List ℕ
+  pub says : List ℕ
+
+abbrev pub row : List ℕ → List ℕ → Row
+row g s = record { got = g; says = s }
+
+-- pages 0 to 3 are fitted
+abbrev board : List ℕ
+board = replicate 4 1 ++ replicate 252 0
+
+-- an op code at 0100, and a word at a place
+abbrev image : ℕ → ℕ → ℕ → List ℕ
+image op at v = withWord (withWord (replicate 65536 0) 0x100 op) at v
+
+-- R0, R1 and R2 at 0100, with SP 0200, indicators f and I2 i
+abbrev before : ℕ → ℕ → ℕ → ℕ → Bool → State
+before r0 r1 r2 f i = withI2 (withFlags (withSp (withPc (withReg (withReg (withReg cleared 0 r0) 1 r1) 2 r2) 0x100) 0x200) (flagsOf f)) i
+
+-- a step with quiet lines
+abbrev stepped : ℕ → State → ℕ → ℕ → After
+stepped op s at v = stepOf board (heard 0) s (image op at v)
+
+-- N 8, Z 4, V 2, C 1
+abbrev nzvc : State → ℕ
+nzvc s = digit (s .flags .n) * 8 + digit (s .flags .z) * 4 + digit (s .flags .v) * 2 + digit (s .flags .c)
+
+-- R0 and the indicators; R0 and R1 too
+abbrev r0 : After → List ℕ
+r0 a = a .state .regs .r0 ∷ nzvc (a .state) ∷ []
+
+abbrev pair : After → List ℕ
+pair a = a .state .regs .r0 ∷ a .state .regs .r1 ∷ nzvc (a .state) ∷ []
+
+-- R1 and PC
+abbrev r1pc : After → List ℕ
+r1pc a = a .state .regs .r1 ∷ a .state .regs .pc ∷ []
+
+unfoldable pub table : List Row
+table =
+    -- 0800, R0 7FFF: 8000, N1 Z0 V1 C0. 0810, R0 0: FFFF, N1 Z0 V0 C1
+    row (r0 (stepped 0x0800 (before 0x7fff 0 0 0 false) 0x300 0)) (0x8000 ∷ 0b1010 ∷ [])
+    ∷ row (r0 (stepped 0x0810 (before 0 0 0 0 false) 0x300 0)) (0xffff ∷ 0b1001 ∷ [])
+    -- 8820, R0 0101: 0080, C1 N1 V0. 7402 with R2 00FF, same R0: 0080, C1 N0 V1
+    ∷ row (r0 (stepped 0x8820 (before 0x0101 0 0 0 false) 0x300 0)) (0x0080 ∷ 0b1001 ∷ [])
+    ∷ row (r0 (stepped 0x7402 (before 0x0101 0 0x00ff 0 false) 0x300 0)) (0x0080 ∷ 0b0011 ∷ [])
+    -- D080, R2 12FF: R0 FFFF. E080, R2 1280, R0 3401: 3481
+    ∷ row (r0 (stepped 0xd080 (before 0 0 0x12ff 0 false) 0x300 0)) (0xffff ∷ 0b1000 ∷ [])
+    ∷ row (r0 (stepped 0xe080 (before 0x3401 0 0x1280 0 false) 0x300 0)) (0x3481 ∷ 0b1000 ∷ [])
+    -- 0B40 keeps C; 0B48 resets it
+    ∷ row (r0 (stepped 0x0b40 (before 0x0300 0 0 0b0001 false) 0x300 0)) (0 ∷ 0b0101 ∷ [])
+    ∷ row (r0 (stepped 0x0b48 (before 0x0300 0 0 0b0001 false) 0x300 0)) (0x0300 ∷ 0b0100 ∷ [])
+    -- 7E02, R1 2, R0 5, R2 3: R0 AAAC, R1 1. R1 3: V1 C0, no divide. R2 0: V1 C1
+    ∷ row (pair (stepped 0x7e02 (before 5 2 3 0 false) 0x300 0)) (0xaaac ∷ 1 ∷ 0b1001 ∷ [])
+    ∷ row (pair (stepped 0x7e02 (before 5 3 3 0 false) 0x300 0)) (5 ∷ 3 ∷ 0b0010 ∷ [])
+    ∷ row (pair (stepped 0x7e02 (before 5 3 0 0 false) 0x300 0)) (5 ∷ 3 ∷ 0b0011 ∷ [])
+    -- 7643 at 0100: R1 2 to 00FC, R1 1 to 0102, R1 0 to 00FC with FFFF
+    ∷ row (r1pc (stepped 0x7643 (before 0 2 0 0 false) 0x300 0)) (1 ∷ 0x00fc ∷ [])
+    ∷ row (r1pc (stepped 0x7643 (before 0 1 0 0 false) 0x300 0)) (0 ∷ 0x0102 ∷ [])
+    ∷ row (r1pc (stepped 0x7643 (before 0 0 0 0 false) 0x300 0)) (0xffff ∷ 0x00fc ∷ [])
+    -- B240 at 0100, R1 8000 unfitted, SP 0200, I2 set, indicators clear, 0300 at 12: R0 kept, 5F00 at 01FE, 0102 at 01FC, PC 0300
+    ∷ (let a = stepped 0xb240 (before 0x1234 0x8000 0 0 true) 0x12 0x300 in
+    row (a .state .regs .r0 ∷ wordAt (a .image) 0x1fe ∷ wordAt (a .image) 0x1fc ∷ a .state .regs .pc ∷ []) (0x1234 ∷ 0x5f00 ∷ 0x0102 ∷ 0x0300 ∷ []))
+    -- B44A with R2 unfitted: R1 is not incremented
+    ∷ row (r1pc (stepped 0xb44a (before 0 0x0300 0x8000 0 false) 0x12 0x300)) (0x0300 ∷ 0x0300 ∷ [])
+    -- 15C0 0005 is ADD #0005,R0. B7E6 1234 is MOV @#1234,-(SP)
+    ∷ row (textOf (0x15c0 ∷ 0x0005 ∷ [])) (letters "ADD #0005,R0")
+    ∷ row (textOf (0xb7e6 ∷ 0x1234 ∷ [])) (letters "MOV @#1234,-(SP)")
+    ∷ []
+
+-- EVERY ROW HOLDS
+pub starred : map (λ (r : Row). r .got) table ≡ map (λ (r : Row). r .says) table
+unfolding table stepOf errorOf kindOf workOf busError opWork begun carry traced byFormat further formatOf run fitted even wordAt withWord withByte _>>=_ regOf setReg reg withReg withFlags withI2 withMode withStatus cleared psOf push pushReg pop popReg popStatus fetch fromLoc pushBoth trap incrementDeferred decrementDeferred indexed indexedDeferred locate moved decode readOf writeTo branch withDone withPair immediate single double format6 destination wordOf byteOf stored modify format7low format7high format7 ash sob div presetCode format9 settle onWords moveByte settleByte onBytes format10 turns taken textOf lineText rowOf theRow rows sepText modeText modeTakes plainText regText literalText upText downText offsetText regA regB registers hex4 hex2 hexOf digits addressed
+starred = refl

@@ -1,0 +1,69 @@
+use Prim.Native.Nat.{_≤_, _-_}
+use native.Mathlib.Omega.{arith}
+use mathlib.Core.Path.{_≡_, refl, sym, _∙_}
+use lib.ListN.{length, drop}
+use borrow.Author.Needs.{needs}
+use Rattle.board.specs.Exec.{beside, Board}
+use Rattle.machine.specs.Run.{rest, runOf, rest-more, rest-none}
+use Rattle.machine.proofs.runs.run_on.Statement.{statement}
+use Rattle.machine.proofs.runs.run_on.Tie as tie
+
+abbrev Inv-loop : tie.InvT-loop
+Inv-loop image₀ map lines log₀ state₀ tally₀ i₀ image log state tally i =
+    (i ≤ length lines) × (tally .blanks ≤ i) × (rest map i (drop i lines) state image tally ≡ runOf map lines state₀ image₀) × Board map (beside image log)
+
+abbrev μ-loop : tie.MeasureT-loop
+μ-loop image₀ map lines log₀ state₀ tally₀ i₀ image log state tally i = length lines - i
+
+loop-holds : tie.Need-loop-holds Inv-loop μ-loop
+loop-holds c = (omega arith, omega arith, refl, record { lent = c .before .before .before .pre .0; whole = refl; few = omega arith })
+
+mul-hear : tie.Need-mul-hear Inv-loop μ-loop
+mul-hear c = omega arith
+
+shared-slice-read-hear : tie.Need-shared-slice-read-hear Inv-loop μ-loop
+shared-slice-read-hear c = omega arith
+
+step-on-requires : tie.Need-step-on-requires Inv-loop μ-loop
+step-on-requires c κs = c .before .before .before .before .before .loop .inv .3
+
+cast-noted : tie.Need-cast-noted Inv-loop μ-loop
+cast-noted c = omega arith
+
+noted-requires : tie.Need-noted-requires Inv-loop μ-loop
+noted-requires c κs = omega arith
+
+add-i : tie.Need-add-i Inv-loop μ-loop
+add-i c = omega arith
+
+loop-less : tie.Need-loop-less Inv-loop μ-loop
+loop-less c = omega arith
+
+loop-again : tie.Need-loop-again Inv-loop μ-loop
+loop-again c =
+    (omega arith, omega arith, rest-more _ _ _ _ _ _ _ _ (c .before .before .before .before .before .before .before .before .before .loop-test .taken) (rw (c .before .before .before .before .before .hear .ensures) at (c .before .before .before .before .step-on .ensures .turn)) (c .noted .ensures .0) ∙ c .before .before .before .before .before .before .before .before .before .before .loop .inv .2, c .before .before .before .before .step-on .ensures .board)
+
+same-length : tie.Need-same-length Inv-loop μ-loop
+same-length c = c .before .loop .inv .3 .lent .size ∙ sym (c .before .before .before .before .before .pre .0 .size)
+
+returns : tie.Need-returns Inv-loop μ-loop
+returns c = record { same = sym (rest-none _ _ _ _ _ _ (omega arith)) ∙ c .before .loop .inv .2; lent = c .before .loop .inv .3 .lent }
+
+pub run-on-spec : {M : Type 1} → statement M
+run-on-spec =
+    tie.close
+    (tie.spec
+    Inv-loop
+    μ-loop
+    loop-holds
+    mul-hear
+    shared-slice-read-hear
+    (λ c κs. search needs)
+    step-on-requires
+    cast-noted
+    noted-requires
+    add-i
+    loop-less
+    loop-again
+    same-length
+    returns)

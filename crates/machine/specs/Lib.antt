@@ -1,0 +1,4 @@
+pub mod Run
+pub mod Entry
+pub mod Alike
+pub mod Blind

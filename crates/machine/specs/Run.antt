@@ -1,0 +1,65 @@
+-- A run: one step for each line word.
+use Prim.Native.Nat.{ℕ, zero, suc, _+_, _<_}
+use mathlib.Core.List.{List, [], _∷_}
+use mathlib.Core.Path.{_≡_, refl}
+use native.Mathlib.Numerals.{add-one}
+use lib.ListN.{length, drop, getD}
+use lib.Seq.{drop-cons, drop-length}
+use Rattle.board.specs.Exec.{Lent}
+use Rattle.state.specs.declared.State.{State}
+use Rattle.state.specs.State.{heard, pick}
+use Rattle.machine.specs.declared.Ran.{Ran}
+use Rattle.machine.specs.declared.Tally.{Tally}
+use Rattle.machine.specs.declared.First.{First}
+use Rattle.machine.specs.declared.First.the-variants.{At, Never}
+use Rattle.step.specs.Step.{stepOf, After, isBlank}
+
+-- the place of the first blank: the earlier one stays
+abbrev pub firstOf : First → ℕ → First
+firstOf (At p) place = At p
+firstOf Never place = At place
+
+-- the blanks counted, and the first place, after the step at this place
+unfoldable pub noted : Tally → ℕ → ℕ → Tally
+noted t place cause = pick (isBlank cause) (record { blanks = t .blanks + 1; first = firstOf (t .first) place }) t
+
+abbrev pub noBlanks : Tally
+noBlanks = record { blanks = 0; first = Never }
+
+-- the state, the image and the tally at the end
+pub data End : Type 0 where
+  end : State → List ℕ → Tally → End
+
+-- the rest of a run: from a place, over the line words that are left, with the tally so far
+unfoldable pub rest : List ℕ → ℕ → List ℕ → State → List ℕ → Tally → End
+rest map place [] s m t = end s m t
+rest map place (line ∷ lines) s m t =
+    let a = stepOf map (heard line) s m in
+    rest map (place + 1) lines (a .state) (a .image) (noted t place (a .cause))
+
+abbrev pub runOf : List ℕ → List ℕ → State → List ℕ → End
+runOf map lines s m = rest map 0 lines s m noBlanks
+
+abbrev pub ranOf : Ran → List ℕ → End
+ranOf r m = end (r .state) m (r .tally)
+
+rest-cons : (map : List ℕ) (i x : ℕ) (xs : List ℕ) (s : State) (m : List ℕ) (t : Tally)
+    → rest map (i + 1) xs (stepOf map (heard x) s m .state) (stepOf map (heard x) s m .image) (noted t i (stepOf map (heard x) s m .cause)) ≡ rest map i (x ∷ xs) s m t
+unfolding rest
+rest-cons map i x xs s m t = refl
+
+-- one step more
+pub rest-more : (map lines : List ℕ) (i : ℕ) (s : State) (m : List ℕ) (t t′ : Tally) (a : After)
+    → i < length lines → a ≡ stepOf map (heard (getD lines i 0)) s m → t′ ≡ noted t i (a .cause)
+    → rest map (i + 1) (drop (i + 1) lines) (a .state) (a .image) t′ ≡ rest map i (drop i lines) s m t
+rest-more map lines i s m t t′ a l e d = rw (drop-cons lines i 0 l, ← add-one i, d, e) (rest-cons map i (getD lines i 0) (drop (i + 1) lines) s m t)
+
+-- no step left
+pub rest-none : (map lines : List ℕ) (i : ℕ) (s : State) (m : List ℕ) (t : Tally) → i ≡ length lines → rest map i (drop i lines) s m t ≡ end s m t
+unfolding rest
+rest-none map lines i s m t e = rw (e, drop-length lines)
+
+-- what a run on a board promises
+pub record Ended (map : List ℕ) (want got : End) (m : List ℕ) : Type 0 where
+  pub same : got ≡ want
+  pub lent : Lent map m

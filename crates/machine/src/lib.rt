@@ -1,0 +1,76 @@
+// The processor: power-up, one step, and a run over a list of line words.
+use state::State;
+use step::Turn;
+ghost use mathlib.Core.Path.{_≡_};
+ghost use Prim.Native.Nat.{_≤_};
+ghost use lib.ListN.{length};
+ghost use Rattle.machine.specs.Entry as Spec;
+
+mod refusals;
+mod runs;
+
+// The place of the first blank step of a run.
+pub enum First {
+    At(u16),
+    Never,
+}
+
+// The blank steps of a run: how many, and the first.
+pub struct Tally {
+    pub blanks: u16,
+    pub first: First,
+}
+
+// The state after a run, and its blank steps.
+pub struct Ran {
+    pub state: State,
+    pub tally: Tally,
+}
+
+pub enum Powered {
+    Up(State),
+    Refused(u8),
+}
+
+pub enum Stepped {
+    Done(Turn),
+    Refused(u8),
+}
+
+pub enum Finished {
+    Done(Ran),
+    Refused(u8),
+}
+
+// The state after power-up; or 1, 2 or 3.
+pub fn power_up(image: &[u8], map: &[u8]) -> Powered
+    ensures { λ r. ⌜ Spec.poweredPage r ≡ Spec.powerUpPage (now (image .entry)) (now (map .entry)) ⌝ }
+{
+    let why = refusals::board_refusal(image.len(), map);
+    if why != 0 {
+        return Powered::Refused(why);
+    }
+    Powered::Up(step::power(image, map))
+}
+
+// One step over a line word: the state and the cause after it; or 1, 2, 3 or 5 and the image as lent.
+pub fn step(s: State, image: &mut [u8], map: &[u8], line: u16) -> Stepped
+    ensures { λ r. ⌜ Spec.steppedPage r (now (image .exit)) ≡ Spec.stepPage (now (image .entry)) (now (map .entry)) line s ⌝ }
+{
+    let why = refusals::step_refusal(image.len(), map, line);
+    if why != 0 {
+        return Stepped::Refused(why);
+    }
+    Stepped::Done(step::step_once(s, image, map, line))
+}
+
+// A run over line words: the state, the blanks and the first place after it; or 1 to 5 and the image as lent.
+pub fn run(s: State, image: &mut [u8], map: &[u8], lines: &[u16]) -> Finished
+    ensures { λ r. ⌜ Spec.finishedPage r (now (image .exit)) ≡ Spec.runPage (now (image .entry)) (now (map .entry)) (now (lines .entry)) s ⌝ }
+{
+    let why = refusals::run_refusal(image.len(), map, lines);
+    if why != 0 {
+        return Finished::Refused(why);
+    }
+    Finished::Done(runs::run_on(s, image, map, lines))
+}

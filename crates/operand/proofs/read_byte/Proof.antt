@@ -1,0 +1,25 @@
+use Rattle.board.specs.Laws.{got-give}
+use Rattle.operand.specs.Operand.{readOf}
+use borrow.Author.Needs.{needs}
+use Rattle.operand.proofs.read_byte.Statement.{statement}
+use Rattle.operand.proofs.read_byte.Tie as tie
+
+load-byte-requires : tie.Need-load-byte-requires
+load-byte-requires c κs = c .before .before .before .before .before .pre
+
+returns : tie.Need-returns
+unfolding readOf
+returns c =
+    rw (c .before .enum-told .given .1)
+    (record { got = got-give (rw (c .low .ensures)) })
+
+returns-2 : tie.Need-returns-2
+unfolding readOf
+returns-2 c =
+    rw (c .before .before .place .given .1)
+    (record { got = c .load-byte .ensures .got })
+
+pub read-byte-spec : {M : Type 1} → statement M
+read-byte-spec =
+    tie.close
+    (tie.spec (λ c. search needs) (λ c κs. search needs) (λ c. search needs) load-byte-requires returns returns-2)

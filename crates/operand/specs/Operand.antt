@@ -1,0 +1,174 @@
+-- Operands: the eight addressing modes of the manual's chapter 2, and what is read from and written to a place.
+use Prim.Native.Nat.{ℕ, _+_, _*_, _/_, _%_, _≤_}
+use mathlib.Core.Bool.{Bool, true, false}
+use mathlib.Core.List.{List, [], _∷_}
+use mathlib.Core.Path.{_≡_, refl, ap, _∙_}
+use lib.Dec.{eqb, ltb}
+use lib.ListN.{getD, List·getD-eq-default}
+use Rattle.word.specs.Ops.{withLow}
+use Rattle.board.specs.Work.{Work, give, readAt, load, Size, word, byte}
+use Rattle.board.specs.Work as Work
+use Rattle.board.specs.Bind.{_>>=_, _>>_}
+use Rattle.board.specs.Exec.{Store, Now, good, gone, Got}
+use Rattle.board.specs.Laws.{got-then, got-gone, got-give}
+use Rattle.board.specs.declared.Word.{Word}
+use Rattle.board.specs.declared.Word.the-variants as Word
+use Rattle.state.specs.declared.State.{State}
+use Rattle.state.specs.declared.Went.{Went}
+use Rattle.state.specs.declared.Went.the-variants as Went
+use Rattle.state.specs.State.{reg, withReg, plus, minus, pick}
+use Rattle.state.specs.Answer.{wentAs, went-none}
+use Rattle.operand.specs.declared.Place.{Place}
+use Rattle.operand.specs.declared.Place.the-variants.{Reg, Mem}
+use Rattle.operand.specs.declared.Found.{Found}
+use Rattle.operand.specs.declared.Found.the-variants as Found
+
+-- An increment or decrement is 2, but 1 for a byte unless the register is SP or PC.
+abbrev pub stepOf : Size → ℕ → ℕ
+stepOf word k = 2
+stepOf byte k = pick (ltb k 6) 1 2
+
+-- With PC, modes 6 and 7 add the PC that stands after their offset.
+abbrev pub baseOf : ℕ → ℕ → ℕ → ℕ
+baseOf k r pc = pick (eqb k 7) (plus pc 2) r
+
+-- Where the operand of a mode and a register k stands: in the register, or `Mem a which v`, at the address a, with the register `which` moved to v.
+-- r is what the register holds, pc the PC.
+module _ (step k r pc : ℕ) where
+  -- REG: the register is the operand
+  abbrev direct : Work Place
+  direct = give Reg
+
+  -- @REG: the register contains the address
+  abbrev indirect : Work Place
+  indirect = give (Mem r k r)
+
+  -- (REG)+: and is post-incremented
+  abbrev increment : Work Place
+  increment = give (Mem r k (plus r step))
+
+  -- @(REG)+: the register contains the address of the address, and is post-incremented by 2
+  unfoldable pub incrementDeferred : Work Place
+  incrementDeferred = do
+    a ← load r
+    give (Mem a k (plus r 2))
+
+  -- -(REG): the register is predecremented and then contains the address
+  abbrev decrement : Work Place
+  decrement = give (Mem (minus r step) k (minus r step))
+
+  -- @-(REG): predecremented by 2, it contains the address of the address
+  unfoldable pub decrementDeferred : Work Place
+  decrementDeferred = do
+    a ← load (minus r 2)
+    give (Mem a k (minus r 2))
+
+  -- X(REG): the register plus the next word is the address
+  unfoldable pub indexed : Work Place
+  indexed = do
+    x ← load pc
+    give (Mem (plus (baseOf k r pc) x) 7 (plus pc 2))
+
+  -- @X(REG): the register plus the next word is the address of the address
+  unfoldable pub indexedDeferred : Work Place
+  indexedDeferred = do
+    x ← load pc
+    a ← load (plus (baseOf k r pc) x)
+    give (Mem a 7 (plus pc 2))
+
+  -- modes 0 to 7
+  unfoldable pub locate : ℕ → Work Place
+  locate mode =
+      getD (direct ∷ indirect ∷ increment ∷ incrementDeferred ∷ decrement ∷ decrementDeferred ∷ indexed ∷ []) mode indexedDeferred
+
+-- a mode that is none of 0 to 6
+pub locate-last : (step k r pc mode : ℕ) → 7 ≤ mode → locate step k r pc mode ≡ indexedDeferred step k r pc
+unfolding locate
+locate-last step k r pc mode h =
+    List·getD-eq-default
+    (direct step k r pc ∷ indirect step k r pc ∷ increment step k r pc ∷ incrementDeferred step k r pc ∷ decrement step k r pc ∷ decrementDeferred step k r pc ∷ indexed step k r pc ∷ [])
+    (indexedDeferred step k r pc)
+    h
+
+-- the state with the register moved
+unfoldable pub moved : State → Place → State
+moved s Reg = s
+moved s (Mem a which v) = withReg s which v
+
+-- a decoded operand: the state after decoding, its register, its place
+pub record Seen : Type 0 where
+  pub state : State
+  pub register : ℕ
+  pub place : Place
+
+abbrev pub seen : State → ℕ → Place → Seen
+seen s k p = record { state = s; register = k; place = p }
+
+unfoldable pub decode : Size → State → ℕ → ℕ → Work Seen
+decode z s mode k = do
+  p ← locate (stepOf z k) k (reg s k) (s .regs .pc) mode
+  give (seen (moved s p) k p)
+
+-- what of a register is the operand: all of it, or its lower byte
+abbrev pub partOf : Size → ℕ → ℕ
+partOf word r = r
+partOf byte r = r % 256
+
+unfoldable pub readOf : Size → ℕ → Place → Work ℕ
+readOf z r Reg = give (partOf z r)
+readOf z r (Mem a which v) = readAt z a (λ v. give v)
+
+-- the operand read; the register is the one after decoding
+abbrev pub value : Size → Seen → Work ℕ
+value z o = readOf z (reg (o .state) (o .register)) (o .place)
+
+-- the register k with an operand in it
+abbrev pub withPart : Size → State → ℕ → ℕ → State
+withPart word s k v = withReg s k v
+withPart byte s k v = withReg s k (withLow (reg s k) (v % 256))
+
+-- v written to the place; a byte in a register leaves the upper byte
+unfoldable pub writeTo : Size → State → ℕ → Place → ℕ → Work State
+writeTo z s k Reg v = give (withPart z s k v)
+writeTo z s k (Mem a which w) v = do
+  Work.write z a v
+  give s
+
+-- ---- what the answers say
+
+abbrev pub foundAs : Found → Store → Now Place
+foundAs (Found.At p) st = good p st
+foundAs (Found.Blank a) st = gone a st
+
+abbrev pub unplaced : Word → Found
+unplaced (Word.Value v) = Found.Blank 0
+unplaced (Word.Blank a) = Found.Blank a
+
+abbrev pub unfound : Found → Went
+unfound (Found.At p) = Went.Blank 0
+unfound (Found.Blank a) = Went.Blank a
+
+pub found-is : {r : Found} {p : Place} {st : Store} → r ≡ Found.At p → foundAs r st ≡ good p st
+found-is {st = st} e = ap (λ z. foundAs z st) e
+
+pub found-none : {r : Found} {a : ℕ} {st : Store} → r ≡ Found.Blank a → foundAs r st ≡ gone a st
+found-none {st = st} e = ap (λ z. foundAs z st) e
+
+pub found-lost : {r : Went} {f : Found} {a : ℕ} {st : Store} → r ≡ unfound f → f ≡ Found.Blank a → wentAs r st ≡ gone a st
+found-lost e h = went-none (e ∙ ap unfound h)
+
+pub word-unplaced : {f : Found} {w : Word} {a : ℕ} {st : Store} → f ≡ unplaced w → w ≡ Word.Blank a → foundAs f st ≡ gone a st
+word-unplaced e h = found-none (e ∙ ap unplaced h)
+
+-- a place that was found decodes the operand
+pub decoded : {map : List ℕ} (z : Size) (s : State) (mode k : ℕ) {st : Store} {t : State} {r : Found} {p : Place}
+    → Got map (locate (stepOf z k) k (reg s k) (s .regs .pc) mode) st (foundAs r st) → r ≡ Found.At p → t ≡ moved s p
+    → Got map (decode z s mode k) st (good (seen t k p) st)
+unfolding decode
+decoded z s mode k g e h = got-then _ g (found-is e) (got-give (rw h))
+
+pub undecoded : {map : List ℕ} (z : Size) (s : State) (mode k : ℕ) {st : Store} {r : Found} {a : ℕ}
+    → Got map (locate (stepOf z k) k (reg s k) (s .regs .pc) mode) st (foundAs r st) → r ≡ Found.Blank a
+    → Got map (decode z s mode k) st (gone a st)
+unfolding decode
+undecoded z s mode k g e = got-gone _ g (found-none e) refl

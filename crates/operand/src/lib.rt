@@ -1,0 +1,223 @@
+// Operands: the eight addressing modes, and reading and writing what they point to.
+use board::Byte;
+use board::Kept;
+use board::Word;
+use state::State;
+use state::Went;
+use state::minus;
+use state::plus;
+use state::unwritten;
+ghost use mathlib.Core.Path.{_≡_};
+ghost use Prim.Native.Nat.{_%_, _<_};
+ghost use Rattle.board.specs.Work.{word, byte};
+ghost use Rattle.board.specs.Exec.{beside, Lent, Board, Saw, wordAs, byteAs};
+ghost use Rattle.state.specs.Answer.{Works};
+ghost use Rattle.operand.specs.Operand as Spec;
+ghost use Rattle.operand.specs.Operand.{foundAs};
+
+// Where an operand stands: in its register; or in memory, at an address, with a register moved to a value.
+pub enum Place {
+    Reg,
+    Mem(u16, u16, u16),
+}
+
+pub enum Found {
+    At(Place),
+    Blank(u16),
+}
+
+// Decoding that reached an unfitted address ends the work there.
+pub fn unfound(found: Found) -> Went
+    ensures { λ r. ⌜ r ≡ Spec.unfound found ⌝ }
+{
+    match found {
+        Found::At(_) => Went::Blank(0),
+        Found::Blank(a) => Went::Blank(a),
+    }
+}
+
+// The increment or decrement of a byte op code: 1, but 2 for SP and PC.
+pub fn byte_step(k: u16) -> u16
+    ensures { λ r. ⌜ r ≡ Spec.stepOf byte k ⌝ }
+{
+    if k < 6 { 1 } else { 2 }
+}
+
+fn base(k: u16, r: u16, pc: u16) -> u16
+    ensures { λ b. ⌜ b ≡ Spec.baseOf k r pc ⌝ }
+{
+    if k == 7 { plus(pc, 2) } else { r }
+}
+
+// @(REG)+
+fn increment_deferred(image: &[u8], map: &[u8], step: u16, k: u16, r: u16, pc: u16) -> Found
+    requires { ⌜ Lent (now map) (now image) ⌝ }
+    ensures { λ f. ⌜ Saw (now (map .entry)) (Spec.incrementDeferred step k r pc) (now (image .entry)) (foundAs f) ⌝ }
+{
+    match board::load(image, map, r) {
+        Word::Value(a) => Found::At(Place::Mem(a, k, plus(r, 2))),
+        Word::Blank(a) => Found::Blank(a),
+    }
+}
+
+// @-(REG)
+fn decrement_deferred(image: &[u8], map: &[u8], step: u16, k: u16, r: u16, pc: u16) -> Found
+    requires { ⌜ Lent (now map) (now image) ⌝ }
+    ensures { λ f. ⌜ Saw (now (map .entry)) (Spec.decrementDeferred step k r pc) (now (image .entry)) (foundAs f) ⌝ }
+{
+    let at = minus(r, 2);
+    match board::load(image, map, at) {
+        Word::Value(a) => Found::At(Place::Mem(a, k, at)),
+        Word::Blank(a) => Found::Blank(a),
+    }
+}
+
+// X(REG)
+fn indexed(image: &[u8], map: &[u8], step: u16, k: u16, r: u16, pc: u16) -> Found
+    requires { ⌜ Lent (now map) (now image) ⌝ }
+    ensures { λ f. ⌜ Saw (now (map .entry)) (Spec.indexed step k r pc) (now (image .entry)) (foundAs f) ⌝ }
+{
+    match board::load(image, map, pc) {
+        Word::Value(x) => Found::At(Place::Mem(plus(base(k, r, pc), x), 7, plus(pc, 2))),
+        Word::Blank(a) => Found::Blank(a),
+    }
+}
+
+// @X(REG)
+fn indexed_deferred(image: &[u8], map: &[u8], step: u16, k: u16, r: u16, pc: u16) -> Found
+    requires { ⌜ Lent (now map) (now image) ⌝ }
+    ensures { λ f. ⌜ Saw (now (map .entry)) (Spec.indexedDeferred step k r pc) (now (image .entry)) (foundAs f) ⌝ }
+{
+    let offset = board::load(image, map, pc);
+    let Word::Value(x) = offset else {
+        return unplaced(offset);
+    };
+    match board::load(image, map, plus(base(k, r, pc), x)) {
+        Word::Value(a) => Found::At(Place::Mem(a, 7, plus(pc, 2))),
+        Word::Blank(a) => Found::Blank(a),
+    }
+}
+
+fn unplaced(word: Word) -> Found
+    ensures { λ r. ⌜ r ≡ Spec.unplaced word ⌝ }
+{
+    match word {
+        Word::Value(_) => Found::Blank(0),
+        Word::Blank(a) => Found::Blank(a),
+    }
+}
+
+// Modes 1 to 7.
+fn reach(image: &[u8], map: &[u8], step: u16, k: u16, r: u16, pc: u16, mode: u16) -> Found
+    requires { ⌜ Lent (now map) (now image) ⌝ }
+    ensures { λ f. ⌜ Saw (now (map .entry)) (Spec.locate step k r pc mode) (now (image .entry)) (foundAs f) ⌝ }
+{
+    match mode {
+        0 => Found::At(Place::Reg),
+        1 => Found::At(Place::Mem(r, k, r)),
+        2 => Found::At(Place::Mem(r, k, plus(r, step))),
+        3 => increment_deferred(image, map, step, k, r, pc),
+        4 => Found::At(Place::Mem(minus(r, step), k, minus(r, step))),
+        5 => decrement_deferred(image, map, step, k, r, pc),
+        6 => indexed(image, map, step, k, r, pc),
+        _ => indexed_deferred(image, map, step, k, r, pc),
+    }
+}
+
+// Where the operand of a mode and a register stands; a register operand, the commonest, is told at once.
+pub fn locate(image: &[u8], map: &[u8], step: u16, k: u16, r: u16, pc: u16, mode: u16) -> Found
+    requires { ⌜ Lent (now map) (now image) ⌝ }
+    ensures { λ f. ⌜ Saw (now (map .entry)) (Spec.locate step k r pc mode) (now (image .entry)) (foundAs f) ⌝ }
+{
+    if mode == 0 {
+        return Found::At(Place::Reg);
+    }
+    reach(image, map, step, k, r, pc, mode)
+}
+
+// The state with the register moved that decoding moves.
+pub fn moved(s: State, place: Place) -> State
+    ensures { λ r. ⌜ r ≡ Spec.moved s place ⌝ }
+{
+    match place {
+        Place::Reg => s,
+        Place::Mem(_, which, v) => s.with_reg(which, v),
+    }
+}
+
+// The word at a place; r is what its register holds.
+pub fn read_word(image: &[u8], map: &[u8], place: Place, r: u16) -> Word
+    requires { ⌜ Lent (now map) (now image) ⌝ }
+    ensures { λ w. ⌜ Saw (now (map .entry)) (Spec.readOf word r place) (now (image .entry)) (wordAs w) ⌝ }
+{
+    match place {
+        Place::Reg => Word::Value(r),
+        Place::Mem(a, _, _) => board::load(image, map, a),
+    }
+}
+
+fn low(v: u16) -> u8
+    ensures { λ r. ⌜ r ≡ v % 256 ⌝ }
+{
+    (v % 256) as u8
+}
+
+// The byte at a place; of a register, the lower byte.
+pub fn read_byte(image: &[u8], map: &[u8], place: Place, r: u16) -> Byte
+    requires { ⌜ Lent (now map) (now image) ⌝ }
+    ensures { λ w. ⌜ Saw (now (map .entry)) (Spec.readOf byte r place) (now (image .entry)) (byteAs w) ⌝ }
+{
+    match place {
+        Place::Reg => Byte::Value(low(r)),
+        Place::Mem(a, _, _) => board::load_byte(image, map, a),
+    }
+}
+
+pub fn write_word(
+    s: State,
+    image: &mut [u8],
+    map: &[u8],
+    log: &mut [u16; 32],
+    k: u16,
+    place: Place,
+    v: u16,
+) -> Went
+    requires { ⌜ Board (now map) (beside (now image) (now log)) ⌝ }
+    ensures { λ r. ⌜ Works (now (map .entry)) (Spec.writeTo word s k place v) (now (image .entry)) (now (log .entry)) r (now (image .exit)) (now (log .exit)) ⌝ }
+{
+    match place {
+        Place::Reg => Went::Done(s.with_reg(k, v)),
+        Place::Mem(a, _, _) => {
+            let kept = board::store(image, map, log, a, v);
+            let Kept::Done = kept else {
+                return unwritten(kept);
+            };
+            Went::Done(s)
+        }
+    }
+}
+
+// A byte in a register leaves the upper byte.
+pub fn write_byte(
+    s: State,
+    image: &mut [u8],
+    map: &[u8],
+    log: &mut [u16; 32],
+    k: u16,
+    place: Place,
+    v: u16,
+) -> Went
+    requires { ⌜ Board (now map) (beside (now image) (now log)) ⌝ }
+    ensures { λ r. ⌜ Works (now (map .entry)) (Spec.writeTo byte s k place v) (now (image .entry)) (now (log .entry)) r (now (image .exit)) (now (log .exit)) ⌝ }
+{
+    match place {
+        Place::Reg => Went::Done(s.with_reg(k, word::byte::with_low(s.reg(k), low(v)))),
+        Place::Mem(a, _, _) => {
+            let kept = board::store_byte(image, map, log, a, v);
+            let Kept::Done = kept else {
+                return unwritten(kept);
+            };
+            Went::Done(s)
+        }
+    }
+}

@@ -1,0 +1,42 @@
+use mathlib.Core.Path.{sym, _∙_}
+use Rattle.operate.specs.Format9.{jsrTo}
+use borrow.Author.Needs.{needs}
+use Rattle.operate.proofs.format9.jsr_to.Statement.{statement}
+use Rattle.operate.proofs.format9.jsr_to.Tie as tie
+
+illegal-requires : tie.Need-illegal-requires
+illegal-requires c κs = c .before .before .before .before .before .before .pre
+
+call-requires : tie.Need-call-requires
+call-requires c κs = c .before .before .before .before .before .before .before .pre
+
+same-length : tie.Need-same-length
+same-length c = c .before .before .illegal .ensures .board .lent .size ∙ sym (c .before .before .before .before .before .before .before .before .before .pre .lent .size)
+
+returns : tie.Need-returns
+unfolding jsrTo
+returns c =
+    rw (c .before .before .before .before .before .enum-told .given .1)
+    (record { got = c .before .before .illegal .ensures .got; board = c .before .before .illegal .ensures .board })
+
+same-length-2 : tie.Need-same-length-2
+same-length-2 c = c .before .before .call .ensures .board .lent .size ∙ sym (c .before .before .before .before .before .before .before .before .before .before .pre .lent .size)
+
+returns-2 : tie.Need-returns-2
+unfolding jsrTo
+returns-2 c =
+    rw (c .before .before .before .before .before .before .place .given .1)
+    (record { got = c .before .before .call .ensures .got; board = c .before .before .call .ensures .board })
+
+pub jsr-to-spec : {M : Type 1} → statement M
+jsr-to-spec =
+    tie.close
+    (tie.spec
+    (λ c. search needs)
+    illegal-requires
+    (λ c. search needs)
+    call-requires
+    same-length
+    returns
+    same-length-2
+    returns-2)

@@ -1,0 +1,11 @@
+use Rattle.operate.specs.Operands.{nowhere}
+use mathlib.Core.Path.{sym, ap}
+use borrow.Author.Needs.{needs}
+use Rattle.operate.proofs.operands.nowhere.Statement.{statement}
+use Rattle.operate.proofs.operands.nowhere.Tie as tie
+
+returns-2 : tie.Need-returns-2
+returns-2 c = sym (ap nowhere (c .before .found .given .1))
+
+pub nowhere-spec : {M : Type 1} → statement M
+nowhere-spec = tie.close (tie.spec (λ c. search needs) (λ c. search needs) (λ c. search needs) returns-2)

@@ -1,0 +1,90 @@
+-- Format 7, 0A00 to 0DFF and 8A00 to 8DFF: one operand.
+use Prim.Native.Nat.{ℕ, _+_, _/_, _%_}
+use mathlib.Core.Bool.{Bool, true, false}
+use lib.Dec.{eqb, ltb}
+use Rattle.word.specs.declared.Flags.{Flags}
+use Rattle.word.specs.declared.Done.{Done}
+use Rattle.word.specs.Ops.{iw2Of, sxtOf, adcOf, sbcOf}
+use Rattle.word.specs.Unary.{unaryOf, unaryAt}
+use Rattle.board.specs.Work.{Work, give, load, Size, word, byte}
+use Rattle.board.specs.Bind.{_>>=_, _>>_}
+use Rattle.state.specs.declared.State.{State}
+use Rattle.state.specs.declared.Outside.{Outside}
+use Rattle.state.specs.State.{withPc, withFlags, withStatus, psOf, plus, pick}
+use Rattle.state.specs.Stack.{push}
+use Rattle.operand.specs.declared.Place.{Place}
+use Rattle.operand.specs.Operand.{writeTo}
+use Rattle.control.specs.Format4.{tabled}
+use Rattle.operate.specs.Operands.{destination}
+
+-- the place of an op code among the 16 from 0A00, and among those from 8A00
+abbrev pub placeOf : ℕ → ℕ
+placeOf op = (op / 64 + 24) % 64
+
+-- the operand is in a register: mode 0
+abbrev pub inRegister : ℕ → Bool
+inRegister op = eqb (op / 8 % 8) 0
+
+-- IW2 0D00, SXT 0D40; ADC 8D80, SBC 8DC0
+abbrev pub furtherOf : ℕ → ℕ → ℕ → Flags → Done
+furtherOf op at d f =
+    pick (ltb op 0x8000) (pick (eqb at 12) (iw2Of d) (sxtOf f)) (pick (eqb at 14) (adcOf d f) (sbcOf d f))
+
+-- on words: ROR to DEC, and these four
+unfoldable pub wordOf : ℕ → ℕ → ℕ → Flags → Done
+wordOf op at d f = pick (ltb at 12) (unaryOf 16 (unaryAt at) (inRegister op) d f) (furtherOf op at d f)
+
+-- on bytes: RORB to DECB, SWAD in SWAB's place
+unfoldable pub byteOf : ℕ → ℕ → ℕ → Flags → Done
+byteOf op at d f = unaryOf 8 (unaryAt at) (inRegister op) d f
+
+abbrev pub resultOf : Size → ℕ → ℕ → ℕ → Flags → Done
+resultOf word op at d f = wordOf op at d f
+resultOf byte op at d f = byteOf op at (d % 256) f
+
+-- TST and TSTB set the indicators and write nothing
+unfoldable pub stored : Size → ℕ → ℕ → State → Place → ℕ → Work State
+stored z op at s p v = pick (eqb at 2) (give s) (writeTo z s (op % 8) p v)
+
+-- (DST) ← its result; the indicators
+unfoldable pub modify : Size → State → ℕ → ℕ → Work State
+modify z s op at = do
+  o ← destination z s op
+  stored z op at (withFlags (o .state) (resultOf z op at (o .operand) (o .state .flags) .flags)) (o .place) (resultOf z op at (o .operand) (o .state .flags) .value)
+
+-- TCALL: ↓ SP, @SP ← PC; PC ← PC + (DST); PC ← PC + @PC
+unfoldable pub tcall : State → ℕ → Work State
+tcall s op = do
+  o ← destination word s op
+  s ← push (o .state) (o .state .regs .pc)
+  tabled s (plus (s .regs .pc) (o .operand))
+
+-- TJMP: PC ← PC + (DST); PC ← PC + @PC
+unfoldable pub tjmp : State → ℕ → Work State
+tjmp s op = do
+  o ← destination word s op
+  tabled (o .state) (plus (o .state .regs .pc) (o .operand))
+
+-- LSTS: the indicators and I2 are loaded from (DST)
+unfoldable pub lsts : State → ℕ → Work State
+lsts s op = do
+  o ← destination word s op
+  give (withStatus (o .state) (o .operand))
+
+-- SSTS: the PS is formed and stored in (DST)
+unfoldable pub ssts : Outside → State → ℕ → Work State
+ssts out s op = do
+  o ← destination word s op
+  writeTo word (o .state) (op % 8) (o .place) (psOf out false (o .state))
+
+-- 0A00 to 0D7F words, 0D80 TCALL, 0DC0 TJMP
+unfoldable pub format7low : State → ℕ → ℕ → Work State
+format7low s op at = pick (ltb at 14) (modify word s op at) (pick (eqb at 14) (tcall s op) (tjmp s op))
+
+-- 8A00 to 8CFF bytes, 8D00 LSTS, 8D40 SSTS, 8D80 and 8DC0 words
+unfoldable pub format7high : Outside → State → ℕ → ℕ → Work State
+format7high out s op at =
+    pick (ltb at 12) (modify byte s op at) (pick (ltb 13 at) (modify word s op at) (pick (eqb at 12) (lsts s op) (ssts out s op)))
+
+unfoldable pub format7 : Outside → State → ℕ → Work State
+format7 out s op = pick (ltb op 0x8000) (format7low s op (placeOf op)) (format7high out s op (placeOf op))

@@ -1,0 +1,264 @@
+// Format 7: one operand.
+use super::Held;
+use super::operands::destination_byte;
+use super::operands::destination_word;
+use super::operands::unheld;
+use operand::Place;
+use state::Outside;
+use state::State;
+use state::Went;
+use state::plus;
+use word::Done;
+use word::Flags;
+ghost use mathlib.Core.Path.{_≡_};
+ghost use Rattle.board.specs.Work.{word, byte};
+ghost use Rattle.board.specs.Exec.{beside, Lent, Board, Saw};
+ghost use Rattle.state.specs.Answer.{Works, wentAs};
+ghost use Rattle.operate.specs.Format7 as Spec;
+
+// The place of an op code among the 16 from 0A00, and among those from 8A00.
+fn place_of(op: u16) -> u16
+    ensures { λ r. ⌜ r ≡ Spec.placeOf op ⌝ }
+{
+    (op / 64 + 24) % 64
+}
+
+// IW2, SXT, ADC, SBC.
+fn further_word(op: u16, at: u16, d: u16, f: Flags) -> Done
+    ensures { λ r. ⌜ r ≡ Spec.furtherOf op at d f ⌝ }
+{
+    if op < 0x8000 {
+        if at == 12 {
+            word::word::iw2(d)
+        } else {
+            word::word::sxt(f)
+        }
+    } else {
+        if at == 14 {
+            word::word::adc(d, f)
+        } else {
+            word::word::sbc(d, f)
+        }
+    }
+}
+
+fn word_result(op: u16, at: u16, d: u16, f: Flags) -> Done
+    ensures { λ r. ⌜ r ≡ Spec.wordOf op at d f ⌝ }
+{
+    if at < 12 {
+        return word::format7::unary16(word::format7::unary_at(at), op / 8 % 8 == 0, d, f);
+    }
+    further_word(op, at, d, f)
+}
+
+fn byte_result(op: u16, at: u16, d: u8, f: Flags) -> Done
+    ensures { λ r. ⌜ r ≡ Spec.byteOf op at d f ⌝ }
+{
+    word::format7::unary8(word::format7::unary_at(at), op / 8 % 8 == 0, d, f)
+}
+
+fn stored_word(
+    s: State,
+    image: &mut [u8],
+    map: &[u8],
+    log: &mut [u16; 32],
+    op: u16,
+    at: u16,
+    place: Place,
+    v: u16,
+) -> Went
+    requires { ⌜ Board (now map) (beside (now image) (now log)) ⌝ }
+    ensures { λ r. ⌜ Works (now (map .entry)) (Spec.stored word op at s place v) (now (image .entry)) (now (log .entry)) r (now (image .exit)) (now (log .exit)) ⌝ }
+{
+    if at == 2 {
+        return Went::Done(s);
+    }
+    operand::write_word(s, image, map, log, op % 8, place, v)
+}
+
+fn stored_byte(
+    s: State,
+    image: &mut [u8],
+    map: &[u8],
+    log: &mut [u16; 32],
+    op: u16,
+    at: u16,
+    place: Place,
+    v: u16,
+) -> Went
+    requires { ⌜ Board (now map) (beside (now image) (now log)) ⌝ }
+    ensures { λ r. ⌜ Works (now (map .entry)) (Spec.stored byte op at s place v) (now (image .entry)) (now (log .entry)) r (now (image .exit)) (now (log .exit)) ⌝ }
+{
+    if at == 2 {
+        return Went::Done(s);
+    }
+    operand::write_byte(s, image, map, log, op % 8, place, v)
+}
+
+// ROR to DEC, IW2, SXT, ADC, SBC.
+fn modify_word(
+    s: State,
+    image: &mut [u8],
+    map: &[u8],
+    log: &mut [u16; 32],
+    op: u16,
+    at: u16,
+) -> Went
+    requires { ⌜ Board (now map) (beside (now image) (now log)) ⌝ }
+    ensures { λ r. ⌜ Works (now (map .entry)) (Spec.modify word s op at) (now (image .entry)) (now (log .entry)) r (now (image .exit)) (now (log .exit)) ⌝ }
+{
+    let held = destination_word(s, image, map, op);
+    let Held::At(t, place, d) = held else {
+        return unheld(held);
+    };
+    let done = word_result(op, at, d, t.flags);
+    stored_word(
+        t.with_flags(done.flags),
+        image,
+        map,
+        log,
+        op,
+        at,
+        place,
+        done.value,
+    )
+}
+
+// RORB to DECB, SWAD.
+fn modify_byte(
+    s: State,
+    image: &mut [u8],
+    map: &[u8],
+    log: &mut [u16; 32],
+    op: u16,
+    at: u16,
+) -> Went
+    requires { ⌜ Board (now map) (beside (now image) (now log)) ⌝ }
+    ensures { λ r. ⌜ Works (now (map .entry)) (Spec.modify byte s op at) (now (image .entry)) (now (log .entry)) r (now (image .exit)) (now (log .exit)) ⌝ }
+{
+    let held = destination_byte(s, image, map, op);
+    let Held::At(t, place, d) = held else {
+        return unheld(held);
+    };
+    let done = byte_result(op, at, (d % 256) as u8, t.flags);
+    stored_byte(
+        t.with_flags(done.flags),
+        image,
+        map,
+        log,
+        op,
+        at,
+        place,
+        done.value,
+    )
+}
+
+fn tcall(s: State, image: &mut [u8], map: &[u8], log: &mut [u16; 32], op: u16) -> Went
+    requires { ⌜ Board (now map) (beside (now image) (now log)) ⌝ }
+    ensures { λ r. ⌜ Works (now (map .entry)) (Spec.tcall s op) (now (image .entry)) (now (log .entry)) r (now (image .exit)) (now (log .exit)) ⌝ }
+{
+    let held = destination_word(s, image, map, op);
+    let Held::At(t, _, d) = held else {
+        return unheld(held);
+    };
+    let went = t.push(image, map, log, t.regs.pc);
+    let Went::Done(u) = went else {
+        return went;
+    };
+    control::format4::tabled(u, image, map, plus(u.regs.pc, d))
+}
+
+fn tjmp(s: State, image: &[u8], map: &[u8], op: u16) -> Went
+    requires { ⌜ Lent (now map) (now image) ⌝ }
+    ensures { λ r. ⌜ Saw (now (map .entry)) (Spec.tjmp s op) (now (image .entry)) (wentAs r) ⌝ }
+{
+    let held = destination_word(s, image, map, op);
+    let Held::At(t, _, d) = held else {
+        return unheld(held);
+    };
+    control::format4::tabled(t, image, map, plus(t.regs.pc, d))
+}
+
+fn lsts(s: State, image: &[u8], map: &[u8], op: u16) -> Went
+    requires { ⌜ Lent (now map) (now image) ⌝ }
+    ensures { λ r. ⌜ Saw (now (map .entry)) (Spec.lsts s op) (now (image .entry)) (wentAs r) ⌝ }
+{
+    let held = destination_word(s, image, map, op);
+    let Held::At(t, _, d) = held else {
+        return unheld(held);
+    };
+    Went::Done(t.with_status(d))
+}
+
+fn ssts(s: State, image: &mut [u8], map: &[u8], log: &mut [u16; 32], out: Outside, op: u16) -> Went
+    requires { ⌜ Board (now map) (beside (now image) (now log)) ⌝ }
+    ensures { λ r. ⌜ Works (now (map .entry)) (Spec.ssts out s op) (now (image .entry)) (now (log .entry)) r (now (image .exit)) (now (log .exit)) ⌝ }
+{
+    let held = destination_word(s, image, map, op);
+    let Held::At(t, place, _) = held else {
+        return unheld(held);
+    };
+    operand::write_word(t, image, map, log, op % 8, place, t.ps(out, false))
+}
+
+fn format7_low(
+    s: State,
+    image: &mut [u8],
+    map: &[u8],
+    log: &mut [u16; 32],
+    op: u16,
+    at: u16,
+) -> Went
+    requires { ⌜ Board (now map) (beside (now image) (now log)) ⌝ }
+    ensures { λ r. ⌜ Works (now (map .entry)) (Spec.format7low s op at) (now (image .entry)) (now (log .entry)) r (now (image .exit)) (now (log .exit)) ⌝ }
+{
+    if at < 14 {
+        return modify_word(s, image, map, log, op, at);
+    }
+    if at == 14 {
+        return tcall(s, image, map, log, op);
+    }
+    tjmp(s, image, map, op)
+}
+
+fn format7_high(
+    s: State,
+    image: &mut [u8],
+    map: &[u8],
+    log: &mut [u16; 32],
+    out: Outside,
+    op: u16,
+    at: u16,
+) -> Went
+    requires { ⌜ Board (now map) (beside (now image) (now log)) ⌝ }
+    ensures { λ r. ⌜ Works (now (map .entry)) (Spec.format7high out s op at) (now (image .entry)) (now (log .entry)) r (now (image .exit)) (now (log .exit)) ⌝ }
+{
+    if at < 12 {
+        return modify_byte(s, image, map, log, op, at);
+    }
+    if 13 < at {
+        return modify_word(s, image, map, log, op, at);
+    }
+    if at == 12 {
+        return lsts(s, image, map, op);
+    }
+    ssts(s, image, map, log, out, op)
+}
+
+pub fn format7(
+    s: State,
+    image: &mut [u8],
+    map: &[u8],
+    log: &mut [u16; 32],
+    out: Outside,
+    op: u16,
+) -> Went
+    requires { ⌜ Board (now map) (beside (now image) (now log)) ⌝ }
+    ensures { λ r. ⌜ Works (now (map .entry)) (Spec.format7 out s op) (now (image .entry)) (now (log .entry)) r (now (image .exit)) (now (log .exit)) ⌝ }
+{
+    let at = place_of(op);
+    if op < 0x8000 {
+        return format7_low(s, image, map, log, op, at);
+    }
+    format7_high(s, image, map, log, out, op, at)
+}

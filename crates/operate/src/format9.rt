@@ -1,0 +1,228 @@
+// Format 9: REG and DST.
+use super::Held;
+use super::format6::with_done;
+use super::format6::with_pair;
+use super::operands::destination_byte;
+use super::operands::destination_word;
+use super::operands::unheld;
+use operand::Found;
+use operand::Place;
+use operand::locate;
+use operand::moved;
+use operand::unfound;
+use state::Outside;
+use state::State;
+use state::Went;
+use state::minus;
+ghost use mathlib.Core.Path.{_≡_};
+ghost use Rattle.board.specs.Work.{word, byte};
+ghost use Rattle.board.specs.Exec.{beside, Lent, Board, Saw};
+ghost use Rattle.state.specs.Answer.{Works, wentAs};
+ghost use Prim.Native.Nat.{_%_};
+ghost use Rattle.operate.specs.Format9 as Spec;
+
+fn illegal(s: State, image: &mut [u8], map: &[u8], log: &mut [u16; 32], out: Outside) -> Went
+    requires { ⌜ Board (now map) (beside (now image) (now log)) ⌝ }
+    ensures { λ r. ⌜ Works (now (map .entry)) (Spec.illegal out s) (now (image .entry)) (now (log .entry)) r (now (image .exit)) (now (log .exit)) ⌝ }
+{
+    s.trap(image, map, log, s.ps(out, false), 0x1c)
+}
+
+fn call(s: State, image: &mut [u8], map: &[u8], log: &mut [u16; 32], k: u16, a: u16) -> Went
+    requires { ⌜ Board (now map) (beside (now image) (now log)) ⌝ }
+    ensures { λ r. ⌜ Works (now (map .entry)) (Spec.call s k a) (now (image .entry)) (now (log .entry)) r (now (image .exit)) (now (log .exit)) ⌝ }
+{
+    let went = s.push_reg(image, map, log, k);
+    let Went::Done(t) = went else {
+        return went;
+    };
+    Went::Done(t.with_reg(k, t.regs.pc).with_pc(a))
+}
+
+fn jsr_to(
+    s: State,
+    image: &mut [u8],
+    map: &[u8],
+    log: &mut [u16; 32],
+    out: Outside,
+    k: u16,
+    place: Place,
+) -> Went
+    requires { ⌜ Board (now map) (beside (now image) (now log)) ⌝ }
+    ensures { λ r. ⌜ Works (now (map .entry)) (Spec.jsrTo out s k place) (now (image .entry)) (now (log .entry)) r (now (image .exit)) (now (log .exit)) ⌝ }
+{
+    match place {
+        Place::Reg => illegal(s, image, map, log, out),
+        Place::Mem(a, _, _) => call(s, image, map, log, k, a),
+    }
+}
+
+fn jsr(s: State, image: &mut [u8], map: &[u8], log: &mut [u16; 32], out: Outside, op: u16) -> Went
+    requires { ⌜ Board (now map) (beside (now image) (now log)) ⌝ }
+    ensures { λ r. ⌜ Works (now (map .entry)) (Spec.jsr out s op) (now (image .entry)) (now (log .entry)) r (now (image .exit)) (now (log .exit)) ⌝ }
+{
+    let k = op % 8;
+    let found = locate(image, map, 2, k, s.reg(k), s.regs.pc, op / 8 % 8);
+    let Found::At(to) = found else {
+        return unfound(found);
+    };
+    let t = moved(s, to);
+    jsr_to(t, image, map, log, out, op / 64 % 8, to)
+}
+
+fn lea_to(
+    s: State,
+    image: &mut [u8],
+    map: &[u8],
+    log: &mut [u16; 32],
+    out: Outside,
+    k: u16,
+    place: Place,
+) -> Went
+    requires { ⌜ Board (now map) (beside (now image) (now log)) ⌝ }
+    ensures { λ r. ⌜ Works (now (map .entry)) (Spec.leaTo out s k place) (now (image .entry)) (now (log .entry)) r (now (image .exit)) (now (log .exit)) ⌝ }
+{
+    match place {
+        Place::Reg => illegal(s, image, map, log, out),
+        Place::Mem(a, _, _) => Went::Done(s.with_reg(k, a)),
+    }
+}
+
+fn lea(s: State, image: &mut [u8], map: &[u8], log: &mut [u16; 32], out: Outside, op: u16) -> Went
+    requires { ⌜ Board (now map) (beside (now image) (now log)) ⌝ }
+    ensures { λ r. ⌜ Works (now (map .entry)) (Spec.lea out s op) (now (image .entry)) (now (log .entry)) r (now (image .exit)) (now (log .exit)) ⌝ }
+{
+    let k = op % 8;
+    let found = locate(image, map, 2, k, s.reg(k), s.regs.pc, op / 8 % 8);
+    let Found::At(to) = found else {
+        return unfound(found);
+    };
+    let t = moved(s, to);
+    lea_to(t, image, map, log, out, op / 64 % 8, to)
+}
+
+fn ash(s: State, image: &[u8], map: &[u8], op: u16) -> Went
+    requires { ⌜ Lent (now map) (now image) ⌝ }
+    ensures { λ r. ⌜ Saw (now (map .entry)) (Spec.ash s op) (now (image .entry)) (wentAs r) ⌝ }
+{
+    let held = destination_byte(s, image, map, op);
+    let Held::At(t, _, n) = held else {
+        return unheld(held);
+    };
+    let k = op / 64 % 8;
+    let done = word::format9::ash(t.reg(k), (n % 256) as u8);
+    Went::Done(with_done(t, k, done))
+}
+
+pub fn sob(s: State, op: u16) -> State
+    ensures { λ r. ⌜ r ≡ Spec.sob s op ⌝ }
+{
+    let k = op / 64 % 8;
+    let v = minus(s.reg(k), 1);
+    let t = s.with_reg(k, v);
+    if v == 0 {
+        return t;
+    }
+    t.with_pc(minus(t.regs.pc, op % 64 * 2))
+}
+
+fn xch(s: State, image: &mut [u8], map: &[u8], log: &mut [u16; 32], op: u16) -> Went
+    requires { ⌜ Board (now map) (beside (now image) (now log)) ⌝ }
+    ensures { λ r. ⌜ Works (now (map .entry)) (Spec.xch s op) (now (image .entry)) (now (log .entry)) r (now (image .exit)) (now (log .exit)) ⌝ }
+{
+    let held = destination_word(s, image, map, op);
+    let Held::At(t, place, d) = held else {
+        return unheld(held);
+    };
+    let k = op / 64 % 8;
+    let r = t.reg(k);
+    operand::write_word(t.with_reg(k, d), image, map, log, op % 8, place, r)
+}
+
+fn ashc(s: State, image: &[u8], map: &[u8], op: u16) -> Went
+    requires { ⌜ Lent (now map) (now image) ⌝ }
+    ensures { λ r. ⌜ Saw (now (map .entry)) (Spec.ashc s op) (now (image .entry)) (wentAs r) ⌝ }
+{
+    let held = destination_byte(s, image, map, op);
+    let Held::At(t, _, n) = held else {
+        return unheld(held);
+    };
+    let k = op / 64 % 8;
+    let pair = word::format9::ashc(t.reg(k), t.reg(state::next(k)), (n % 256) as u8);
+    Went::Done(with_pair(t, k, pair))
+}
+
+fn mul(s: State, image: &[u8], map: &[u8], op: u16) -> Went
+    requires { ⌜ Lent (now map) (now image) ⌝ }
+    ensures { λ r. ⌜ Saw (now (map .entry)) (Spec.mul s op) (now (image .entry)) (wentAs r) ⌝ }
+{
+    let held = destination_word(s, image, map, op);
+    let Held::At(t, _, d) = held else {
+        return unheld(held);
+    };
+    let k = op / 64 % 8;
+    let pair = word::format9::mul(t.reg(k), d);
+    Went::Done(with_pair(t, k, pair))
+}
+
+fn div(s: State, image: &[u8], map: &[u8], op: u16) -> Went
+    requires { ⌜ Lent (now map) (now image) ⌝ }
+    ensures { λ r. ⌜ Saw (now (map .entry)) (Spec.div s op) (now (image .entry)) (wentAs r) ⌝ }
+{
+    let held = destination_word(s, image, map, op);
+    let Held::At(t, _, d) = held else {
+        return unheld(held);
+    };
+    let k = op / 64 % 8;
+    let pair = word::format9::div(t.reg(k), t.reg(state::next(k)), d);
+    Went::Done(with_pair(t, k, pair))
+}
+
+// All but SOB, with the indicators preset.
+fn preset_code(
+    s: State,
+    image: &mut [u8],
+    map: &[u8],
+    log: &mut [u16; 32],
+    out: Outside,
+    op: u16,
+) -> Went
+    requires { ⌜ Board (now map) (beside (now image) (now log)) ⌝ }
+    ensures { λ r. ⌜ Works (now (map .entry)) (Spec.presetCode out s op) (now (image .entry)) (now (log .entry)) r (now (image .exit)) (now (log .exit)) ⌝ }
+{
+    let which = op / 512 % 8;
+    match which {
+        0 => jsr(s, image, map, log, out, op),
+        1 => lea(s, image, map, log, out, op),
+        2 => ash(s, image, map, op),
+        3 => Went::Done(s),
+        4 => xch(s, image, map, log, op),
+        5 => ashc(s, image, map, op),
+        6 => mul(s, image, map, op),
+        _ => div(s, image, map, op),
+    }
+}
+
+pub fn format9(
+    s: State,
+    image: &mut [u8],
+    map: &[u8],
+    log: &mut [u16; 32],
+    out: Outside,
+    op: u16,
+) -> Went
+    requires { ⌜ Board (now map) (beside (now image) (now log)) ⌝ }
+    ensures { λ r. ⌜ Works (now (map .entry)) (Spec.format9 out s op) (now (image .entry)) (now (log .entry)) r (now (image .exit)) (now (log .exit)) ⌝ }
+{
+    if op / 512 % 8 == 3 {
+        return Went::Done(sob(s, op));
+    }
+    preset_code(
+        s.with_flags(word::format9::preset()),
+        image,
+        map,
+        log,
+        out,
+        op,
+    )
+}

@@ -1,0 +1,11 @@
+pub mod Choose
+pub mod Laid
+pub mod Keys
+pub mod Table
+pub mod Forms
+pub mod Back
+pub mod Trip
+pub mod Reserved
+pub mod Longest
+pub mod Meets
+pub mod Theorems

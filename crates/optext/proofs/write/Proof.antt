@@ -1,0 +1,63 @@
+use mathlib.Core.Path.{_≡_, refl}
+use Prim.Native.Nat.{_+_}
+use native.Mathlib.Omega.{arith}
+use lib.ListN.{getD}
+use Rattle.optext.specs.Line.{lineText, taken, textOf}
+use Rattle.optext.proofs.Meets.{writes-8, writes-6, writes-7, writes-line}
+use Rattle.optext.proofs.Forms.{takes-le}
+use borrow.Author.Needs.{needs}
+use Rattle.optext.proofs.write.Statement.{statement}
+use Rattle.optext.proofs.write.Tie as tie
+
+returns : tie.Need-returns
+returns c = writes-8 (c .before .before .before .args .words .now) (c .before .before .before .args .text .now) (c .if1 .taken)
+
+returns-2 : tie.Need-returns-2
+returns-2 c = writes-6 (c .before .before .before .before .args .words .now) (c .before .before .before .before .args .text .now) (c .before .if1 .left) (c .if2 .taken)
+
+add-need : tie.Need-add-need
+add-need c = omega (arith, c .before .before .takes-of .ensures, takes-le (c .before .before .before .first .result) (getD (c .before .before .before .before .before .before .before .before .before .before .args .words .now) 0 0))
+
+add-need-2 : tie.Need-add-need-2
+add-need-2 c = omega (arith, c .before .before .takes-of .ensures, takes-le (c .before .before .before .first .result) (getD (c .before .before .before .before .before .before .before .before .before .before .args .words .now) 0 0), c .takes-of2 .ensures, takes-le (c .before .second .result) (getD (c .before .before .before .before .before .before .before .before .before .before .args .words .now) 0 0))
+
+returns-3 : tie.Need-returns-3
+unfolding taken
+returns-3 c =
+    let a = c .before .before .before .before .before .before .before .before .before .before .before .args in
+    let q : 1 + c .before .before .before .takes-of .result + c .before .takes-of2 .result ≡ taken (getD (a .words .now) 0 0) =
+    rw (c .before .before .before .takes-of .ensures, c .before .takes-of2 .ensures, c .before .before .before .before .first .ensures, c .before .before .second .ensures, c .before .before .before .before .before .row-of .ensures .0) refl in
+    writes-7 (a .words .now) (a .text .now) (c .before .before .before .before .before .before .before .before .if1 .left) (c .before .before .before .before .before .before .before .if2 .left) (omega (arith, q))
+
+returns-4 : tie.Need-returns-4
+unfolding taken textOf
+returns-4 c =
+    let a = c .before .before .before .before .before .before .before .before .before .before .before .before .before .before .before .before .before .args in
+    let q : 1 + c .before .before .before .before .before .before .before .before .before .takes-of .result + c .before .before .before .before .before .before .before .takes-of2 .result ≡ taken (getD (a .words .now) 0 0) =
+    rw (c .before .before .before .before .before .before .before .before .before .takes-of .ensures, c .before .before .before .before .before .before .before .takes-of2 .ensures, c .before .before .before .before .before .before .before .before .before .before .first .ensures, c .before .before .before .before .before .before .before .before .second .ensures, c .before .before .before .before .before .before .before .before .before .before .before .row-of .ensures .0) refl in
+    let p : lineText (getD (a .words .now) 0 0) (c .before .before .before .before .before .word-at .result) (c .before .before .before .before .word-at2 .result) ≡ textOf (a .words .now) =
+    rw (c .before .before .before .before .before .word-at .ensures, c .before .before .before .before .word-at2 .ensures, c .before .before .before .before .before .before .before .before .before .takes-of .ensures, c .before .before .before .before .before .before .before .before .before .before .first .ensures, c .before .before .before .before .before .before .before .before .before .before .before .row-of .ensures .0) refl in
+    writes-line (a .words .now) (a .text .now) (c .before .before .put-line .last .0) (c .before .before .put-line .result) _ (c .before .before .before .before .before .before .before .before .before .before .before .before .before .before .if1 .left) (c .before .before .before .before .before .before .before .before .before .before .before .before .before .if2 .left) (omega (arith, q, c .before .before .before .before .before .before .if3 .left))
+    (rw p at (c .before .before .put-line .ensures)) q
+
+pub write-spec : {M : Type 1} → statement M
+write-spec =
+    tie.close
+    (tie.spec
+    returns
+    returns-2
+    (λ c. search needs)
+    (λ c κs. search needs)
+    (λ c κs. search needs)
+    (λ c κs. search needs)
+    (λ c κs. search needs)
+    (λ c κs. search needs)
+    add-need
+    add-need-2
+    returns-3
+    (λ c κs. search needs)
+    (λ c. search needs)
+    (λ c κs. search needs)
+    (λ c κs. search needs)
+    (λ c. search needs)
+    returns-4)

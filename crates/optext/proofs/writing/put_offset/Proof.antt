@@ -1,0 +1,56 @@
+use native.Mathlib.Omega.{arith}
+use lib.ListN.{length-set}
+use Rattle.optext.proofs.Laid.{wrote-sets}
+use Rattle.optext.specs.Digits.{hex4, hex2}
+use Rattle.optext.specs.Line.{offsetText}
+use borrow.Author.Needs.{needs}
+use Rattle.optext.proofs.writing.put_offset.Statement.{statement}
+use Rattle.optext.proofs.writing.put_offset.Tie as tie
+
+slice-write-out-2 : tie.Need-slice-write-out-2
+slice-write-out-2 c = simp length-set (omega arith)
+
+slice-write-out-3 : tie.Need-slice-write-out-3
+slice-write-out-3 c = simp length-set (omega arith)
+
+slice-write-out-4 : tie.Need-slice-write-out-4
+slice-write-out-4 c = simp length-set (omega arith)
+
+slice-write-out-5 : tie.Need-slice-write-out-5
+slice-write-out-5 c = simp length-set (omega arith)
+
+slice-write-out-6 : tie.Need-slice-write-out-6
+slice-write-out-6 c = simp length-set (omega arith)
+
+slice-write-out-7 : tie.Need-slice-write-out-7
+slice-write-out-7 c = simp length-set (omega arith)
+
+slice-write-out-8 : tie.Need-slice-write-out-8
+slice-write-out-8 c = simp length-set (omega arith)
+
+returns : tie.Need-returns
+unfolding offsetText hex4
+returns c =
+    let a = c .before .before .before .before .before .before .before .args in
+    rw (c .before .before .before .before .before .hex .ensures, c .before .before .before .before .hex2 .ensures, c .before .before .before .hex3 .ensures, c .before .before .hex4 .ensures, c .before .reg-a .ensures, c .reg-b .ensures) (wrote-sets (offsetText (a .r) (a .x)) (a .out .now) (omega arith))
+
+pub put-offset-spec : {M : Type 1} → statement M
+put-offset-spec =
+    tie.close
+    (tie.spec
+    (λ c κs. search needs)
+    (λ c. search needs)
+    (λ c κs. search needs)
+    slice-write-out-2
+    (λ c κs. search needs)
+    slice-write-out-3
+    (λ c κs. search needs)
+    slice-write-out-4
+    slice-write-out-5
+    (λ c κs. search needs)
+    slice-write-out-6
+    (λ c κs. search needs)
+    slice-write-out-7
+    slice-write-out-8
+    (λ c. search needs)
+    returns)

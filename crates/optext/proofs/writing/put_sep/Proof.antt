@@ -1,0 +1,57 @@
+use mathlib.Core.Path.{refl, ap, sym, _∙_}
+use mathlib.Core.List.{[], _∷_}
+use Prim.Native.Nat.{ℕ, _+_}
+use native.Mathlib.Omega.{arith}
+use lib.ListN.{set, length-set, length-take, length-drop}
+use Rattle.optext.proofs.Laid.{over-sets, wrote-sets, part-back, part-length}
+use Rattle.optext.specs.Line.{operandText, taken}
+use Rattle.optext.proofs.Forms.{sep-none, sep-some, operand-le}
+use native.Mathlib.Numerals.{add-one}
+use borrow.Author.Needs.{needs}
+use Rattle.optext.proofs.writing.put_sep.Statement.{statement}
+use Rattle.optext.proofs.writing.put_sep.Tie as tie
+
+sub-put-operand : tie.Need-sub-put-operand
+sub-put-operand c = simp length-set (omega arith)
+
+part-put-operand-start : tie.Need-part-put-operand-start
+part-put-operand-start c = simp length-set (omega arith)
+
+put-operand-requires : tie.Need-put-operand-requires
+put-operand-requires c κs = simp (length-take, length-drop, length-set) (omega arith)
+
+add-result : tie.Need-add-result
+add-result c =
+    let a = c .before .before .before .before .before .before .before .args in
+    omega (arith, operand-le (a .k) (a .w) (a .x))
+
+same-length : tie.Need-same-length
+same-length c = part-length 1 (set (c .before .before .before .before .before .before .before .args .out .now) 0 (c .before .before .before .before .before .before .before .args .sep)) (c .before .before .put-operand .last .0) (c .before .before .put-operand .kept .0) ∙ length-set (c .before .before .before .before .before .before .before .args .out .now) 0 (c .before .before .before .before .before .before .before .args .sep)
+
+returns : tie.Need-returns
+returns c =
+    let a = c .before .before .before .before .before .before .before .args in
+    let w = c .before .before .put-operand .ensures in
+    rw (sep-some _ _ _ _ (sym (c .before .before .before .before .before .shown .ensures) ∙ c .before .before .before .before .if1 .taken))
+    (record {
+      bytes = part-back (a .sep ∷ []) (operandText (a .k) (a .w) (a .x)) (a .out .now) _ _ 1 _ (over-sets (a .sep ∷ []) (a .out .now) (omega arith)) refl (omega arith) w;
+      count = ap (λ (n : ℕ). n + 1) (w .count) ∙ add-one _;
+    })
+
+returns-2 : tie.Need-returns-2
+returns-2 c = rw (sep-none _ _ _ _ (sym (c .before .shown .ensures) ∙ c .if1 .left)) (wrote-sets [] (c .before .before .before .args .out .now) (omega arith))
+
+pub put-sep-spec : {M : Type 1} → statement M
+put-sep-spec =
+    tie.close
+    (tie.spec
+    (λ c κs. search needs)
+    (λ c. search needs)
+    sub-put-operand
+    part-put-operand-start
+    (λ c. search needs)
+    put-operand-requires
+    add-result
+    same-length
+    returns
+    returns-2)

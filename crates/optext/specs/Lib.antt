@@ -1,0 +1,9 @@
+pub mod Pick
+pub mod Digits
+pub mod Rows
+pub mod Line
+pub mod Over
+pub mod Answer
+pub mod Guess
+pub mod Words
+pub mod Examples

@@ -1,0 +1,19 @@
+-- What a writer leaves in a lent buffer: the text in front, and every entry after it as it was.
+-- Assumes nothing.
+use mathlib.Core.Path.{_≡_}
+use mathlib.Core.List.{List, _++_}
+use Prim.Native.Nat.{ℕ, _+_}
+use lib.ListN.{length, take, drop}
+
+unfoldable pub over : List ℕ → List ℕ → List ℕ
+over xs b = xs ++ drop (length xs) b
+
+-- a writer of the text s made the buffer e of b, and answered n
+pub record Wrote (s b e : List ℕ) (n : ℕ) : Type 0 where
+  pub bytes : e ≡ over s b
+  pub count : n ≡ length s
+
+-- the same from the place `at` on
+pub record WroteAt (at : ℕ) (s b e : List ℕ) (n : ℕ) : Type 0 where
+  pub bytes : e ≡ take at b ++ over s (drop at b)
+  pub count : n ≡ at + length s

@@ -1,0 +1,36 @@
+use Rattle.board.specs.Laws.{got-then, got-gone, got-give, word-is, word-none}
+use Rattle.state.specs.Answer.{word-lost}
+use Rattle.state.specs.Stack.{popReg}
+use borrow.Author.Needs.{needs}
+use Rattle.state.proofs.State.pop_reg.Statement.{statement}
+use Rattle.state.proofs.State.pop_reg.Tie as tie
+
+load-requires : tie.Need-load-requires
+load-requires c κs = c .before .before .pre
+
+returns : tie.Need-returns
+unfolding popReg
+returns c =
+    record { got = got-gone _ (c .before .before .before .load .ensures .got) (word-none (c .before .enum-told .given .1)) (word-lost (c .unread .ensures) (c .before .enum-told .given .1)) }
+
+returns-2 : tie.Need-returns-2
+unfolding popReg
+returns-2 c =
+    record {
+      got = got-then _ (c .before .before .before .before .before .before .load .ensures .got) (word-is (c .before .before .before .before .word .given .1))
+          (got-give (rw (c .with-sp .ensures, c .before .plus .ensures, c .before .before .with-reg .ensures)));
+    }
+
+pub pop-reg-spec : {M : Type 1} → statement M
+pop-reg-spec =
+    tie.close
+    (tie.spec
+    load-requires
+    (λ c. search needs)
+    (λ c. search needs)
+    (λ c κs. search needs)
+    returns
+    (λ c κs. search needs)
+    (λ c κs. search needs)
+    (λ c κs. search needs)
+    returns-2)

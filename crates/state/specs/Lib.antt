@@ -1,0 +1,4 @@
+pub mod State
+pub mod Answer
+pub mod Stack
+pub mod Bounds

@@ -1,0 +1,17 @@
+use mathlib.Core.Path.{sym, _∙_}
+use borrow.Author.Needs.{needs}
+use Rattle.step.proofs.execute.execute.Statement.{statement}
+use Rattle.step.proofs.execute.execute.Tie as tie
+
+by-format-requires : tie.Need-by-format-requires
+by-format-requires c κs = c .before .before .before .before .before .pre
+
+same-length : tie.Need-same-length
+same-length c = c .before .before .by-format .ensures .board .lent .size ∙ sym (c .before .before .before .before .before .before .before .before .pre .lent .size)
+
+returns : tie.Need-returns
+returns c =
+    record { got = (rw (c .before .before .before .format .ensures) at (c .before .before .by-format .ensures)) .got; board = c .before .before .by-format .ensures .board }
+
+pub execute-spec : {M : Type 1} → statement M
+execute-spec = tie.close (tie.spec (λ c κs. search needs) by-format-requires same-length returns)

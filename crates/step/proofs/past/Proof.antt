@@ -1,0 +1,23 @@
+use borrow.Author.Needs.{needs}
+use Rattle.step.proofs.past.Statement.{statement}
+use Rattle.step.proofs.past.Tie as tie
+
+returns : tie.Need-returns
+returns c = rw (c .before .before .enum-told .given .1) (rw (c .with-pc .ensures, c .before .plus .ensures))
+
+pub past-spec : {M : Type 1} → statement M
+past-spec =
+    tie.close
+    (tie.spec
+    (λ c. search needs)
+    (λ c κs. search needs)
+    (λ c κs. search needs)
+    (λ c. search needs)
+    (λ c. search needs)
+    (λ c. search needs)
+    (λ c. search needs)
+    returns
+    (λ c. search needs)
+    (λ c. search needs)
+    (λ c. search needs)
+    (λ c. search needs))

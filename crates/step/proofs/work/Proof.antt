@@ -1,0 +1,81 @@
+use mathlib.Core.Path.{refl, sym, _∙_}
+use Rattle.board.specs.Laws.{got-give, did}
+use Rattle.step.specs.Step.{workOf}
+use borrow.Author.Needs.{needs}
+use Rattle.step.proofs.work.Statement.{statement}
+use Rattle.step.proofs.work.Tie as tie
+
+op-work-requires : tie.Need-op-work-requires
+op-work-requires c κs = c .before .before .before .before .before .before .pre
+
+restart-requires : tie.Need-restart-requires
+restart-requires c κs = c .before .before .before .before .before .pre .lent
+
+non-vectored-requires : tie.Need-non-vectored-requires
+non-vectored-requires c κs = c .before .before .before .before .before .before .pre
+
+vectored-requires : tie.Need-vectored-requires
+vectored-requires c κs = c .before .before .before .before .before .before .pre
+
+same-length : tie.Need-same-length
+same-length c = c .before .before .op-work .ensures .board .lent .size ∙ sym (c .before .before .before .before .before .before .before .before .before .pre .lent .size)
+
+returns : tie.Need-returns
+unfolding workOf
+returns c =
+    rw (c .before .before .before .before .before .enum-told .given .1)
+    (record { got = c .before .before .op-work .ensures .got; board = c .before .before .op-work .ensures .board })
+
+returns-2 : tie.Need-returns-2
+unfolding workOf
+returns-2 c =
+    rw (c .before .before .enum-told2 .given .1)
+    (record { got = c .restart .ensures .got; board = c .before .before .before .before .before .before .pre })
+
+same-length-3 : tie.Need-same-length-3
+same-length-3 c = c .before .before .non-vectored .ensures .board .lent .size ∙ sym (c .before .before .before .before .before .before .before .before .before .pre .lent .size)
+
+returns-3 : tie.Need-returns-3
+unfolding workOf
+returns-3 c =
+    rw (c .before .before .before .before .before .enum-told3 .given .1)
+    (record { got = c .before .before .non-vectored .ensures .got; board = c .before .before .non-vectored .ensures .board })
+
+same-length-4 : tie.Need-same-length-4
+same-length-4 c = c .before .before .vectored .ensures .board .lent .size ∙ sym (c .before .before .before .before .before .before .before .before .before .pre .lent .size)
+
+returns-4 : tie.Need-returns-4
+unfolding workOf
+returns-4 c =
+    rw (c .before .before .before .before .before .enum-told4 .given .1)
+    (record { got = c .before .before .vectored .ensures .got; board = c .before .before .vectored .ensures .board })
+
+returns-5 : tie.Need-returns-5
+unfolding workOf
+returns-5 c =
+    rw (c .enum-told5 .given .1)
+    (did refl (c .before .before .before .before .pre)
+    (got-give refl))
+
+pub work-spec : {M : Type 1} → statement M
+work-spec =
+    tie.close
+    (tie.spec
+    (λ c. search needs)
+    op-work-requires
+    (λ c. search needs)
+    restart-requires
+    (λ c. search needs)
+    non-vectored-requires
+    (λ c. search needs)
+    vectored-requires
+    (λ c. search needs)
+    same-length
+    returns
+    (λ c. search needs)
+    returns-2
+    same-length-3
+    returns-3
+    same-length-4
+    returns-4
+    returns-5)

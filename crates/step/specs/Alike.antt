@@ -1,0 +1,50 @@
+-- Demand 3 over the definitions, for a step: what stands at unfitted addresses can influence nothing.
+use Prim.Native.Nat.{ℕ}
+use mathlib.Core.Bool.{false}
+use mathlib.Core.List.{List}
+use mathlib.Core.Path.{_≡_, refl}
+use lib.ListN.{length, getD}
+use Rattle.board.specs.Work.{Work, Came, value, blank, run, fitted}
+use Rattle.board.specs.Alike.{Agree, Alike, both, neither, alike, kept}
+use Rattle.state.specs.declared.State.{State}
+use Rattle.state.specs.declared.Outside.{Outside}
+use Rattle.step.specs.Step.{After, after, stepOf, errorOf, orElse, kindOf, workOf, busError, causeOf, errorCauseOf}
+
+-- ---- two images that agree on fitted bytes
+
+pub record Same (map : List ℕ) (a b : After) : Type 0 where
+  pub state : a .state ≡ b .state
+  pub cause : a .cause ≡ b .cause
+  pub size : length (a .image) ≡ length (b .image)
+  pub agree : Agree map (a .image) (b .image)
+
+or-same : (map : List ℕ) {x y : Came State} (k : ℕ) {p q : After} → Alike map x y → Same map p q → Same map (orElse x k p) (orElse y k q)
+or-same map k (both l g) h = record { state = refl; cause = refl; size = l; agree = g }
+or-same map k neither h = h
+
+-- the same state and the same cause, and images that agree again
+pub step-alike : (map : List ℕ) (out : Outside) (s : State) (m n : List ℕ) → length m ≡ length n → Agree map m n → Same map (stepOf map out s m) (stepOf map out s n)
+unfolding stepOf errorOf
+step-alike map out s m n l g =
+    let k = kindOf (s .mode) (s .i2) out in
+    or-same map (causeOf k) (alike map (workOf k out s) m n l g)
+    (or-same map (errorCauseOf k) (alike map (busError k out s) m n l g) (record { state = refl; cause = refl; size = l; agree = g }))
+
+-- ---- unfitted bytes come back as lent
+
+-- the byte at every unfitted address is the same in both
+abbrev pub Untouched : List ℕ → List ℕ → List ℕ → Type 0
+Untouched map m n = (a : ℕ) → fitted map a ≡ false → getD n a 0 ≡ getD m a 0
+
+or-untouched : (map m : List ℕ) (w : Work State) (k : ℕ) (other : After) → Untouched map m (other .image) → Untouched map m (orElse (run map w m) k other .image)
+or-untouched map m w k other h a e = came (run map w m) refl
+  where
+    came : (c : Came State) → run map w m ≡ c → getD (orElse c k other .image) a 0 ≡ getD m a 0
+    came (value s n) r = kept map w m s n r a e
+    came (blank x) r = h a e
+
+pub step-untouched : (map : List ℕ) (out : Outside) (s : State) (m : List ℕ) → Untouched map m (stepOf map out s m .image)
+unfolding stepOf errorOf
+step-untouched map out s m =
+    let k = kindOf (s .mode) (s .i2) out in
+    or-untouched map m (workOf k out s) (causeOf k) _ (or-untouched map m (busError k out s) (errorCauseOf k) _ (λ a e. refl))

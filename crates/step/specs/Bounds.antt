@@ -1,0 +1,78 @@
+-- A step writes at most 11 words: XCT with SVCB or SVCC.
+use Prim.Native.Nat.{ℕ, _/_}
+use native.Mathlib.Omega.{arith}
+use mathlib.Core.Bool.{Bool}
+use lib.Dec.{eqb}
+use Rattle.plate.specs.Plate.{formatOf}
+use Rattle.board.specs.Bounded.{Bounded, gives, bounded-then, bounded-more}
+use Rattle.state.specs.declared.State.{State}
+use Rattle.state.specs.declared.Outside.{Outside}
+use Rattle.state.specs.Bounds.{bounded-pick, bounded-popReg, bounded-pop, bounded-fetch, bounded-fromLoc, bounded-pushBoth, bounded-trap}
+use Rattle.control.specs.Bounds.{bounded-lowCodes, bounded-tabled}
+use Rattle.operate.specs.Bounds.{bounded-format7, bounded-format9, bounded-format10}
+use Rattle.step.specs.declared.Kind.{Kind}
+use Rattle.step.specs.declared.Kind.the-variants.{OpCode, Restart, NonVectored, Vectored, Idle}
+use Rattle.step.specs.Execute.{further, byFormat, execute}
+use Rattle.step.specs.Xct.{Begin, code, abort, beginXct, begun, trace, traced, carry, opWork}
+use Rattle.step.specs.Step.{vectored, workOf, busError}
+
+bounded-further : (out : Outside) (f : ℕ) (s : State) (op : ℕ) → Bounded 9 (further out f s op)
+unfolding further
+bounded-further out f s op =
+    bounded-pick (eqb f 9) (bounded-more (omega arith) (bounded-format9 out s op))
+    (bounded-pick (eqb f 1) (bounded-lowCodes out s op) (bounded-more (omega arith) (bounded-trap s _ _)))
+
+bounded-byFormat : (out : Outside) (f : ℕ) (s : State) (op : ℕ) → Bounded 9 (byFormat out f s op)
+unfolding byFormat
+bounded-byFormat out f s op =
+    bounded-pick (eqb f 10) (bounded-more (omega arith) (bounded-format10 s op))
+    (bounded-pick (eqb f 7) (bounded-more (omega arith) (bounded-format7 out s op))
+    (bounded-pick (eqb f 5) (gives _) (bounded-pick (eqb f 6) (gives _) (bounded-further out f s op))))
+
+bounded-beginXct : (s : State) → Bounded 0 (beginXct s)
+unfolding beginXct
+bounded-beginXct s =
+    bounded-then {k = 0} (omega arith) (bounded-popReg s 7) λ s.
+    bounded-then {k = 0} (omega arith) (bounded-pop s) λ ps.
+    bounded-then {k = 0} (omega arith) (bounded-fetch _) λ op.
+    gives _
+
+bounded-begun : (s : State) (op : ℕ) → Bounded 0 (begun s op)
+unfolding begun
+bounded-begun s op = bounded-pick (eqb op 5) (bounded-beginXct s) (gives _)
+
+bounded-trace : (out : Outside) (s : State) → Bounded 2 (trace out s)
+unfolding trace
+bounded-trace out s = bounded-then {k = 0} (omega arith) (bounded-pushBoth s _) (λ s. bounded-fromLoc s _)
+
+bounded-traced : (out : Outside) (b : Bool) (s : State) → Bounded 2 (traced out b s)
+unfolding traced
+bounded-traced out b s = bounded-pick b (bounded-trace out s) (gives s)
+
+bounded-carry : (out : Outside) (b : Begin) → Bounded 11 (carry out b)
+unfolding carry
+bounded-carry out (code s op b) = bounded-then {k = 2} (omega arith) (bounded-byFormat out (formatOf (op / 256)) s op) (λ s. bounded-traced out b s)
+bounded-carry out (abort s) = bounded-more (omega arith) (bounded-trap s _ _)
+
+pub bounded-opWork : (out : Outside) (s : State) → Bounded 11 (opWork out s)
+unfolding opWork
+bounded-opWork out s =
+    bounded-then {k = 11} (omega arith) (bounded-fetch s) λ op.
+    bounded-then {k = 11} (omega arith) (bounded-begun _ _) λ next.
+    bounded-carry out next
+
+bounded-vectored : (out : Outside) (s : State) → Bounded 2 (vectored out s)
+unfolding vectored
+bounded-vectored out s = bounded-then {k = 0} (omega arith) (bounded-trap s _ _) (λ s. bounded-tabled s _)
+
+pub bounded-step : (k : Kind) (out : Outside) (s : State) → Bounded 15 (workOf k out s)
+unfolding workOf
+bounded-step OpCode out s = bounded-more (omega arith) (bounded-opWork out s)
+bounded-step (Restart cause) out s = bounded-more (omega arith) (bounded-fromLoc _ _)
+bounded-step NonVectored out s = bounded-more (omega arith) (bounded-trap s _ _)
+bounded-step Vectored out s = bounded-more (omega arith) (bounded-vectored out s)
+bounded-step (Idle cause) out s = gives s
+
+pub bounded-error : (k : Kind) (out : Outside) (s : State) → Bounded 15 (busError k out s)
+unfolding busError
+bounded-error k out s = bounded-more (omega arith) (bounded-trap _ _ _)

@@ -1,0 +1,77 @@
+// An op code executed, by its format on the plate. The formats met most are tested first.
+use state::Outside;
+use state::State;
+use state::Went;
+ghost use mathlib.Core.Path.{_≡_};
+ghost use Rattle.board.specs.Exec.{beside, Lent, Board, Saw};
+ghost use Rattle.state.specs.Answer.{Works, wentAs};
+ghost use Rattle.step.specs.Execute as Spec;
+
+fn reserved(s: State, image: &mut [u8], map: &[u8], log: &mut [u16; 32], out: Outside) -> Went
+    requires { ⌜ Board (now map) (beside (now image) (now log)) ⌝ }
+    ensures { λ r. ⌜ Works (now (map .entry)) (Spec.reserved out s) (now (image .entry)) (now (log .entry)) r (now (image .exit)) (now (log .exit)) ⌝ }
+{
+    s.trap(image, map, log, s.ps(out, false), 0x1a)
+}
+
+fn further(
+    s: State,
+    image: &mut [u8],
+    map: &[u8],
+    log: &mut [u16; 32],
+    out: Outside,
+    f: u8,
+    op: u16,
+) -> Went
+    requires { ⌜ Board (now map) (beside (now image) (now log)) ⌝ }
+    ensures { λ r. ⌜ Works (now (map .entry)) (Spec.further out f s op) (now (image .entry)) (now (log .entry)) r (now (image .exit)) (now (log .exit)) ⌝ }
+{
+    if f == 9 {
+        return operate::format9::format9(s, image, map, log, out, op);
+    }
+    if f == 1 {
+        return control::low_codes(s, image, map, log, out, op);
+    }
+    reserved(s, image, map, log, out)
+}
+
+fn by_format(
+    s: State,
+    image: &mut [u8],
+    map: &[u8],
+    log: &mut [u16; 32],
+    out: Outside,
+    f: u8,
+    op: u16,
+) -> Went
+    requires { ⌜ Board (now map) (beside (now image) (now log)) ⌝ }
+    ensures { λ r. ⌜ Works (now (map .entry)) (Spec.byFormat out f s op) (now (image .entry)) (now (log .entry)) r (now (image .exit)) (now (log .exit)) ⌝ }
+{
+    if f == 10 {
+        return operate::format10::format10(s, image, map, log, op);
+    }
+    if f == 7 {
+        return operate::format7::format7(s, image, map, log, out, op);
+    }
+    if f == 5 {
+        return Went::Done(operate::format5::branch(s, op));
+    }
+    if f == 6 {
+        return Went::Done(operate::format6::format6(s, op));
+    }
+    further(s, image, map, log, out, f, op)
+}
+
+pub(crate) fn execute(
+    s: State,
+    image: &mut [u8],
+    map: &[u8],
+    log: &mut [u16; 32],
+    out: Outside,
+    op: u16,
+) -> Went
+    requires { ⌜ Board (now map) (beside (now image) (now log)) ⌝ }
+    ensures { λ r. ⌜ Works (now (map .entry)) (Spec.execute out s op) (now (image .entry)) (now (log .entry)) r (now (image .exit)) (now (log .exit)) ⌝ }
+{
+    by_format(s, image, map, log, out, plate::format(op), op)
+}

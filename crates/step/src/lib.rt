@@ -1,0 +1,248 @@
+// One step, and power-up.
+use state::Mode;
+use state::Outside;
+use state::State;
+use state::Went;
+use state::hear;
+use state::plus;
+use xct::op_work;
+ghost use mathlib.Core.Path.{_≡_};
+ghost use Rattle.board.specs.Exec.{beside, Lent, Board, Saw};
+ghost use Rattle.state.specs.Answer.{Works, wentAs};
+ghost use Rattle.board.specs.Undo.{undone};
+ghost use Rattle.state.specs.State.{heard, pick};
+ghost use Rattle.step.specs.Step as Spec;
+
+mod execute;
+mod xct;
+
+// What is to be done after an op code's fetch: an op code to execute, traced or not; an XCT that is aborted.
+pub enum Begun {
+    Code(State, u16, bool),
+    Abort(State),
+    Blank(u16),
+}
+
+// What a line word makes of a step; a cause is known before the work for some.
+pub enum Kind {
+    OpCode,
+    Restart(u8),
+    NonVectored,
+    Vectored,
+    Idle(u8),
+}
+
+// The state after a step, and its cause.
+pub struct Turn {
+    pub state: State,
+    pub cause: u8,
+}
+
+fn raised(out: Outside, other: Kind) -> Kind
+    ensures { λ r. ⌜ r ≡ Spec.raised out other ⌝ }
+{
+    if out.i1 {
+        return Kind::NonVectored;
+    }
+    if out.i0 {
+        return Kind::Vectored;
+    }
+    other
+}
+
+fn asked(i2: bool, out: Outside, other: Kind) -> Kind
+    ensures { λ r. ⌜ r ≡ Spec.asked i2 out other ⌝ }
+{
+    if out.i3 {
+        return Kind::Restart(1);
+    }
+    if i2 {
+        return raised(out, other);
+    }
+    other
+}
+
+fn power_halted(out: Outside) -> Kind
+    ensures { λ r. ⌜ r ≡ pick (out .fail) (Kind.Idle 4) (Kind.Restart 0) ⌝ }
+{
+    if out.fail {
+        Kind::Idle(4)
+    } else {
+        Kind::Restart(0)
+    }
+}
+
+fn switch_halted(out: Outside) -> Kind
+    ensures { λ r. ⌜ r ≡ pick (out .i3) (Kind.Restart 1) (Kind.Idle 4) ⌝ }
+{
+    if out.i3 {
+        Kind::Restart(1)
+    } else {
+        Kind::Idle(4)
+    }
+}
+
+fn kind_of(mode: Mode, i2: bool, out: Outside) -> Kind
+    ensures { λ r. ⌜ r ≡ Spec.kindOf mode i2 out ⌝ }
+{
+    match mode {
+        Mode::Running => asked(i2, out, Kind::OpCode),
+        Mode::Waiting => asked(i2, out, Kind::Idle(4)),
+        Mode::PowerHalt => power_halted(out),
+        Mode::SwitchHalt => switch_halted(out),
+        Mode::Locked => Kind::Idle(8),
+    }
+}
+
+fn vector(out: Outside) -> u16
+    ensures { λ r. ⌜ r ≡ pick (out .fail) 0x14 0x2a ⌝ }
+{
+    if out.fail { 0x14 } else { 0x2a }
+}
+
+fn non_vectored(s: State, image: &mut [u8], map: &[u8], log: &mut [u16; 32], out: Outside) -> Went
+    requires { ⌜ Board (now map) (beside (now image) (now log)) ⌝ }
+    ensures { λ r. ⌜ Works (now (map .entry)) (Spec.nonVectored out s) (now (image .entry)) (now (log .entry)) r (now (image .exit)) (now (log .exit)) ⌝ }
+{
+    s.trap(image, map, log, s.ps(out, false), vector(out))
+}
+
+fn vectored(s: State, image: &mut [u8], map: &[u8], log: &mut [u16; 32], out: Outside) -> Went
+    requires { ⌜ Board (now map) (beside (now image) (now log)) ⌝ }
+    ensures { λ r. ⌜ Works (now (map .entry)) (Spec.vectored out s) (now (image .entry)) (now (log .entry)) r (now (image .exit)) (now (log .exit)) ⌝ }
+{
+    let went = s.trap(image, map, log, s.ps(out, false), 0x28);
+    let Went::Done(t) = went else {
+        return went;
+    };
+    control::format4::tabled(t, image, map, plus(t.regs.pc, plus(out.device, out.device)))
+}
+
+fn restart(s: State, image: &[u8], map: &[u8]) -> Went
+    requires { ⌜ Lent (now map) (now image) ⌝ }
+    ensures { λ r. ⌜ Saw (now (map .entry)) (Spec.restart s) (now (image .entry)) (wentAs r) ⌝ }
+{
+    s.with_mode(Mode::Running).from_loc(image, map, 0x16)
+}
+
+fn work(s: State, image: &mut [u8], map: &[u8], log: &mut [u16; 32], out: Outside, k: Kind) -> Went
+    requires { ⌜ Board (now map) (beside (now image) (now log)) ⌝ }
+    ensures { λ r. ⌜ Works (now (map .entry)) (Spec.workOf k out s) (now (image .entry)) (now (log .entry)) r (now (image .exit)) (now (log .exit)) ⌝ }
+{
+    match k {
+        Kind::OpCode => op_work(s, image, map, log, out),
+        Kind::Restart(_) => restart(s, image, map),
+        Kind::NonVectored => non_vectored(s, image, map, log, out),
+        Kind::Vectored => vectored(s, image, map, log, out),
+        Kind::Idle(_) => Went::Done(s),
+    }
+}
+
+fn cause_of(k: Kind) -> u8
+    ensures { λ r. ⌜ r ≡ Spec.causeOf k ⌝ }
+{
+    match k {
+        Kind::OpCode => 0,
+        Kind::Restart(cause) => cause,
+        Kind::NonVectored => 2,
+        Kind::Vectored => 3,
+        Kind::Idle(cause) => cause,
+    }
+}
+
+fn error_cause_of(k: Kind) -> u8
+    ensures { λ r. ⌜ r ≡ Spec.errorCauseOf k ⌝ }
+{
+    match k {
+        Kind::OpCode => 5,
+        Kind::Restart(_) => 7,
+        Kind::NonVectored => 6,
+        Kind::Vectored => 6,
+        Kind::Idle(_) => 8,
+    }
+}
+
+// Past the op code, if the step had come to one.
+fn past(k: Kind, s: State) -> State
+    ensures { λ r. ⌜ r ≡ Spec.past k s ⌝ }
+{
+    match k {
+        Kind::OpCode => s.with_pc(plus(s.regs.pc, 2)),
+        Kind::Restart(_) => s,
+        Kind::NonVectored => s,
+        Kind::Vectored => s,
+        Kind::Idle(_) => s,
+    }
+}
+
+fn bus_error(
+    s: State,
+    image: &mut [u8],
+    map: &[u8],
+    log: &mut [u16; 32],
+    out: Outside,
+    k: Kind,
+) -> Went
+    requires { ⌜ Board (now map) (beside (now image) (now log)) ⌝ }
+    ensures { λ r. ⌜ Works (now (map .entry)) (Spec.busError k out s) (now (image .entry)) (now (log .entry)) r (now (image .exit)) (now (log .exit)) ⌝ }
+{
+    let t = past(k, s);
+    t.trap(image, map, log, t.ps(out, true), 0x12)
+}
+
+// All the work is dropped; then the bus error, from the state before.
+fn error(s: State, image: &mut [u8], map: &[u8], log: &mut [u16; 32], out: Outside, k: Kind) -> Turn
+    requires { ⌜ Board (now map) (beside (now image) (now log)) ⌝ }
+    ensures { λ r. ⌜ Spec.Stepped (now (map .entry)) (Spec.errorOf (now (map .entry)) k out s (undone (beside (now (image .entry)) (now (log .entry))))) r (beside (now (image .exit)) (now (log .exit))) ⌝ }
+{
+    board::rollback(image, log);
+    if let Went::Done(t) = bus_error(s, image, map, log, out, k) {
+        return Turn {
+            state: t,
+            cause: error_cause_of(k),
+        };
+    }
+    board::rollback(image, log);
+    Turn {
+        state: s.with_mode(Mode::Locked),
+        cause: 8,
+    }
+}
+
+// One step on a board, with a log that may hold an earlier step's entries.
+pub fn step_on(s: State, image: &mut [u8], map: &[u8], log: &mut [u16; 32], out: Outside) -> Turn
+    requires { ⌜ Board (now map) (beside (now image) (now log)) ⌝ }
+    ensures { λ r. ⌜ Spec.Stepped (now (map .entry)) (Spec.stepOf (now (map .entry)) out s (now (image .entry))) r (beside (now (image .exit)) (now (log .exit))) ⌝ }
+{
+    board::clear(log);
+    let mode = s.mode;
+    let k = kind_of(mode, s.i2, out);
+    if let Went::Done(t) = work(s, image, map, log, out, k) {
+        return Turn {
+            state: t,
+            cause: cause_of(k),
+        };
+    }
+    error(s, image, map, log, out, k)
+}
+
+// One step by itself.
+pub fn step_once(s: State, image: &mut [u8], map: &[u8], line: u16) -> Turn
+    requires { ⌜ Lent (now map) (now image) ⌝ }
+    ensures { λ r. ⌜ Spec.Once (now (map .entry)) (Spec.stepOf (now (map .entry)) (heard line) s (now (image .entry))) r (now (image .exit)) ⌝ }
+{
+    let mut log = [0u16; 32];
+    step_on(s, image, map, &mut log, hear(line))
+}
+
+// PC from 16; locked where page 0 is unfitted.
+pub fn power(image: &[u8], map: &[u8]) -> State
+    requires { ⌜ Lent (now map) (now image) ⌝ }
+    ensures { λ r. ⌜ r ≡ Spec.powerUpOf (now (map .entry)) (now (image .entry)) ⌝ }
+{
+    let s = state::cleared();
+    if let Went::Done(t) = s.from_loc(image, map, 0x16) {
+        return t;
+    }
+    s.with_mode(Mode::Locked)
+}
