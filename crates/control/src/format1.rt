@@ -196,7 +196,7 @@ fn rsvc(s: State, image: &[u8], map: &[u8]) -> Went
     rtt(t.with_sp(plus(t.regs.sp, 2)), image, map)
 }
 
-pub fn format1(
+pub(crate) fn format1(
     s: State,
     image: &mut [u8],
     map: &[u8],

@@ -56,7 +56,7 @@ fn prtn(s: State, image: &[u8], map: &[u8], k: u16) -> Went
     rtn(s.with_sp(plus(sp, plus(tmp, tmp))), image, map, k)
 }
 
-pub fn format2(
+pub(crate) fn format2(
     s: State,
     image: &mut [u8],
     map: &[u8],
@@ -77,7 +77,7 @@ pub fn format2(
     }
 }
 
-pub fn lcc(s: State, op: u16) -> State
+pub(crate) fn lcc(s: State, op: u16) -> State
     ensures { λ r. ⌜ r ≡ Spec.lcc s op ⌝ }
 {
     s.with_flags(word::status::flags_of(op))

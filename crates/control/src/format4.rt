@@ -70,7 +70,7 @@ fn svc(
         .from_loc(image, map, at)
 }
 
-pub fn format4(
+pub(crate) fn format4(
     s: State,
     image: &mut [u8],
     map: &[u8],

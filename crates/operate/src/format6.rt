@@ -6,14 +6,14 @@ ghost use mathlib.Core.Path.{_≡_};
 ghost use Rattle.operate.specs.Format6 as Spec;
 
 // The register and the indicators, as an op code leaves them.
-pub fn with_done(s: State, k: u16, d: Done) -> State
+pub(crate) fn with_done(s: State, k: u16, d: Done) -> State
     ensures { λ r. ⌜ r ≡ Spec.withDone s k d ⌝ }
 {
     s.with_reg(k, d.value).with_flags(d.flags)
 }
 
 // REG, REG+1 and the indicators; the register after PC is R0.
-pub fn with_pair(s: State, k: u16, p: Pair) -> State
+pub(crate) fn with_pair(s: State, k: u16, p: Pair) -> State
     ensures { λ r. ⌜ r ≡ Spec.withPair s k p ⌝ }
 {
     s.with_reg(k, p.low)

@@ -114,7 +114,7 @@ fn ash(s: State, image: &[u8], map: &[u8], op: u16) -> Went
     Went::Done(with_done(t, k, done))
 }
 
-pub fn sob(s: State, op: u16) -> State
+fn sob(s: State, op: u16) -> State
     ensures { λ r. ⌜ r ≡ Spec.sob s op ⌝ }
 {
     let k = op / 64 % 8;

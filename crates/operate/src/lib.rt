@@ -7,7 +7,7 @@ pub mod format5;
 pub mod format6;
 pub mod format7;
 pub mod format9;
-pub mod operands;
+mod operands;
 
 // The state after decoding, the place of the operand, its value; or the address where nothing is fitted.
 pub enum Held {

@@ -16,7 +16,7 @@ ghost use Rattle.state.specs.Answer.{Works, wentAs};
 ghost use Rattle.operate.specs.Operands as Spec;
 ghost use Rattle.operate.specs.Operands.{heldAs};
 
-pub fn unheld(held: Held) -> Went
+pub(crate) fn unheld(held: Held) -> Went
     ensures { λ r. ⌜ r ≡ Spec.unheld held ⌝ }
 {
     match held {
@@ -35,7 +35,7 @@ fn nowhere(found: Found) -> Held
 }
 
 // DST of a word op code, decoded and read.
-pub fn destination_word(s: State, image: &[u8], map: &[u8], op: u16) -> Held
+pub(crate) fn destination_word(s: State, image: &[u8], map: &[u8], op: u16) -> Held
     requires { ⌜ Lent (now map) (now image) ⌝ }
     ensures { λ r. ⌜ Saw (now (map .entry)) (Spec.destination word s op) (now (image .entry)) (heldAs r) ⌝ }
 {
@@ -52,7 +52,7 @@ pub fn destination_word(s: State, image: &[u8], map: &[u8], op: u16) -> Held
 }
 
 // DST of a byte op code, decoded and read.
-pub fn destination_byte(s: State, image: &[u8], map: &[u8], op: u16) -> Held
+pub(crate) fn destination_byte(s: State, image: &[u8], map: &[u8], op: u16) -> Held
     requires { ⌜ Lent (now map) (now image) ⌝ }
     ensures { λ r. ⌜ Saw (now (map .entry)) (Spec.destination byte s op) (now (image .entry)) (heldAs r) ⌝ }
 {
