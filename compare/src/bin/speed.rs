@@ -1,5 +1,6 @@
 //! Runs the five programs of `programs.txt`, and tells where each ends and how fast
-//! it got there. An argument takes the place of the list's number of runs.
+//! it got there. An argument takes the place of the list's number of runs; after it, the
+//! name of a program has that one run alone, once.
 //!
 //! Of each program the line `end` has the bench line of the last run, the blanks of
 //! all runs and the sum of all bytes of the image, both in eight hex digits; a
@@ -47,10 +48,15 @@ fn main() {
     let asked: Option<usize> = std::env::args()
         .nth(1)
         .map(|runs| runs.parse().expect("a number of runs"));
+    let only = std::env::args().nth(2);
+    let times = if only.is_some() { 1 } else { MEASUREMENTS };
     for program in read_programs(LIST) {
+        if only.as_ref().is_some_and(|name| *name != program.name) {
+            continue;
+        }
         let runs = asked.unwrap_or(program.runs);
         let (end, mut best) = measure(&program, runs);
-        for _ in 1..MEASUREMENTS {
+        for _ in 1..times {
             best = best.min(measure(&program, runs).1);
         }
         let name = &program.name;

@@ -2,62 +2,8 @@
 use job::Answer;
 use libc::STDIN_FILENO;
 use libc::STDOUT_FILENO;
-use line::Place;
 use machine::Finished;
-use machine::First;
 use machine::Powered;
-use machine::Ran;
-use state::Mode;
-use state::State;
-
-// The registers in the line's order.
-fn registers(s: State) -> [u16; 8] {
-    [
-        s.regs.r0,
-        s.regs.r1,
-        s.regs.r2,
-        s.regs.r3,
-        s.regs.r4,
-        s.regs.r5,
-        s.regs.sp,
-        s.regs.pc,
-    ]
-}
-
-// The page's number of a mode.
-fn digit(mode: Mode) -> u8 {
-    match mode {
-        Mode::Running => 0,
-        Mode::Waiting => 1,
-        Mode::PowerHalt => 2,
-        Mode::SwitchHalt => 3,
-        Mode::Locked => 4,
-    }
-}
-
-fn place(first: First) -> Place {
-    match first {
-        First::At(at) => Place::At(at),
-        First::Never => Place::Nowhere,
-    }
-}
-
-// The line of a run's end.
-fn ended(text: &mut [u8], ran: Ran) -> usize {
-    let s = ran.state;
-    let tally = ran.tally;
-    let mode = s.mode;
-    let first = tally.first;
-    let ps = s.ps(state::hear(0), false);
-    line::write_line(
-        text,
-        registers(s),
-        ps,
-        digit(mode),
-        tally.blanks,
-        place(first),
-    )
-}
 
 // Runs over the line words from power-up.
 fn run_lines(text: &mut [u8], image: &mut [u8], map: &[u8], lines: &[u16]) -> usize {
@@ -65,7 +11,7 @@ fn run_lines(text: &mut [u8], image: &mut [u8], map: &[u8], lines: &[u16]) -> us
         Powered::Refused(why) => line::write_refused(text, why),
         Powered::Up(s) => match machine::run(s, image, map, lines) {
             Finished::Refused(why) => line::write_refused(text, why),
-            Finished::Done(ran) => ended(text, ran),
+            Finished::Done(ran) => report::write_end(text, ran),
         },
     }
 }

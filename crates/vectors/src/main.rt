@@ -14,6 +14,7 @@ use rig::SP;
 use rig::vector;
 use std::num::wrapping_add_u64;
 
+mod example;
 mod rig;
 
 // The page: branches, an illegal format, an interrupt through I0.
@@ -637,7 +638,8 @@ fn manual() -> u64 {
 }
 
 fn main() {
-    let total = wrapping_add_u64(page(), manual());
+    let examples = wrapping_add_u64(page(), example::bench_line());
+    let total = wrapping_add_u64(examples, manual());
     io::print_decimal(STDOUT_FILENO, total);
-    io::write_all(STDOUT_FILENO, b" of 28 ok\n");
+    io::write_all(STDOUT_FILENO, b" of 29 ok\n");
 }

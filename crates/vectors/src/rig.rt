@@ -37,7 +37,7 @@ fn get(image: &[u8], at: usize) -> u8 {
     if at < image.len() { image[at] } else { 0 }
 }
 
-fn put_word(image: &mut [u8], at: u16, word: u16) {
+pub fn put_word(image: &mut [u8], at: u16, word: u16) {
     put(image, at as usize, (word % 256) as u8);
     put(image, at as usize + 1, (word / 256) as u8);
 }

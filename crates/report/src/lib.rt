@@ -1,0 +1,63 @@
+// The line of a run's end: the machine's answer in the line's own fields.
+use line::Place;
+use machine::First;
+use machine::Ran;
+use state::Mode;
+use state::State;
+ghost use mathlib.Core.Path.{_≡_};
+ghost use Rattle.line.specs.Line.{left, written};
+ghost use Rattle.state.specs.State.{modeNumber};
+ghost use Rattle.report.specs.Report as Spec;
+
+// The registers in the line's order.
+fn registers(s: State) -> [u16; 8]
+    ensures { λ r. ⌜ r ≡ Spec.registers s ⌝ }
+{
+    [
+        s.regs.r0,
+        s.regs.r1,
+        s.regs.r2,
+        s.regs.r3,
+        s.regs.r4,
+        s.regs.r5,
+        s.regs.sp,
+        s.regs.pc,
+    ]
+}
+
+// The page's number of a mode.
+fn digit(mode: Mode) -> u8
+    ensures { λ r. ⌜ r ≡ modeNumber mode ⌝ }
+{
+    match mode {
+        Mode::Running => 0,
+        Mode::Waiting => 1,
+        Mode::PowerHalt => 2,
+        Mode::SwitchHalt => 3,
+        Mode::Locked => 4,
+    }
+}
+
+fn place(first: First) -> Place
+    ensures { λ r. ⌜ r ≡ Spec.placeOf first ⌝ }
+{
+    match first {
+        First::At(at) => Place::At(at),
+        First::Never => Place::Nowhere,
+    }
+}
+
+// Writes the line of a run's end and answers its length; a buffer that is too short is left as it is, and the answer is 0.
+pub fn write_end(text: &mut [u8], ran: Ran) -> usize
+    ensures { λ r. ⌜ left r (now (text .exit)) ≡ written (Spec.endText ran) (now (text .entry)) ⌝ }
+{
+    let s = ran.state;
+    let tally = ran.tally;
+    let mode = s.mode;
+    let first = tally.first;
+    let regs = registers(s);
+    let ps = s.ps(state::hear(0), false);
+    let number = digit(mode);
+    let at = place(first);
+    line::write_line(text, regs, ps, number, tally.blanks, at)
+}

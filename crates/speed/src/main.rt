@@ -1,0 +1,221 @@
+// Runs the five programs of compare/programs.txt, and prints where each ends. Standard input has the runs of each, a line each.
+use libc::STDIN_FILENO;
+use libc::STDOUT_FILENO;
+use line::Place;
+use machine::Finished;
+use machine::First;
+use machine::Powered;
+use machine::Ran;
+use machine::Tally;
+use state::Mode;
+use state::State;
+ghost use Prim.Native.Nat.{_<_};
+
+mod programs;
+
+fn index(page: u8) -> usize
+    ensures { λ r. ⌜ r < 256 ⌝ }
+{
+    page as usize
+}
+
+// Fits the pages of a program.
+fn fit(map: &mut [u8; 256], pages: &[u8]) {
+    let mut i: usize = 0;
+    while i < pages.len() {
+        let page = index(pages[i]);
+        map[page] = 1;
+        i += 1;
+    }
+}
+
+// The even address that stands above a word.
+fn address(word: u32) -> usize
+    ensures { λ r. ⌜ r < 65535 ⌝ }
+{
+    (word / 131072 * 2) as usize
+}
+
+fn low(word: u32) -> u8 {
+    (word % 256) as u8
+}
+
+// Puts the words of a program into the image.
+fn put(image: &mut [u8; 65536], words: &[u32]) {
+    let mut i: usize = 0;
+    while i < words.len() {
+        let word = words[i];
+        let at = address(word);
+        image[at] = low(word);
+        image[at + 1] = low(word / 256);
+        i += 1;
+    }
+}
+
+fn wide(byte: u8) -> u32 {
+    byte as u32
+}
+
+// The sum of all bytes.
+fn sum(image: &[u8]) -> u32 {
+    let mut total: u32 = 0;
+    let mut i: usize = 0;
+    while i < image.len() {
+        total = std::num::wrapping_add_u32(total, wide(image[i]));
+        i += 1;
+    }
+    total
+}
+
+// The page's digit of a mode.
+fn digit(mode: Mode) -> u8 {
+    match mode {
+        Mode::Running => 0,
+        Mode::Waiting => 1,
+        Mode::PowerHalt => 2,
+        Mode::SwitchHalt => 3,
+        Mode::Locked => 4,
+    }
+}
+
+fn place_of(first: First) -> Place {
+    match first {
+        First::At(place) => Place::At(place),
+        First::Never => Place::Nowhere,
+    }
+}
+
+// Bench's line of a run.
+fn print_line(ran: Ran) {
+    let s = ran.state;
+    let r = s.regs;
+    let mode = s.mode;
+    let tally = ran.tally;
+    let first = tally.first;
+    let regs = [r.r0, r.r1, r.r2, r.r3, r.r4, r.r5, r.sp, r.pc];
+    let ps = s.ps(state::hear(0), false);
+    let mut text = [0u8; 56];
+    line::write_line(
+        &mut text,
+        regs,
+        ps,
+        digit(mode),
+        tally.blanks,
+        place_of(first),
+    );
+    io::write_all(STDOUT_FILENO, &text);
+}
+
+// The last hex digit of a number.
+fn hex(number: u32) -> u8 {
+    let n = (number % 16) as u8;
+    if n < 10 { 48 + n } else { 55 + n }
+}
+
+fn print_nine(text: &[u8; 9]) {
+    io::write_all(STDOUT_FILENO, text);
+}
+
+// A space and eight hex digits.
+fn print_eight(number: u32) {
+    let mut text = *b" 00000000";
+    let mut left = number;
+    let mut i: usize = 8;
+    while 0 < i {
+        text[i] = hex(left);
+        left = left / 16;
+        i -= 1;
+    }
+    print_nine(&text);
+}
+
+// Where a program ends: its name, bench's line of the last run, the blanks of all runs, the sum of the image's bytes.
+fn print_end(name: &[u8], last: Ran, blanks: u32, image: &[u8]) {
+    io::write_all(STDOUT_FILENO, b"end ");
+    io::write_all(STDOUT_FILENO, name);
+    io::write_all(STDOUT_FILENO, b" ");
+    print_line(last);
+    print_eight(blanks);
+    print_eight(sum(image));
+    io::write_all(STDOUT_FILENO, b"\n");
+}
+
+// Each run goes on from the state and the image that the run before it left, over 4,096 quiet line words.
+fn repeat(name: &[u8], s: State, image: &mut [u8; 65536], map: &[u8; 256], runs: u16) {
+    let lines = [0u16; 4096];
+    let tally = Tally {
+        blanks: 0,
+        first: First::Never,
+    };
+    let mut last = Ran { state: s, tally };
+    let mut blanks: u32 = 0;
+    let mut i: u16 = 0;
+    while i < runs {
+        let state = last.state;
+        if let Finished::Done(ran) = machine::run(state, image, map, &lines) {
+            let tally = ran.tally;
+            blanks = std::num::wrapping_add_u32(blanks, tally.blanks as u32);
+            last = ran;
+        }
+        i += 1;
+    }
+    print_end(name, last, blanks, image);
+}
+
+fn powered(image: &[u8; 65536], map: &[u8; 256]) -> Powered {
+    machine::power_up(image, map)
+}
+
+// A program is powered up once.
+fn measure(name: &[u8], pages: &[u8], words: &[u32], runs: u16) {
+    let mut image = [0u8; 65536];
+    let mut map = [0u8; 256];
+    fit(&mut map, pages);
+    put(&mut image, words);
+    if let Powered::Up(s) = powered(&image, &map) {
+        repeat(name, s, &mut image, &map, runs);
+    }
+}
+
+// The program of a number.
+fn measure_at(k: u16, runs: u16) {
+    match k {
+        0 => measure(b"sob", &programs::SOB_PAGES, &programs::SOB, runs),
+        1 => measure(b"copy", &programs::COPY_PAGES, &programs::COPY, runs),
+        2 => measure(b"call", &programs::CALL_PAGES, &programs::CALL, runs),
+        3 => measure(b"byte", &programs::BYTE_PAGES, &programs::BYTE, runs),
+        4 => measure(b"storm", &programs::STORM_PAGES, &programs::STORM, runs),
+        _ => {}
+    }
+}
+
+// A digit more of a number of runs.
+fn with_digit(runs: u16, digit: u8) -> u16 {
+    if runs < 6553 {
+        if 48 <= digit {
+            if digit < 58 {
+                return runs * 10 + ((digit - 48) as u16);
+            }
+        }
+    }
+    runs
+}
+
+// Each line of the input is the number of runs of the next program.
+fn main() {
+    let mut text = [0u8; 64];
+    let n = io::read_full(STDIN_FILENO, &mut text);
+    let mut k: u16 = 0;
+    let mut runs: u16 = 0;
+    let mut i: usize = 0;
+    while i < n {
+        if text[i] == b'\n' {
+            measure_at(k, runs);
+            k = std::num::wrapping_add_u16(k, 1);
+            runs = 0;
+        } else {
+            runs = with_digit(runs, text[i]);
+        }
+        i += 1;
+    }
+}
