@@ -33,7 +33,7 @@ fn ran(image: &mut [u8], map: &[u8]) -> u64 {
 }
 
 // Page 00 fitted, three line words 0000.
-pub fn bench_line() -> u64 {
+pub(crate) fn bench_line() -> u64 {
     let mut image = io::large_buffer();
     let mut map = [0u8; 256];
     map[0] = 1;

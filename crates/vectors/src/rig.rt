@@ -37,7 +37,7 @@ fn get(image: &[u8], at: usize) -> u8 {
     if at < image.len() { image[at] } else { 0 }
 }
 
-pub fn put_word(image: &mut [u8], at: u16, word: u16) {
+pub(crate) fn put_word(image: &mut [u8], at: u16, word: u16) {
     put(image, at as usize, (word % 256) as u8);
     put(image, at as usize + 1, (word / 256) as u8);
 }
@@ -103,7 +103,7 @@ fn holds(name: &[u8], got: u64, want: u16) -> bool {
 }
 
 // Says that a vector is right; counts 1 then, else 0.
-pub fn count(name: &[u8], right: bool) -> u64 {
+pub(crate) fn count(name: &[u8], right: bool) -> u64 {
     if right {
         io::write_all(STDOUT_FILENO, name);
         io::write_all(STDOUT_FILENO, b" ok\n");
@@ -136,7 +136,7 @@ fn whole(s: State, image: &mut [u8], sets: [u16; 12]) -> State {
 }
 
 // Runs over line words with six places set and the op code at 0100, and looks at three places. Counts 1 where all is right.
-pub fn vector(name: &[u8], code: u16, sets: [u16; 12], lines: &[u16], wants: [u16; 6]) -> u64 {
+pub(crate) fn vector(name: &[u8], code: u16, sets: [u16; 12], lines: &[u16], wants: [u16; 6]) -> u64 {
     let mut image = io::large_buffer();
     let map = [1u8; 256];
     put_word(&mut image, 0x0100, code);
