@@ -136,7 +136,13 @@ fn whole(s: State, image: &mut [u8], sets: [u16; 12]) -> State {
 }
 
 // Runs over line words with six places set and the op code at 0100, and looks at three places. Counts 1 where all is right.
-pub(crate) fn vector(name: &[u8], code: u16, sets: [u16; 12], lines: &[u16], wants: [u16; 6]) -> u64 {
+pub(crate) fn vector(
+    name: &[u8],
+    code: u16,
+    sets: [u16; 12],
+    lines: &[u16],
+    wants: [u16; 6],
+) -> u64 {
     let mut image = io::large_buffer();
     let map = [1u8; 256];
     put_word(&mut image, 0x0100, code);
