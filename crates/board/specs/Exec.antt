@@ -11,7 +11,7 @@ use Rattle.board.specs.declared.Word.the-variants.{Value, Blank}
 use Rattle.board.specs.declared.Byte.{Byte}
 use Rattle.board.specs.declared.Byte.the-variants as Byte
 use Rattle.board.specs.declared.Kept.{Kept}
-use Rattle.board.specs.declared.Kept.the-variants.{Done, Missed}
+use Rattle.board.specs.declared.Kept.the-variants as Kept
 
 pub record Store : Type 0 where
   pub image : List ℕ
@@ -89,5 +89,5 @@ byteAs (Byte.Value v) st = good v st
 byteAs (Byte.Blank a) st = gone a st
 
 abbrev pub keptAs : Kept → Store → Now (Unit {0})
-keptAs Done st = good tt st
-keptAs (Missed a) st = gone a st
+keptAs Kept.Done st = good tt st
+keptAs (Kept.Blank a) st = gone a st

@@ -17,7 +17,7 @@ use Rattle.board.specs.declared.Word.the-variants.{Value, Blank}
 use Rattle.board.specs.declared.Byte.{Byte}
 use Rattle.board.specs.declared.Byte.the-variants as Byte
 use Rattle.board.specs.declared.Kept.{Kept}
-use Rattle.board.specs.declared.Kept.the-variants.{Done, Missed}
+use Rattle.board.specs.declared.Kept.the-variants as Kept
 
 abbrev pub after : {A B : Type 0} → Now A → (A → Store → Now B) → Now B
 after (good x st) f = f x st
@@ -149,8 +149,8 @@ byte-is {st = st} e = ap (λ z. byteAs z st) e
 pub byte-none : {r : Byte} {a : ℕ} {st : Store} → r ≡ Byte.Blank a → byteAs r st ≡ gone a st
 byte-none {st = st} e = ap (λ z. byteAs z st) e
 
-pub kept-is : {r : Kept} {st : Store} → r ≡ Done → keptAs r st ≡ good tt st
+pub kept-is : {r : Kept} {st : Store} → r ≡ Kept.Done → keptAs r st ≡ good tt st
 kept-is {st = st} e = ap (λ z. keptAs z st) e
 
-pub kept-none : {r : Kept} {a : ℕ} {st : Store} → r ≡ Missed a → keptAs r st ≡ gone a st
+pub kept-none : {r : Kept} {a : ℕ} {st : Store} → r ≡ Kept.Blank a → keptAs r st ≡ gone a st
 kept-none {st = st} e = ap (λ z. keptAs z st) e

@@ -23,7 +23,7 @@ pub enum Byte {
 // What a write answers.
 pub enum Kept {
     Done,
-    Missed(u16),
+    Blank(u16),
 }
 
 fn wide(b: u8) -> u16
@@ -124,7 +124,7 @@ pub fn store(image: &mut [u8], map: &[u8], log: &mut [u16; 32], a: u16, v: u16) 
         put_word(image, a, v);
         Kept::Done
     } else {
-        Kept::Missed(a)
+        Kept::Blank(a)
     }
 }
 
@@ -138,7 +138,7 @@ pub fn store_byte(image: &mut [u8], map: &[u8], log: &mut [u16; 32], a: u16, v: 
         image[at] = low(v);
         Kept::Done
     } else {
-        Kept::Missed(a)
+        Kept::Blank(a)
     }
 }
 

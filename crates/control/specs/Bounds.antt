@@ -10,7 +10,7 @@ use Rattle.state.specs.Bounds.{bounded-pick, bounded-push, bounded-pushReg, bou
 use Rattle.control.specs.Format1.{bpt, save, savs, rest, rtt, rrtn, rrtt, rsts, rsvc, format1}
 use Rattle.control.specs.Format2.{iak, rtn, msko, prtn, format2}
 use Rattle.control.specs.Format4.{tabled, svca, svc, format4}
-use Rattle.control.specs.Low.{lowCodes}
+use Rattle.control.specs.Low.{formats2to4, lowCodes}
 
 bounded-bpt : (out : Outside) (s : State) → Bounded 2 (bpt out s)
 unfolding bpt
@@ -140,7 +140,7 @@ bounded-format4 out s op =
 
 -- an op code of formats 1 to 4 writes at most nine times: SVCB and SVCC
 pub bounded-lowCodes : (out : Outside) (s : State) (op : ℕ) → Bounded 9 (lowCodes out s op)
-unfolding lowCodes
+unfolding lowCodes formats2to4
 bounded-lowCodes out s op =
     bounded-pick (ltb op 0x10) (bounded-format1 out s op)
     (bounded-pick (ltb op 0x30) (bounded-format2 out s op) (bounded-pick (ltb op 0x40) (gives _) (bounded-format4 out s op)))

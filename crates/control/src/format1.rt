@@ -196,7 +196,8 @@ fn rsvc(s: State, image: &[u8], map: &[u8]) -> Went
     rtt(t.with_sp(plus(t.regs.sp, 2)), image, map)
 }
 
-pub(crate) fn format1(
+// Format 1 by its number.
+fn by_number(
     s: State,
     image: &mut [u8],
     map: &[u8],
@@ -225,4 +226,34 @@ pub(crate) fn format1(
         14 => rsts(s, image, map, log),
         _ => rtt(s, image, map),
     }
+}
+
+// SAVE, REST and RTT are told first. The rest is called from two places, which keeps it out of line.
+pub(crate) fn format1(
+    s: State,
+    image: &mut [u8],
+    map: &[u8],
+    log: &mut [u16; 32],
+    out: Outside,
+    op: u16,
+) -> Went
+    requires { ⌜ Board (now map) (beside (now image) (now log)) ⌝ }
+    ensures { λ r. ⌜ Works (now (map .entry)) (Spec.format1 out s op) (now (image .entry)) (now (log .entry)) r (now (image .exit)) (now (log .exit)) ⌝ }
+{
+    if op == 10 {
+        let t = s;
+        return state::apart(save(t, image, map, log));
+    }
+    if op == 12 {
+        return rest(s, image, map);
+    }
+    if op == 15 {
+        return rtt(s, image, map);
+    }
+    let t = s;
+    let o = out;
+    if op < 8 {
+        return state::apart(by_number(t, image, map, log, o, op));
+    }
+    state::apart(by_number(t, image, map, log, o, op))
 }

@@ -26,7 +26,7 @@ fn iak(s: State, out: Outside, k: u16) -> State
     s.with_reg(k, acknowledge(out))
 }
 
-fn rtn(s: State, image: &[u8], map: &[u8], k: u16) -> Went
+pub(crate) fn rtn(s: State, image: &[u8], map: &[u8], k: u16) -> Went
     requires { ⌜ Lent (now map) (now image) ⌝ }
     ensures { λ r. ⌜ Saw (now (map .entry)) (Spec.rtn s k) (now (image .entry)) (wentAs r) ⌝ }
 {

@@ -19,7 +19,7 @@ use Rattle.operand.specs.Operand.{incrementDeferred, decrementDeferred, indexed
 use Rattle.operate.specs.Format5.{branch}
 use Rattle.operate.specs.Format6.{withDone, withPair, immediate, single, double, format6}
 use Rattle.operate.specs.Operands.{destination}
-use Rattle.operate.specs.Format7.{wordOf, byteOf, stored, modify, format7low, format7high, format7}
+use Rattle.operate.specs.Format7.{wordOf, byteOf, stored, modify, noResult, statusCode, format7}
 use Rattle.operate.specs.Format9.{ash, sob, div, presetCode, format9}
 use Rattle.operate.specs.Format10.{settle, onWords, moveByte, settleByte, onBytes, format10}
 use Rattle.optext.specs.Digits.{letters, digits, hexOf, hex4, hex2}
@@ -102,5 +102,5 @@ table =
 
 -- EVERY ROW HOLDS
 pub starred : map (λ (r : Row). r .got) table ≡ map (λ (r : Row). r .says) table
-unfolding table stepOf errorOf kindOf workOf busError opWork begun carry traced byFormat further formatOf run fitted even wordAt withWord withByte _>>=_ regOf setReg reg withReg withFlags withI2 withMode withStatus cleared psOf push pushReg pop popReg popStatus fetch fromLoc pushBoth trap incrementDeferred decrementDeferred indexed indexedDeferred locate moved decode readOf writeTo branch withDone withPair immediate single double format6 destination wordOf byteOf stored modify format7low format7high format7 ash sob div presetCode format9 settle onWords moveByte settleByte onBytes format10 turns taken textOf lineText rowOf theRow rows sepText modeText modeTakes plainText regText literalText upText downText offsetText regA regB registers hex4 hex2 hexOf digits addressed
+unfolding table stepOf errorOf kindOf workOf busError opWork begun carry traced byFormat further formatOf run fitted even wordAt withWord withByte _>>=_ regOf setReg reg withReg withFlags withI2 withMode withStatus cleared psOf push pushReg pop popReg popStatus fetch fromLoc pushBoth trap deferred incrementDeferred decrementDeferred indexed indexedDeferred locate moved decode readOf writeTo branch withDone withPair immediate single double format6 destination wordOf byteOf stored modify noResult statusCode format7 ash sob div presetCode format9 settle onWords moveByte settleByte onBytes format10 turns taken textOf lineText rowOf theRow rows sepText modeText modeTakes plainText regText literalText upText downText offsetText regA regB registers hex4 hex2 hexOf digits addressed
 starred = refl

@@ -37,12 +37,13 @@ fn noted(t: Tally, place: u16, cause: u8) -> Tally
     t
 }
 
-// The log is made once and cleared for each step.
+// The log is made once and cleared for each step; the plate is laid out once.
 pub(crate) fn run_on(s: State, image: &mut [u8], map: &[u8], lines: &[u16]) -> Ran
     requires { ⌜ (Lent (now map) (now image)) × (length (now lines) ≤ 4096) ⌝ }
     ensures { λ r. ⌜ Spec.Ended (now (map .entry)) (Spec.runOf (now (map .entry)) (now (lines .entry)) s (now (image .entry))) (Spec.ranOf r (now (image .exit))) (now (image .exit)) ⌝ }
 {
     let mut log = [0u16; 32];
+    let sheet = plate::PLATE;
     let mut state = s;
     let mut tally = Tally {
         blanks: 0,
@@ -50,7 +51,7 @@ pub(crate) fn run_on(s: State, image: &mut [u8], map: &[u8], lines: &[u16]) -> R
     };
     let mut i: usize = 0;
     while i < lines.len() {
-        let turn = step_on(state, image, map, &mut log, hear(lines[i]));
+        let turn = step_on(state, image, map, &mut log, hear(lines[i]), &sheet);
         state = turn.state;
         tally = noted(tally, i as u16, turn.cause);
         i += 1;

@@ -7,14 +7,14 @@ use Rattle.board.specs.Bounded.{Bounded, gives, bounded-then, bounded-load, bou
 use Rattle.state.specs.declared.State.{State}
 use Rattle.operand.specs.declared.Place.{Place}
 use Rattle.operand.specs.declared.Place.the-variants.{Reg, Mem}
-use Rattle.operand.specs.Operand.{locate, incrementDeferred, decrementDeferred, indexed, indexedDeferred, decode, moved, readOf, writeTo, stepOf}
+use Rattle.operand.specs.Operand.{locate, incrementDeferred, decrementDeferred, indexed, indexedDeferred, deferred, decode, moved, readOf, writeTo, incrementOf}
 
 -- a word read, and a place given
 one : (a : ℕ) (f : ℕ → Place) → Bounded 0 (load a >>= (λ v. give (f v)))
 one a f = bounded-then (omega arith) (bounded-load {n = 0} word a) (λ v. gives {n = 0} (f v))
 
 pub bounded-locate : (step k r pc mode : ℕ) → Bounded 0 (locate step k r pc mode)
-unfolding locate incrementDeferred decrementDeferred indexed indexedDeferred
+unfolding locate incrementDeferred decrementDeferred indexed indexedDeferred deferred
 bounded-locate step k r pc mode =
     bounded-getD mode
     (also (gives _) (also (gives _) (also (gives _) (also (one r _) (also (gives _) (also (one _ _) (also (one pc _) none)))))))

@@ -1,2 +1,3 @@
 pub mod Operand
+pub mod Modes
 pub mod Bounds

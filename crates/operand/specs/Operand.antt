@@ -1,10 +1,10 @@
 -- Operands: the eight addressing modes of the manual's chapter 2, and what is read from and written to a place.
-use Prim.Native.Nat.{ℕ, _+_, _*_, _/_, _%_, _≤_}
+use Prim.Native.Nat.{ℕ, _+_, _*_, _/_, _%_}
 use mathlib.Core.Bool.{Bool, true, false}
 use mathlib.Core.List.{List, [], _∷_}
 use mathlib.Core.Path.{_≡_, refl, ap, _∙_}
 use lib.Dec.{eqb, ltb}
-use lib.ListN.{getD, List·getD-eq-default}
+use lib.ListN.{getD}
 use Rattle.word.specs.Ops.{withLow}
 use Rattle.board.specs.Work.{Work, give, readAt, load, Size, word, byte}
 use Rattle.board.specs.Work as Work
@@ -24,44 +24,46 @@ use Rattle.operand.specs.declared.Found.{Found}
 use Rattle.operand.specs.declared.Found.the-variants as Found
 
 -- An increment or decrement is 2, but 1 for a byte unless the register is SP or PC.
-abbrev pub stepOf : Size → ℕ → ℕ
-stepOf word k = 2
-stepOf byte k = pick (ltb k 6) 1 2
+abbrev pub incrementOf : Size → ℕ → ℕ
+incrementOf word k = 2
+incrementOf byte k = pick (ltb k 6) 1 2
 
 -- With PC, modes 6 and 7 add the PC that stands after their offset.
 abbrev pub baseOf : ℕ → ℕ → ℕ → ℕ
 baseOf k r pc = pick (eqb k 7) (plus pc 2) r
 
+-- at an address stands the operand's; the register `which` moves to v
+unfoldable pub deferred : ℕ → ℕ → ℕ → Work Place
+deferred at which v = do
+  a ← load at
+  give (Mem a which v)
+
 -- Where the operand of a mode and a register k stands: in the register, or `Mem a which v`, at the address a, with the register `which` moved to v.
 -- r is what the register holds, pc the PC.
 module _ (step k r pc : ℕ) where
   -- REG: the register is the operand
-  abbrev direct : Work Place
+  abbrev pub direct : Work Place
   direct = give Reg
 
   -- @REG: the register contains the address
-  abbrev indirect : Work Place
+  abbrev pub indirect : Work Place
   indirect = give (Mem r k r)
 
   -- (REG)+: and is post-incremented
-  abbrev increment : Work Place
+  abbrev pub increment : Work Place
   increment = give (Mem r k (plus r step))
 
   -- @(REG)+: the register contains the address of the address, and is post-incremented by 2
   unfoldable pub incrementDeferred : Work Place
-  incrementDeferred = do
-    a ← load r
-    give (Mem a k (plus r 2))
+  incrementDeferred = deferred r k (plus r 2)
 
   -- -(REG): the register is predecremented and then contains the address
-  abbrev decrement : Work Place
+  abbrev pub decrement : Work Place
   decrement = give (Mem (minus r step) k (minus r step))
 
   -- @-(REG): predecremented by 2, it contains the address of the address
   unfoldable pub decrementDeferred : Work Place
-  decrementDeferred = do
-    a ← load (minus r 2)
-    give (Mem a k (minus r 2))
+  decrementDeferred = deferred (minus r 2) k (minus r 2)
 
   -- X(REG): the register plus the next word is the address
   unfoldable pub indexed : Work Place
@@ -73,22 +75,12 @@ module _ (step k r pc : ℕ) where
   unfoldable pub indexedDeferred : Work Place
   indexedDeferred = do
     x ← load pc
-    a ← load (plus (baseOf k r pc) x)
-    give (Mem a 7 (plus pc 2))
+    deferred (plus (baseOf k r pc) x) 7 (plus pc 2)
 
   -- modes 0 to 7
   unfoldable pub locate : ℕ → Work Place
   locate mode =
       getD (direct ∷ indirect ∷ increment ∷ incrementDeferred ∷ decrement ∷ decrementDeferred ∷ indexed ∷ []) mode indexedDeferred
-
--- a mode that is none of 0 to 6
-pub locate-last : (step k r pc mode : ℕ) → 7 ≤ mode → locate step k r pc mode ≡ indexedDeferred step k r pc
-unfolding locate
-locate-last step k r pc mode h =
-    List·getD-eq-default
-    (direct step k r pc ∷ indirect step k r pc ∷ increment step k r pc ∷ incrementDeferred step k r pc ∷ decrement step k r pc ∷ decrementDeferred step k r pc ∷ indexed step k r pc ∷ [])
-    (indexedDeferred step k r pc)
-    h
 
 -- the state with the register moved
 unfoldable pub moved : State → Place → State
@@ -106,7 +98,7 @@ seen s k p = record { state = s; register = k; place = p }
 
 unfoldable pub decode : Size → State → ℕ → ℕ → Work Seen
 decode z s mode k = do
-  p ← locate (stepOf z k) k (reg s k) (s .regs .pc) mode
+  p ← locate (incrementOf z k) k (reg s k) (s .regs .pc) mode
   give (seen (moved s p) k p)
 
 -- what of a register is the operand: all of it, or its lower byte
@@ -162,13 +154,13 @@ word-unplaced e h = found-none (e ∙ ap unplaced h)
 
 -- a place that was found decodes the operand
 pub decoded : {map : List ℕ} (z : Size) (s : State) (mode k : ℕ) {st : Store} {t : State} {r : Found} {p : Place}
-    → Got map (locate (stepOf z k) k (reg s k) (s .regs .pc) mode) st (foundAs r st) → r ≡ Found.At p → t ≡ moved s p
+    → Got map (locate (incrementOf z k) k (reg s k) (s .regs .pc) mode) st (foundAs r st) → r ≡ Found.At p → t ≡ moved s p
     → Got map (decode z s mode k) st (good (seen t k p) st)
 unfolding decode
 decoded z s mode k g e h = got-then _ g (found-is e) (got-give (rw h))
 
 pub undecoded : {map : List ℕ} (z : Size) (s : State) (mode k : ℕ) {st : Store} {r : Found} {a : ℕ}
-    → Got map (locate (stepOf z k) k (reg s k) (s .regs .pc) mode) st (foundAs r st) → r ≡ Found.Blank a
+    → Got map (locate (incrementOf z k) k (reg s k) (s .regs .pc) mode) st (foundAs r st) → r ≡ Found.Blank a
     → Got map (decode z s mode k) st (gone a st)
 unfolding decode
 undecoded z s mode k g e = got-gone _ g (found-none e) refl

@@ -13,6 +13,7 @@ ghost use Rattle.board.specs.Work.{word, byte};
 ghost use Rattle.board.specs.Exec.{beside, Lent, Board, Saw, wordAs, byteAs};
 ghost use Rattle.state.specs.Answer.{Works};
 ghost use Rattle.operand.specs.Operand as Spec;
+ghost use Rattle.operand.specs.Modes as Modes;
 ghost use Rattle.operand.specs.Operand.{foundAs};
 
 // Where an operand stands: in its register; or in memory, at an address, with a register moved to a value.
@@ -38,7 +39,7 @@ pub fn unfound(found: Found) -> Went
 
 // The increment or decrement of a byte op code: 1, but 2 for SP and PC.
 pub fn byte_step(k: u16) -> u16
-    ensures { λ r. ⌜ r ≡ Spec.stepOf byte k ⌝ }
+    ensures { λ r. ⌜ r ≡ Spec.incrementOf byte k ⌝ }
 {
     if k < 6 { 1 } else { 2 }
 }
@@ -47,55 +48,6 @@ fn base(k: u16, r: u16, pc: u16) -> u16
     ensures { λ b. ⌜ b ≡ Spec.baseOf k r pc ⌝ }
 {
     if k == 7 { plus(pc, 2) } else { r }
-}
-
-// @(REG)+
-fn increment_deferred(image: &[u8], map: &[u8], step: u16, k: u16, r: u16, pc: u16) -> Found
-    requires { ⌜ Lent (now map) (now image) ⌝ }
-    ensures { λ f. ⌜ Saw (now (map .entry)) (Spec.incrementDeferred step k r pc) (now (image .entry)) (foundAs f) ⌝ }
-{
-    match board::load(image, map, r) {
-        Word::Value(a) => Found::At(Place::Mem(a, k, plus(r, 2))),
-        Word::Blank(a) => Found::Blank(a),
-    }
-}
-
-// @-(REG)
-fn decrement_deferred(image: &[u8], map: &[u8], step: u16, k: u16, r: u16, pc: u16) -> Found
-    requires { ⌜ Lent (now map) (now image) ⌝ }
-    ensures { λ f. ⌜ Saw (now (map .entry)) (Spec.decrementDeferred step k r pc) (now (image .entry)) (foundAs f) ⌝ }
-{
-    let at = minus(r, 2);
-    match board::load(image, map, at) {
-        Word::Value(a) => Found::At(Place::Mem(a, k, at)),
-        Word::Blank(a) => Found::Blank(a),
-    }
-}
-
-// X(REG)
-fn indexed(image: &[u8], map: &[u8], step: u16, k: u16, r: u16, pc: u16) -> Found
-    requires { ⌜ Lent (now map) (now image) ⌝ }
-    ensures { λ f. ⌜ Saw (now (map .entry)) (Spec.indexed step k r pc) (now (image .entry)) (foundAs f) ⌝ }
-{
-    match board::load(image, map, pc) {
-        Word::Value(x) => Found::At(Place::Mem(plus(base(k, r, pc), x), 7, plus(pc, 2))),
-        Word::Blank(a) => Found::Blank(a),
-    }
-}
-
-// @X(REG)
-fn indexed_deferred(image: &[u8], map: &[u8], step: u16, k: u16, r: u16, pc: u16) -> Found
-    requires { ⌜ Lent (now map) (now image) ⌝ }
-    ensures { λ f. ⌜ Saw (now (map .entry)) (Spec.indexedDeferred step k r pc) (now (image .entry)) (foundAs f) ⌝ }
-{
-    let offset = board::load(image, map, pc);
-    let Word::Value(x) = offset else {
-        return unplaced(offset);
-    };
-    match board::load(image, map, plus(base(k, r, pc), x)) {
-        Word::Value(a) => Found::At(Place::Mem(a, 7, plus(pc, 2))),
-        Word::Blank(a) => Found::Blank(a),
-    }
 }
 
 fn unplaced(word: Word) -> Found
@@ -107,21 +59,57 @@ fn unplaced(word: Word) -> Found
     }
 }
 
-// Modes 1 to 7.
-fn reach(image: &[u8], map: &[u8], step: u16, k: u16, r: u16, pc: u16, mode: u16) -> Found
+// At an address stands the operand's; a register moves.
+fn deferred(image: &[u8], map: &[u8], at: u16, which: u16, v: u16) -> Found
     requires { ⌜ Lent (now map) (now image) ⌝ }
-    ensures { λ f. ⌜ Saw (now (map .entry)) (Spec.locate step k r pc mode) (now (image .entry)) (foundAs f) ⌝ }
+    ensures { λ f. ⌜ Saw (now (map .entry)) (Spec.deferred at which v) (now (image .entry)) (foundAs f) ⌝ }
 {
-    match mode {
-        0 => Found::At(Place::Reg),
-        1 => Found::At(Place::Mem(r, k, r)),
-        2 => Found::At(Place::Mem(r, k, plus(r, step))),
-        3 => increment_deferred(image, map, step, k, r, pc),
-        4 => Found::At(Place::Mem(minus(r, step), k, minus(r, step))),
-        5 => decrement_deferred(image, map, step, k, r, pc),
-        6 => indexed(image, map, step, k, r, pc),
-        _ => indexed_deferred(image, map, step, k, r, pc),
+    match board::load(image, map, at) {
+        Word::Value(a) => Found::At(Place::Mem(a, which, v)),
+        Word::Blank(a) => Found::Blank(a),
     }
+}
+
+// Modes 3 and 5: the register points to the operand's address.
+fn defers(mode: u16) -> bool
+    ensures { λ b. ⌜ b ≡ Modes.defers mode ⌝ }
+{
+    (mode % 2 == 1) & (mode != 1)
+}
+
+// What the register moves by; past an address, by 2.
+fn stride(step: u16, mode: u16) -> u16
+    ensures { λ n. ⌜ n ≡ Modes.stride step mode ⌝ }
+{
+    if mode % 2 == 1 { 2 } else { step }
+}
+
+// Where the register points, predecremented in modes 4 and 5.
+fn pointer(r: u16, by: u16, mode: u16) -> u16
+    ensures { λ a. ⌜ a ≡ Modes.pointer r by mode ⌝ }
+{
+    if 3 < mode { minus(r, by) } else { r }
+}
+
+// What it points to afterwards, postincremented in modes 2 and 3.
+fn beyond(at: u16, by: u16, mode: u16) -> u16
+    ensures { λ a. ⌜ a ≡ Modes.beyond at by mode ⌝ }
+{
+    if mode / 2 == 1 { plus(at, by) } else { at }
+}
+
+// Modes 1 to 5: the register points to the operand, or to its address.
+fn pointed(image: &[u8], map: &[u8], step: u16, k: u16, r: u16, mode: u16) -> Found
+    requires { ⌜ Lent (now map) (now image) ⌝ }
+    ensures { λ f. ⌜ Saw (now (map .entry)) (Modes.pointed step k r mode) (now (image .entry)) (foundAs f) ⌝ }
+{
+    let by = stride(step, mode);
+    let at = pointer(r, by, mode);
+    let next = beyond(at, by, mode);
+    if defers(mode) {
+        return deferred(image, map, at, k, next);
+    }
+    Found::At(Place::Mem(at, k, next))
 }
 
 // Where the operand of a mode and a register stands; a register operand, the commonest, is told at once.
@@ -132,7 +120,19 @@ pub fn locate(image: &[u8], map: &[u8], step: u16, k: u16, r: u16, pc: u16, mode
     if mode == 0 {
         return Found::At(Place::Reg);
     }
-    reach(image, map, step, k, r, pc, mode)
+    if mode < 6 {
+        return pointed(image, map, step, k, r, mode);
+    }
+    let offset = board::load(image, map, pc);
+    let Word::Value(x) = offset else {
+        return unplaced(offset);
+    };
+    let at = plus(base(k, r, pc), x);
+    let next = plus(pc, 2);
+    if 6 < mode {
+        return deferred(image, map, at, 7, next);
+    }
+    Found::At(Place::Mem(at, 7, next))
 }
 
 // The state with the register moved that decoding moves.

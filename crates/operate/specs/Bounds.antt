@@ -17,7 +17,7 @@ use Rattle.operand.specs.declared.Place.the-variants.{Reg, Mem}
 use Rattle.operand.specs.Bounds.{bounded-decode, bounded-read, bounded-write}
 use Rattle.control.specs.Bounds.{bounded-tabled}
 use Rattle.operate.specs.Operands.{destination}
-use Rattle.operate.specs.Format7.{placeOf, stored, modify, tcall, tjmp, lsts, ssts, format7low, format7high, format7}
+use Rattle.operate.specs.Format7.{placeOf, stored, modify, tcall, tjmp, lsts, ssts, statusCode, noResult, onWord, format7}
 use Rattle.operate.specs.Format9.{call, jsrTo, jsr, leaTo, lea, ash, xch, ashc, mul, div, presetCode, format9}
 use Rattle.operate.specs.Format10.{stores, settle, onWords, moveByte, settleByte, onBytes, format10}
 
@@ -34,7 +34,10 @@ bounded-stored z op at s p v = bounded-pick (eqb at 2) (gives _) (bounded-write 
 
 bounded-modify : (z : Size) (s : State) (op at : ℕ) → Bounded 2 (modify z s op at)
 unfolding modify
-bounded-modify z s op at = bounded-then {k = 1} (omega arith) (bounded-destination z s op) (λ o. bounded-stored z op at _ _ _)
+bounded-modify z s op at =
+    bounded-then {k = 1} (omega arith) (bounded-decode z s _ _) λ to.
+    bounded-then {k = 1} (omega arith) (bounded-read z _ _) λ d.
+    bounded-stored z op at _ _ _
 
 bounded-tcall : (s : State) (op : ℕ) → Bounded 2 (tcall s op)
 unfolding tcall
@@ -56,12 +59,12 @@ unfolding ssts
 bounded-ssts out s op = bounded-then {k = 1} (omega arith) (bounded-destination word s op) (λ o. bounded-write word _ _ _ _)
 
 pub bounded-format7 : (out : Outside) (s : State) (op : ℕ) → Bounded 2 (format7 out s op)
-unfolding format7 format7low format7high
+unfolding format7 noResult statusCode
 bounded-format7 out s op =
-    bounded-pick (ltb op 0x8000)
-    (bounded-pick (ltb (placeOf op) 14) (bounded-modify word s op _) (bounded-pick (eqb (placeOf op) 14) (bounded-tcall s op) (bounded-tjmp s op)))
+    bounded-pick (onWord op (placeOf op)) (bounded-modify word s op _)
     (bounded-pick (ltb (placeOf op) 12) (bounded-modify byte s op _)
-    (bounded-pick (ltb 13 (placeOf op)) (bounded-modify word s op _)
+    (bounded-pick (ltb op 0x8000)
+    (bounded-pick (eqb (placeOf op) 14) (bounded-tcall s op) (bounded-tjmp s op))
     (bounded-pick (eqb (placeOf op) 12) (bounded-lsts s op) (bounded-ssts out s op))))
 
 bounded-call : (s : State) (r a : ℕ) → Bounded 2 (call s r a)
@@ -110,7 +113,7 @@ bounded-presetCode : (out : Outside) (s : State) (op : ℕ) → Bounded 2 (prese
 unfolding presetCode
 bounded-presetCode out s op =
     bounded-getD (op / 512 % 8)
-    (also (bounded-jsr out s op)
+    (also (gives s)
     (also (bounded-lea out s op)
     (also (bounded-ash s op)
     (also (gives s)
@@ -122,7 +125,7 @@ bounded-presetCode out s op =
 
 pub bounded-format9 : (out : Outside) (s : State) (op : ℕ) → Bounded 2 (format9 out s op)
 unfolding format9
-bounded-format9 out s op = bounded-pick (eqb (op / 512 % 8) 3) (gives _) (bounded-presetCode out (withFlags s preset) op)
+bounded-format9 out s op = bounded-pick (eqb (op / 512 % 8) 3) (gives _) (bounded-pick (eqb (op / 512 % 8) 0) (bounded-jsr out (withFlags s preset) op) (bounded-presetCode out (withFlags s preset) op))
 
 bounded-settle : (b : Binary) (s : State) (k : ℕ) (p : Place) (v : ℕ) → Bounded 1 (settle b s k p v)
 unfolding settle

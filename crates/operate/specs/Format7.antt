@@ -13,7 +13,7 @@ use Rattle.state.specs.declared.Outside.{Outside}
 use Rattle.state.specs.State.{withPc, withFlags, withStatus, psOf, plus, pick}
 use Rattle.state.specs.Stack.{push}
 use Rattle.operand.specs.declared.Place.{Place}
-use Rattle.operand.specs.Operand.{writeTo}
+use Rattle.operand.specs.Operand.{decode, value, writeTo}
 use Rattle.control.specs.Format4.{tabled}
 use Rattle.operate.specs.Operands.{destination}
 
@@ -40,7 +40,7 @@ byteOf op at d f = unaryOf 8 (unaryAt at) (inRegister op) d f
 
 abbrev pub resultOf : Size → ℕ → ℕ → ℕ → Flags → Done
 resultOf word op at d f = wordOf op at d f
-resultOf byte op at d f = byteOf op at (d % 256) f
+resultOf byte op at d f = byteOf op at d f
 
 -- TST and TSTB set the indicators and write nothing
 unfoldable pub stored : Size → ℕ → ℕ → State → Place → ℕ → Work State
@@ -49,8 +49,9 @@ stored z op at s p v = pick (eqb at 2) (give s) (writeTo z s (op % 8) p v)
 -- (DST) ← its result; the indicators
 unfoldable pub modify : Size → State → ℕ → ℕ → Work State
 modify z s op at = do
-  o ← destination z s op
-  stored z op at (withFlags (o .state) (resultOf z op at (o .operand) (o .state .flags) .flags)) (o .place) (resultOf z op at (o .operand) (o .state .flags) .value)
+  to ← decode z s (op / 8 % 8) (op % 8)
+  d ← value z to
+  stored z op at (withFlags (to .state) (resultOf z op at d (to .state .flags) .flags)) (to .place) (resultOf z op at d (to .state .flags) .value)
 
 -- TCALL: ↓ SP, @SP ← PC; PC ← PC + (DST); PC ← PC + @PC
 unfoldable pub tcall : State → ℕ → Work State
@@ -77,14 +78,21 @@ ssts out s op = do
   o ← destination word s op
   writeTo word (o .state) (op % 8) (o .place) (psOf out false (o .state))
 
--- 0A00 to 0D7F words, 0D80 TCALL, 0DC0 TJMP
-unfoldable pub format7low : State → ℕ → ℕ → Work State
-format7low s op at = pick (ltb at 14) (modify word s op at) (pick (eqb at 14) (tcall s op) (tjmp s op))
+-- 8D00 LSTS, 8D40 SSTS
+unfoldable pub statusCode : Outside → State → ℕ → ℕ → Work State
+statusCode out s op at = pick (eqb at 12) (lsts s op) (ssts out s op)
 
--- 8A00 to 8CFF bytes, 8D00 LSTS, 8D40 SSTS, 8D80 and 8DC0 words
-unfoldable pub format7high : Outside → State → ℕ → ℕ → Work State
-format7high out s op at =
-    pick (ltb at 12) (modify byte s op at) (pick (ltb 13 at) (modify word s op at) (pick (eqb at 12) (lsts s op) (ssts out s op)))
+-- these two; 0D80 TCALL, 0DC0 TJMP
+unfoldable pub noResult : Outside → State → ℕ → ℕ → Work State
+noResult out s op at = pick (ltb op 0x8000) (pick (eqb at 14) (tcall s op) (tjmp s op)) (statusCode out s op at)
 
+-- 0A00 to 0D7F, and 8D80, 8DC0
+abbrev pub onWord : ℕ → ℕ → Bool
+onWord op at = pick (ltb op 0x8000) (ltb at 14) (ltb 13 at)
+
+-- on words; 8A00 to 8CFF on bytes; the others
 unfoldable pub format7 : Outside → State → ℕ → Work State
-format7 out s op = pick (ltb op 0x8000) (format7low s op (placeOf op)) (format7high out s op (placeOf op))
+format7 out s op =
+    pick (onWord op (placeOf op)) (modify word s op (placeOf op))
+    (pick (ltb (placeOf op) 12) (modify byte s op (placeOf op))
+    (noResult out s op (placeOf op)))

@@ -90,9 +90,9 @@ div s op = do
       (withPair (o .state) (op / 64 % 8)
       (divOf (reg (o .state) (op / 64 % 8)) (reg (o .state) (next (op / 64 % 8))) (o .operand)))
 
--- with the indicators preset: JSR 7000, LEA 7200, ASH 7400, (SOB 7600,) XCH 7800, ASHC 7A00, MUL 7C00, DIV 7E00
+-- (JSR 7000,) LEA 7200, ASH 7400, (SOB 7600,) XCH 7800, ASHC 7A00, MUL 7C00, DIV 7E00
 abbrev codes9 : Outside → State → ℕ → List (Work State)
-codes9 out s op = jsr out s op ∷ lea out s op ∷ ash s op ∷ give s ∷ xch s op ∷ ashc s op ∷ mul s op ∷ []
+codes9 out s op = give s ∷ lea out s op ∷ ash s op ∷ give s ∷ xch s op ∷ ashc s op ∷ mul s op ∷ []
 
 unfoldable pub presetCode : Outside → State → ℕ → Work State
 presetCode out s op = getD (codes9 out s op) (op / 512 % 8) (div s op)
@@ -101,5 +101,8 @@ pub presetCode-last : (out : Outside) (s : State) (op : ℕ) → 7 ≤ op / 512 
 unfolding presetCode
 presetCode-last out s op h = List·getD-eq-default (codes9 out s op) (div s op) h
 
+-- SOB by itself; JSR and the others with the indicators preset
 unfoldable pub format9 : Outside → State → ℕ → Work State
-format9 out s op = pick (eqb (op / 512 % 8) 3) (give (sob s op)) (presetCode out (withFlags s preset) op)
+format9 out s op =
+    pick (eqb (op / 512 % 8) 3) (give (sob s op))
+    (pick (eqb (op / 512 % 8) 0) (jsr out (withFlags s preset) op) (presetCode out (withFlags s preset) op))

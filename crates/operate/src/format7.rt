@@ -1,13 +1,23 @@
 // Format 7: one operand.
 use super::Held;
-use super::operands::destination_byte;
 use super::operands::destination_word;
 use super::operands::unheld;
+use board::Byte;
+use board::Word;
+use operand::Found;
 use operand::Place;
+use operand::byte_step;
+use operand::locate;
+use operand::moved;
+use operand::read_byte;
+use operand::read_word;
+use operand::unfound;
 use state::Outside;
 use state::State;
 use state::Went;
 use state::plus;
+use state::unread;
+use state::unread_byte;
 use word::Done;
 use word::Flags;
 ghost use mathlib.Core.Path.{_≡_};
@@ -107,9 +117,15 @@ fn modify_word(
     requires { ⌜ Board (now map) (beside (now image) (now log)) ⌝ }
     ensures { λ r. ⌜ Works (now (map .entry)) (Spec.modify word s op at) (now (image .entry)) (now (log .entry)) r (now (image .exit)) (now (log .exit)) ⌝ }
 {
-    let held = destination_word(s, image, map, op);
-    let Held::At(t, place, d) = held else {
-        return unheld(held);
+    let k = op % 8;
+    let found = locate(image, map, 2, k, s.reg(k), s.regs.pc, op / 8 % 8);
+    let Found::At(place) = found else {
+        return unfound(found);
+    };
+    let t = moved(s, place);
+    let got = read_word(image, map, place, t.reg(k));
+    let Word::Value(d) = got else {
+        return unread(got);
     };
     let done = word_result(op, at, d, t.flags);
     stored_word(
@@ -136,11 +152,17 @@ fn modify_byte(
     requires { ⌜ Board (now map) (beside (now image) (now log)) ⌝ }
     ensures { λ r. ⌜ Works (now (map .entry)) (Spec.modify byte s op at) (now (image .entry)) (now (log .entry)) r (now (image .exit)) (now (log .exit)) ⌝ }
 {
-    let held = destination_byte(s, image, map, op);
-    let Held::At(t, place, d) = held else {
-        return unheld(held);
+    let k = op % 8;
+    let found = locate(image, map, byte_step(k), k, s.reg(k), s.regs.pc, op / 8 % 8);
+    let Found::At(place) = found else {
+        return unfound(found);
     };
-    let done = byte_result(op, at, (d % 256) as u8, t.flags);
+    let t = moved(s, place);
+    let got = read_byte(image, map, place, t.reg(k));
+    let Byte::Value(d) = got else {
+        return unread_byte(got);
+    };
+    let done = byte_result(op, at, d, t.flags);
     stored_byte(
         t.with_flags(done.flags),
         image,
@@ -201,27 +223,14 @@ fn ssts(s: State, image: &mut [u8], map: &[u8], log: &mut [u16; 32], out: Outsid
     operand::write_word(t, image, map, log, op % 8, place, t.ps(out, false))
 }
 
-fn format7_low(
-    s: State,
-    image: &mut [u8],
-    map: &[u8],
-    log: &mut [u16; 32],
-    op: u16,
-    at: u16,
-) -> Went
-    requires { ⌜ Board (now map) (beside (now image) (now log)) ⌝ }
-    ensures { λ r. ⌜ Works (now (map .entry)) (Spec.format7low s op at) (now (image .entry)) (now (log .entry)) r (now (image .exit)) (now (log .exit)) ⌝ }
+// 0A00 to 0D7F, and 8D80, 8DC0.
+fn on_word(op: u16, at: u16) -> bool
+    ensures { λ r. ⌜ r ≡ Spec.onWord op at ⌝ }
 {
-    if at < 14 {
-        return modify_word(s, image, map, log, op, at);
-    }
-    if at == 14 {
-        return tcall(s, image, map, log, op);
-    }
-    tjmp(s, image, map, op)
+    if op < 0x8000 { at < 14 } else { 13 < at }
 }
 
-fn format7_high(
+fn status_code(
     s: State,
     image: &mut [u8],
     map: &[u8],
@@ -231,20 +240,37 @@ fn format7_high(
     at: u16,
 ) -> Went
     requires { ⌜ Board (now map) (beside (now image) (now log)) ⌝ }
-    ensures { λ r. ⌜ Works (now (map .entry)) (Spec.format7high out s op at) (now (image .entry)) (now (log .entry)) r (now (image .exit)) (now (log .exit)) ⌝ }
+    ensures { λ r. ⌜ Works (now (map .entry)) (Spec.statusCode out s op at) (now (image .entry)) (now (log .entry)) r (now (image .exit)) (now (log .exit)) ⌝ }
 {
-    if at < 12 {
-        return modify_byte(s, image, map, log, op, at);
-    }
-    if 13 < at {
-        return modify_word(s, image, map, log, op, at);
-    }
     if at == 12 {
         return lsts(s, image, map, op);
     }
     ssts(s, image, map, log, out, op)
 }
 
+// TCALL, TJMP, LSTS, SSTS.
+fn no_result(
+    s: State,
+    image: &mut [u8],
+    map: &[u8],
+    log: &mut [u16; 32],
+    out: Outside,
+    op: u16,
+    at: u16,
+) -> Went
+    requires { ⌜ Board (now map) (beside (now image) (now log)) ⌝ }
+    ensures { λ r. ⌜ Works (now (map .entry)) (Spec.noResult out s op at) (now (image .entry)) (now (log .entry)) r (now (image .exit)) (now (log .exit)) ⌝ }
+{
+    if op >= 0x8000 {
+        return status_code(s, image, map, log, out, op, at);
+    }
+    if at == 14 {
+        return tcall(s, image, map, log, op);
+    }
+    tjmp(s, image, map, op)
+}
+
+// What modifies its operand is told first. The rest is called from two places, which keeps it out of line.
 pub fn format7(
     s: State,
     image: &mut [u8],
@@ -257,8 +283,16 @@ pub fn format7(
     ensures { λ r. ⌜ Works (now (map .entry)) (Spec.format7 out s op) (now (image .entry)) (now (log .entry)) r (now (image .exit)) (now (log .exit)) ⌝ }
 {
     let at = place_of(op);
-    if op < 0x8000 {
-        return format7_low(s, image, map, log, op, at);
+    if on_word(op, at) {
+        return modify_word(s, image, map, log, op, at);
     }
-    format7_high(s, image, map, log, out, op, at)
+    if at < 12 {
+        return modify_byte(s, image, map, log, op, at);
+    }
+    let t = s;
+    let o = out;
+    if op < 0x8000 {
+        return state::apart(no_result(t, image, map, log, o, op, at));
+    }
+    state::apart(no_result(t, image, map, log, o, op, at))
 }

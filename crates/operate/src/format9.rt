@@ -52,7 +52,10 @@ fn jsr_to(
     ensures { λ r. ⌜ Works (now (map .entry)) (Spec.jsrTo out s k place) (now (image .entry)) (now (log .entry)) r (now (image .exit)) (now (log .exit)) ⌝ }
 {
     match place {
-        Place::Reg => illegal(s, image, map, log, out),
+        Place::Reg => {
+            let t = s;
+            state::apart(illegal(t, image, map, log, out))
+        }
         Place::Mem(a, _, _) => call(s, image, map, log, k, a),
     }
 }
@@ -178,7 +181,7 @@ fn div(s: State, image: &[u8], map: &[u8], op: u16) -> Went
     Went::Done(with_pair(t, k, pair))
 }
 
-// All but SOB, with the indicators preset.
+// All but SOB and JSR, with the indicators preset.
 fn preset_code(
     s: State,
     image: &mut [u8],
@@ -192,7 +195,7 @@ fn preset_code(
 {
     let which = op / 512 % 8;
     match which {
-        0 => jsr(s, image, map, log, out, op),
+        0 => Went::Done(s),
         1 => lea(s, image, map, log, out, op),
         2 => ash(s, image, map, op),
         3 => Went::Done(s),
@@ -203,6 +206,7 @@ fn preset_code(
     }
 }
 
+// SOB and JSR are told first. The rest is called from two places, which keeps it out of line.
 pub fn format9(
     s: State,
     image: &mut [u8],
@@ -217,12 +221,14 @@ pub fn format9(
     if op / 512 % 8 == 3 {
         return Went::Done(sob(s, op));
     }
-    preset_code(
-        s.with_flags(word::format9::preset()),
-        image,
-        map,
-        log,
-        out,
-        op,
-    )
+    let t = s.with_flags(word::format9::preset());
+    if op / 512 % 8 == 0 {
+        return jsr(t, image, map, log, out, op);
+    }
+    let u = t;
+    let o = out;
+    if op < 0x7600 {
+        return state::apart(preset_code(u, image, map, log, o, op));
+    }
+    state::apart(preset_code(u, image, map, log, o, op))
 }

@@ -10,7 +10,7 @@ pub mod format9;
 mod operands;
 
 // The state after decoding, the place of the operand, its value; or the address where nothing is fitted.
-pub enum Held {
+pub(crate) enum Held {
     At(State, Place, u16),
     Blank(u16),
 }

@@ -1,9 +1,10 @@
 // The service sheet's plate: the format of an op code by its high byte. 1 stands for formats 1 to 4.
 ghost use mathlib.Core.Path.{_≡_};
 ghost use Prim.Native.Nat.{_/_};
+ghost use lib.ListN.{getD};
 ghost use Rattle.plate.specs.Plate as Spec;
 
-const PLATE: [u8; 256] = [
+pub const PLATE: [u8; 256] = [
     1,
     5,
     5,
@@ -267,4 +268,11 @@ pub fn format(op: u16) -> u8
     ensures { λ r. ⌜ r ≡ Spec.formatOf (op / 256) ⌝ }
 {
     PLATE[(op / 256) as usize]
+}
+
+// The entry for an op code on a plate that is lent: a constant table is laid out anew at each use, so a run lays it out once.
+pub fn entry(sheet: &[u8; 256], op: u16) -> u8
+    ensures { λ r. ⌜ r ≡ getD (now (sheet .entry)) (op / 256) 0 ⌝ }
+{
+    sheet[(op / 256) as usize]
 }

@@ -60,7 +60,7 @@ unreadByte (Byte.Blank a) = Blank a
 
 abbrev pub unwritten : Kept → Went
 unwritten Kept.Done = Blank 0
-unwritten (Kept.Missed a) = Blank a
+unwritten (Kept.Blank a) = Blank a
 
 abbrev pub untaken : Took → Went
 untaken (Took.Word s v) = Blank 0
@@ -72,7 +72,7 @@ word-lost e h = went-none (e ∙ ap unread h)
 pub byte-lost : {r : Went} {b : Byte} {a : ℕ} {st : Store} → r ≡ unreadByte b → b ≡ Byte.Blank a → wentAs r st ≡ gone a st
 byte-lost e h = went-none (e ∙ ap unreadByte h)
 
-pub kept-lost : {r : Went} {k : Kept} {a : ℕ} {st : Store} → r ≡ unwritten k → k ≡ Kept.Missed a → wentAs r st ≡ gone a st
+pub kept-lost : {r : Went} {k : Kept} {a : ℕ} {st : Store} → r ≡ unwritten k → k ≡ Kept.Blank a → wentAs r st ≡ gone a st
 kept-lost e h = went-none (e ∙ ap unwritten h)
 
 pub took-lost : {r : Went} {t : Took} {a : ℕ} {st : Store} → r ≡ untaken t → t ≡ Took.Blank a → wentAs r st ≡ gone a st

@@ -368,7 +368,7 @@ pub fn unwritten(kept: Kept) -> Went
 {
     match kept {
         Kept::Done => Went::Blank(0),
-        Kept::Missed(a) => Went::Blank(a),
+        Kept::Blank(a) => Went::Blank(a),
     }
 }
 
@@ -378,5 +378,15 @@ pub fn untaken(took: Took) -> Went
     match took {
         Took::Word(_, _) => Went::Blank(0),
         Took::Blank(a) => Went::Blank(a),
+    }
+}
+
+// The same answer, in a place of its own.
+pub fn apart(went: Went) -> Went
+    ensures { λ r. ⌜ r ≡ went ⌝ }
+{
+    match went {
+        Went::Done(s) => Went::Done(s),
+        Went::Blank(a) => Went::Blank(a),
     }
 }

@@ -5,6 +5,7 @@ use state::Went;
 ghost use mathlib.Core.Path.{_≡_};
 ghost use Rattle.board.specs.Exec.{beside, Lent, Board, Saw};
 ghost use Rattle.state.specs.Answer.{Works, wentAs};
+ghost use Rattle.plate.specs.Plate.{table};
 ghost use Rattle.step.specs.Execute as Spec;
 
 fn reserved(s: State, image: &mut [u8], map: &[u8], log: &mut [u16; 32], out: Outside) -> Went
@@ -68,10 +69,11 @@ pub(crate) fn execute(
     map: &[u8],
     log: &mut [u16; 32],
     out: Outside,
+    sheet: &[u8; 256],
     op: u16,
 ) -> Went
-    requires { ⌜ Board (now map) (beside (now image) (now log)) ⌝ }
+    requires { ⌜ (Board (now map) (beside (now image) (now log))) × (now sheet ≡ table) ⌝ }
     ensures { λ r. ⌜ Works (now (map .entry)) (Spec.execute out s op) (now (image .entry)) (now (log .entry)) r (now (image .exit)) (now (log .exit)) ⌝ }
 {
-    by_format(s, image, map, log, out, plate::format(op), op)
+    by_format(s, image, map, log, out, plate::entry(sheet, op), op)
 }

@@ -11,20 +11,21 @@ ghost use Rattle.board.specs.Exec.{beside, Lent, Board, Saw};
 ghost use Rattle.state.specs.Answer.{Works, wentAs};
 ghost use Rattle.board.specs.Undo.{undone};
 ghost use Rattle.state.specs.State.{heard, pick};
+ghost use Rattle.plate.specs.Plate.{table};
 ghost use Rattle.step.specs.Step as Spec;
 
 mod execute;
 mod xct;
 
 // What is to be done after an op code's fetch: an op code to execute, traced or not; an XCT that is aborted.
-pub enum Begun {
+pub(crate) enum Begun {
     Code(State, u16, bool),
     Abort(State),
     Blank(u16),
 }
 
 // What a line word makes of a step; a cause is known before the work for some.
-pub enum Kind {
+pub(crate) enum Kind {
     OpCode,
     Restart(u8),
     NonVectored,
@@ -125,12 +126,20 @@ fn restart(s: State, image: &[u8], map: &[u8]) -> Went
     s.with_mode(Mode::Running).from_loc(image, map, 0x16)
 }
 
-fn work(s: State, image: &mut [u8], map: &[u8], log: &mut [u16; 32], out: Outside, k: Kind) -> Went
-    requires { ⌜ Board (now map) (beside (now image) (now log)) ⌝ }
+fn work(
+    s: State,
+    image: &mut [u8],
+    map: &[u8],
+    log: &mut [u16; 32],
+    out: Outside,
+    sheet: &[u8; 256],
+    k: Kind,
+) -> Went
+    requires { ⌜ (Board (now map) (beside (now image) (now log))) × (now sheet ≡ table) ⌝ }
     ensures { λ r. ⌜ Works (now (map .entry)) (Spec.workOf k out s) (now (image .entry)) (now (log .entry)) r (now (image .exit)) (now (log .exit)) ⌝ }
 {
     match k {
-        Kind::OpCode => op_work(s, image, map, log, out),
+        Kind::OpCode => op_work(s, image, map, log, out, sheet),
         Kind::Restart(_) => restart(s, image, map),
         Kind::NonVectored => non_vectored(s, image, map, log, out),
         Kind::Vectored => vectored(s, image, map, log, out),
@@ -209,15 +218,22 @@ fn error(s: State, image: &mut [u8], map: &[u8], log: &mut [u16; 32], out: Outsi
     }
 }
 
-// One step on a board, with a log that may hold an earlier step's entries.
-pub fn step_on(s: State, image: &mut [u8], map: &[u8], log: &mut [u16; 32], out: Outside) -> Turn
-    requires { ⌜ Board (now map) (beside (now image) (now log)) ⌝ }
+// One step on a board, with a log that may hold an earlier step's entries, and the plate.
+pub fn step_on(
+    s: State,
+    image: &mut [u8],
+    map: &[u8],
+    log: &mut [u16; 32],
+    out: Outside,
+    sheet: &[u8; 256],
+) -> Turn
+    requires { ⌜ (Board (now map) (beside (now image) (now log))) × (now sheet ≡ table) ⌝ }
     ensures { λ r. ⌜ Spec.Stepped (now (map .entry)) (Spec.stepOf (now (map .entry)) out s (now (image .entry))) r (beside (now (image .exit)) (now (log .exit))) ⌝ }
 {
     board::clear(log);
     let mode = s.mode;
     let k = kind_of(mode, s.i2, out);
-    if let Went::Done(t) = work(s, image, map, log, out, k) {
+    if let Went::Done(t) = work(s, image, map, log, out, sheet, k) {
         return Turn {
             state: t,
             cause: cause_of(k),
@@ -232,7 +248,8 @@ pub fn step_once(s: State, image: &mut [u8], map: &[u8], line: u16) -> Turn
     ensures { λ r. ⌜ Spec.Once (now (map .entry)) (Spec.stepOf (now (map .entry)) (heard line) s (now (image .entry))) r (now (image .exit)) ⌝ }
 {
     let mut log = [0u16; 32];
-    step_on(s, image, map, &mut log, hear(line))
+    let sheet = plate::PLATE;
+    step_on(s, image, map, &mut log, hear(line), &sheet)
 }
 
 // PC from 16; locked where page 0 is unfitted.

@@ -9,6 +9,7 @@ use state::untaken;
 ghost use mathlib.Core.Path.{_≡_};
 ghost use Rattle.board.specs.Exec.{beside, Lent, Board, Saw};
 ghost use Rattle.state.specs.Answer.{Works, wentAs};
+ghost use Rattle.plate.specs.Plate.{table};
 ghost use Rattle.step.specs.Xct as Spec;
 ghost use Rattle.step.specs.Xct.{begunAs, code};
 
@@ -120,13 +121,14 @@ fn carry(
     map: &[u8],
     log: &mut [u16; 32],
     out: Outside,
+    sheet: &[u8; 256],
     op: u16,
     b: bool,
 ) -> Went
-    requires { ⌜ Board (now map) (beside (now image) (now log)) ⌝ }
+    requires { ⌜ (Board (now map) (beside (now image) (now log))) × (now sheet ≡ table) ⌝ }
     ensures { λ r. ⌜ Works (now (map .entry)) (Spec.carry out (code s op b)) (now (image .entry)) (now (log .entry)) r (now (image .exit)) (now (log .exit)) ⌝ }
 {
-    let went = execute(s, image, map, log, out, op);
+    let went = execute(s, image, map, log, out, sheet, op);
     let Went::Done(t) = went else {
         return went;
     };
@@ -140,8 +142,9 @@ pub(crate) fn op_work(
     map: &[u8],
     log: &mut [u16; 32],
     out: Outside,
+    sheet: &[u8; 256],
 ) -> Went
-    requires { ⌜ Board (now map) (beside (now image) (now log)) ⌝ }
+    requires { ⌜ (Board (now map) (beside (now image) (now log))) × (now sheet ≡ table) ⌝ }
     ensures { λ r. ⌜ Works (now (map .entry)) (Spec.opWork out s) (now (image .entry)) (now (log .entry)) r (now (image .exit)) (now (log .exit)) ⌝ }
 {
     let took = s.fetch(image, map);
@@ -149,8 +152,12 @@ pub(crate) fn op_work(
         return untaken(took);
     };
     match begun(t, image, map, op) {
-        Begun::Code(u, next, b) => carry(u, image, map, log, out, next, b),
-        Begun::Abort(u) => control::format1::xct_error(u, image, map, log, out),
+        Begun::Code(u, next, b) => carry(u, image, map, log, out, sheet, next, b),
+        Begun::Abort(u) => {
+            let o = out;
+            let m = map;
+            state::apart(control::format1::xct_error(u, image, m, log, o))
+        }
         Begun::Blank(a) => Went::Blank(a),
     }
 }

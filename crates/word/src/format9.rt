@@ -30,12 +30,7 @@ pub fn ash(x: u16, k: u8) -> Done
     if k == 0 {
         return Done {
             value: x,
-            flags: Flags {
-                n: true,
-                z: false,
-                v: false,
-                c: true,
-            },
+            flags: preset(),
         };
     }
     let start = Turn {
@@ -57,12 +52,7 @@ pub fn ashc(low: u16, high: u16, k: u8) -> Pair
         return Pair {
             low,
             high,
-            flags: Flags {
-                n: true,
-                z: false,
-                v: false,
-                c: true,
-            },
+            flags: preset(),
         };
     }
     let start = Turn {

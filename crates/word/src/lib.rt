@@ -32,7 +32,7 @@ pub struct Pair {
 }
 
 // A number that is being shifted and the C flag beside it.
-pub struct Turn {
+pub(crate) struct Turn {
     pub x: u32,
     pub c: bool,
 }

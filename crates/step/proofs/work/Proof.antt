@@ -9,16 +9,16 @@ op-work-requires : tie.Need-op-work-requires
 op-work-requires c κs = c .before .before .before .before .before .before .pre
 
 restart-requires : tie.Need-restart-requires
-restart-requires c κs = c .before .before .before .before .before .pre .lent
+restart-requires c κs = c .before .before .before .before .before .pre .0 .lent
 
 non-vectored-requires : tie.Need-non-vectored-requires
-non-vectored-requires c κs = c .before .before .before .before .before .before .pre
+non-vectored-requires c κs = c .before .before .before .before .before .before .pre .0
 
 vectored-requires : tie.Need-vectored-requires
-vectored-requires c κs = c .before .before .before .before .before .before .pre
+vectored-requires c κs = c .before .before .before .before .before .before .pre .0
 
 same-length : tie.Need-same-length
-same-length c = c .before .before .op-work .ensures .board .lent .size ∙ sym (c .before .before .before .before .before .before .before .before .before .pre .lent .size)
+same-length c = c .before .before .op-work .ensures .board .lent .size ∙ sym (c .before .before .before .before .before .before .before .before .before .pre .0 .lent .size)
 
 returns : tie.Need-returns
 unfolding workOf
@@ -30,10 +30,10 @@ returns-2 : tie.Need-returns-2
 unfolding workOf
 returns-2 c =
     rw (c .before .before .enum-told2 .given .1)
-    (record { got = c .restart .ensures .got; board = c .before .before .before .before .before .before .pre })
+    (record { got = c .restart .ensures .got; board = c .before .before .before .before .before .before .pre .0 })
 
 same-length-3 : tie.Need-same-length-3
-same-length-3 c = c .before .before .non-vectored .ensures .board .lent .size ∙ sym (c .before .before .before .before .before .before .before .before .before .pre .lent .size)
+same-length-3 c = c .before .before .non-vectored .ensures .board .lent .size ∙ sym (c .before .before .before .before .before .before .before .before .before .pre .0 .lent .size)
 
 returns-3 : tie.Need-returns-3
 unfolding workOf
@@ -42,7 +42,7 @@ returns-3 c =
     (record { got = c .before .before .non-vectored .ensures .got; board = c .before .before .non-vectored .ensures .board })
 
 same-length-4 : tie.Need-same-length-4
-same-length-4 c = c .before .before .vectored .ensures .board .lent .size ∙ sym (c .before .before .before .before .before .before .before .before .before .pre .lent .size)
+same-length-4 c = c .before .before .vectored .ensures .board .lent .size ∙ sym (c .before .before .before .before .before .before .before .before .before .pre .0 .lent .size)
 
 returns-4 : tie.Need-returns-4
 unfolding workOf
@@ -54,7 +54,7 @@ returns-5 : tie.Need-returns-5
 unfolding workOf
 returns-5 c =
     rw (c .enum-told5 .given .1)
-    (did refl (c .before .before .before .before .pre)
+    (did refl (c .before .before .before .before .pre .0)
     (got-give refl))
 
 pub work-spec : {M : Type 1} → statement M

@@ -4,19 +4,21 @@ use mathlib.Core.Path.{_≡_, refl, sym, _∙_}
 use lib.ListN.{length, drop}
 use borrow.Author.Needs.{needs}
 use Rattle.board.specs.Exec.{beside, Board}
+use Rattle.plate.specs.Plate.{table}
 use Rattle.machine.specs.Run.{rest, runOf, rest-more, rest-none}
 use Rattle.machine.proofs.runs.run_on.Statement.{statement}
 use Rattle.machine.proofs.runs.run_on.Tie as tie
 
 abbrev Inv-loop : tie.InvT-loop
-Inv-loop image₀ map lines log₀ state₀ tally₀ i₀ image log state tally i =
-    (i ≤ length lines) × (tally .blanks ≤ i) × (rest map i (drop i lines) state image tally ≡ runOf map lines state₀ image₀) × Board map (beside image log)
+Inv-loop image₀ map lines log₀ sheet state₀ tally₀ i₀ image log state tally i =
+    (i ≤ length lines) × (tally .blanks ≤ i) × (rest map i (drop i lines) state image tally ≡ runOf map lines state₀ image₀) × Board map (beside image log) × (sheet ≡ table)
 
 abbrev μ-loop : tie.MeasureT-loop
-μ-loop image₀ map lines log₀ state₀ tally₀ i₀ image log state tally i = length lines - i
+μ-loop image₀ map lines log₀ sheet state₀ tally₀ i₀ image log state tally i = length lines - i
 
 loop-holds : tie.Need-loop-holds Inv-loop μ-loop
-loop-holds c = (omega arith, omega arith, refl, record { lent = c .before .before .before .pre .0; whole = refl; few = omega arith })
+unfolding table
+loop-holds c = (omega arith, omega arith, refl, record { lent = c .before .before .before .pre .0; whole = refl; few = omega arith }, refl)
 
 mul-hear : tie.Need-mul-hear Inv-loop μ-loop
 mul-hear c = omega arith
@@ -25,7 +27,7 @@ shared-slice-read-hear : tie.Need-shared-slice-read-hear Inv-loop μ-loop
 shared-slice-read-hear c = omega arith
 
 step-on-requires : tie.Need-step-on-requires Inv-loop μ-loop
-step-on-requires c κs = c .before .before .before .before .before .loop .inv .3
+step-on-requires c κs = (c .before .before .before .before .before .before .loop .inv .3, c .before .before .before .before .before .before .loop .inv .4)
 
 cast-noted : tie.Need-cast-noted Inv-loop μ-loop
 cast-noted c = omega arith
@@ -34,14 +36,19 @@ noted-requires : tie.Need-noted-requires Inv-loop μ-loop
 noted-requires c κs = omega arith
 
 add-i : tie.Need-add-i Inv-loop μ-loop
-add-i c = omega arith
+add-i c = omega (arith, c .before .before .before .before .before .before .before .before .before .before .before .before .before .before .before .pre .1, c .before .before .before .before .before .before .before .before .before .before .loop-test .taken)
 
 loop-less : tie.Need-loop-less Inv-loop μ-loop
 loop-less c = omega arith
 
 loop-again : tie.Need-loop-again Inv-loop μ-loop
-loop-again c =
-    (omega arith, omega arith, rest-more _ _ _ _ _ _ _ _ (c .before .before .before .before .before .before .before .before .before .loop-test .taken) (rw (c .before .before .before .before .before .hear .ensures) at (c .before .before .before .before .step-on .ensures .turn)) (c .noted .ensures .0) ∙ c .before .before .before .before .before .before .before .before .before .before .loop .inv .2, c .before .before .before .before .step-on .ensures .board)
+loop-again c = (
+  omega arith,
+  omega arith,
+  rest-more _ _ _ _ _ _ _ _ (c .before .before .before .before .before .before .before .before .before .before .loop-test .taken) (rw (c .before .before .before .before .before .before .hear .ensures) at (c .before .before .before .before .step-on .ensures .turn)) (c .noted .ensures .0) ∙ c .before .before .before .before .before .before .before .before .before .before .before .loop .inv .2,
+  c .before .before .before .before .step-on .ensures .board,
+  c .before .before .before .before .before .before .before .before .before .before .before .loop .inv .4,
+)
 
 same-length : tie.Need-same-length Inv-loop μ-loop
 same-length c = c .before .loop .inv .3 .lent .size ∙ sym (c .before .before .before .before .before .pre .0 .size)

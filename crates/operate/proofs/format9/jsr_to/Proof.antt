@@ -4,20 +4,29 @@ use borrow.Author.Needs.{needs}
 use Rattle.operate.proofs.format9.jsr_to.Statement.{statement}
 use Rattle.operate.proofs.format9.jsr_to.Tie as tie
 
+enum-told : tie.Need-enum-told
+enum-told c = search needs
+
 illegal-requires : tie.Need-illegal-requires
 illegal-requires c κs = c .before .before .before .before .before .before .pre
+
+apart-requires : tie.Need-apart-requires
+apart-requires c κs = search needs
+
+enum-known-place : tie.Need-enum-known-place
+enum-known-place c = search needs
 
 call-requires : tie.Need-call-requires
 call-requires c κs = c .before .before .before .before .before .before .before .pre
 
 same-length : tie.Need-same-length
-same-length c = c .before .before .illegal .ensures .board .lent .size ∙ sym (c .before .before .before .before .before .before .before .before .before .pre .lent .size)
+same-length c = c .before .before .before .illegal .ensures .board .lent .size ∙ sym (c .before .before .before .before .before .before .before .before .before .before .pre .lent .size)
 
 returns : tie.Need-returns
 unfolding jsrTo
 returns c =
-    rw (c .before .before .before .before .before .enum-told .given .1)
-    (record { got = c .before .before .illegal .ensures .got; board = c .before .before .illegal .ensures .board })
+    rw (c .before .before .before .before .before .before .enum-told .given .1, c .apart .ensures)
+    (record { got = c .before .before .before .illegal .ensures .got; board = c .before .before .before .illegal .ensures .board })
 
 same-length-2 : tie.Need-same-length-2
 same-length-2 c = c .before .before .call .ensures .board .lent .size ∙ sym (c .before .before .before .before .before .before .before .before .before .before .pre .lent .size)
@@ -32,9 +41,10 @@ pub jsr-to-spec : {M : Type 1} → statement M
 jsr-to-spec =
     tie.close
     (tie.spec
-    (λ c. search needs)
+    enum-told
     illegal-requires
-    (λ c. search needs)
+    apart-requires
+    enum-known-place
     call-requires
     same-length
     returns

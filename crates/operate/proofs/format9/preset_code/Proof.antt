@@ -7,9 +7,6 @@ use borrow.Author.Needs.{needs}
 use Rattle.operate.proofs.format9.preset_code.Statement.{statement}
 use Rattle.operate.proofs.format9.preset_code.Tie as tie
 
-jsr-requires : tie.Need-jsr-requires
-jsr-requires c κs = c .before .before .before .before .before .pre
-
 lea-requires : tie.Need-lea-requires
 lea-requires c κs = c .before .before .before .before .before .pre
 
@@ -28,15 +25,12 @@ mul-requires c κs = c .before .before .before .before .pre .lent
 div-requires : tie.Need-div-requires
 div-requires c κs = c .before .before .before .before .pre .lent
 
-same-length : tie.Need-same-length
-same-length c = c .before .before .jsr .ensures .board .lent .size ∙ sym (c .before .before .before .before .before .before .before .before .pre .lent .size)
-
 returns : tie.Need-returns
 unfolding presetCode
-returns c = rw (c .before .before .before .before .before .match .keys1) (record { got = c .before .before .jsr .ensures .got; board = c .before .before .jsr .ensures .board })
+returns c = rw (c .match .keys1) (did refl (c .before .before .before .pre) (got-give refl))
 
-same-length-2 : tie.Need-same-length-2
-same-length-2 c = c .before .before .lea .ensures .board .lent .size ∙ sym (c .before .before .before .before .before .before .before .before .pre .lent .size)
+same-length : tie.Need-same-length
+same-length c = c .before .before .lea .ensures .board .lent .size ∙ sym (c .before .before .before .before .before .before .before .before .pre .lent .size)
 
 returns-2 : tie.Need-returns-2
 unfolding presetCode
@@ -50,8 +44,8 @@ returns-4 : tie.Need-returns-4
 unfolding presetCode
 returns-4 c = rw (c .match .keys4) (did refl (c .before .before .before .pre) (got-give refl))
 
-same-length-4 : tie.Need-same-length-4
-same-length-4 c = c .before .before .xch .ensures .board .lent .size ∙ sym (c .before .before .before .before .before .before .before .before .pre .lent .size)
+same-length-3 : tie.Need-same-length-3
+same-length-3 c = c .before .before .xch .ensures .board .lent .size ∙ sym (c .before .before .before .before .before .before .before .before .pre .lent .size)
 
 returns-5 : tie.Need-returns-5
 unfolding presetCode
@@ -73,21 +67,19 @@ pub preset-code-spec : {M : Type 1} → statement M
 preset-code-spec =
     tie.close
     (tie.spec
-    jsr-requires
     lea-requires
     ash-requires
     xch-requires
     ashc-requires
     mul-requires
     div-requires
-    same-length
     returns
-    same-length-2
+    same-length
     returns-2
     (λ c. search needs)
     returns-3
     returns-4
-    same-length-4
+    same-length-3
     returns-5
     (λ c. search needs)
     returns-6

@@ -8,7 +8,7 @@ use Rattle.step.proofs.xct.op_work.Tie as tie
 
 returns : tie.Need-returns
 unfolding opWork
-returns c = did (went-store (c .untaken .result)) (c .before .before .before .before .before .before .before .pre)
+returns c = did (went-store (c .untaken .result)) (c .before .before .before .before .before .before .before .pre .0)
     (got-gone _ (c .before .before .before .fetch .ensures .got) (took-none (c .before .enum-told .given .1)) (took-lost (c .untaken .ensures) (c .before .enum-told .given .1)))
 
 returns-2 : tie.Need-returns-2
@@ -21,15 +21,17 @@ returns-2 c = record {
 
 returns-3 : tie.Need-returns-3
 unfolding opWork carry
-returns-3 c = record {
-  got = got-then _ (c .before .before .before .before .before .before .before .before .before .before .before .before .before .fetch .ensures .got) (took-is (c .before .before .before .before .before .before .before .before .before .before .before .took .given .1))
-      (got-then _ (c .before .before .before .before .before .before .before .before .begun .ensures .got) (begun-abort (c .before .before .before .before .before .before .u2 .given .1)) (c .before .before .xct-error .ensures .got));
-  board = c .before .before .xct-error .ensures .board;
-}
+returns-3 c =
+    rw (c .apart .ensures)
+    (record {
+      got = got-then _ (c .before .before .before .before .before .before .before .before .before .before .before .before .before .before .fetch .ensures .got) (took-is (c .before .before .before .before .before .before .before .before .before .before .before .before .took .given .1))
+          (got-then _ (c .before .before .before .before .before .before .before .before .before .begun .ensures .got) (begun-abort (c .before .before .before .before .before .before .before .u2 .given .1)) (c .before .before .before .xct-error .ensures .got));
+      board = c .before .before .before .xct-error .ensures .board;
+    })
 
 returns-4 : tie.Need-returns-4
 unfolding opWork
-returns-4 c = did refl (c .before .before .before .before .before .before .before .before .before .before .before .before .pre)
+returns-4 c = did refl (c .before .before .before .before .before .before .before .before .before .before .before .before .pre .0)
     (got-then _ (c .before .before .before .before .before .before .before .before .fetch .ensures .got) (took-is (c .before .before .before .before .before .before .took .given .1))
     (got-gone _ (c .before .before .before .begun .ensures .got) (begun-none (c .before .a .given .1)) refl))
 
@@ -47,6 +49,7 @@ op-work-spec =
     (λ c. search needs)
     (λ c κs. search needs)
     (λ c. search needs)
+    (λ c κs. search needs)
     (λ c κs. search needs)
     (λ c. search needs)
     (λ c. search needs)

@@ -6,7 +6,7 @@ use Rattle.word.proofs.format9.ashc.Statement.{statement}
 use Rattle.word.proofs.format9.ashc.Tie as tie
 
 returns : tie.Need-returns
-returns c = simp (eq-eqb _ _ (c .if1 .taken))
+returns c = simp (eq-eqb _ _ (c .before .if1 .taken), c .preset .ensures)
 
 returns-2 : tie.Need-returns-2
 returns-2 c =
@@ -24,6 +24,7 @@ pub ashc-spec : {M : Type 1} → statement M
 ashc-spec =
     tie.close
     (tie.spec
+    (λ c κs. search needs)
     returns
     (λ c. search needs)
     (λ c. search needs)
