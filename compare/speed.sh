@@ -9,7 +9,7 @@ runs=${1:-2000} times=${2:-5}
 work=$(mktemp -d)
 trap 'rm -rf "$work"' EXIT
 
-# A kit like the one that is installed, whose clang keeps the module that it is given.
+# A kit like the one that is installed, whose clang keeps the module that it is given to compile at -O3.
 keeping_kit() { # KIT
     local own=on/$(uname -m) tool
     mkdir -p "$work/kit/$own/toolchain/bin"
@@ -18,7 +18,8 @@ keeping_kit() { # KIT
     ln -s "$1/$own/toolchain/lib" "$work/kit/$own/toolchain/lib"
     for tool in "$1/$own/toolchain/bin"/*; do ln -s "$tool" "$work/kit/$own/toolchain/bin/"; done
     rm "$work/kit/$own/toolchain/bin/clang"
-    printf '#!/bin/sh\ncp module.bc "%s"\nexec "%s" "$@"\n' "$work/module.bc" "$1/$own/toolchain/bin/clang" >"$work/kit/$own/toolchain/bin/clang"
+    # rt try compiles three times; the last module of the three has LLVM's assumptions checked at run time.
+    printf '#!/bin/sh\ncase " $* " in *" -O3 "*) cp module.bc "%s";; esac\nexec "%s" "$@"\n' "$work/module.bc" "$1/$own/toolchain/bin/clang" >"$work/kit/$own/toolchain/bin/clang"
     chmod +x "$work/kit/$own/toolchain/bin/clang"
 }
 
