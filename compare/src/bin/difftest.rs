@@ -2,15 +2,16 @@
 //!
 //! ```text
 //! difftest self SEED CASES            the interpreter with itself; prints what was reached
-//! difftest linked SEED CASES          with the static library (feature `linked`)
-//! difftest bench PROGRAM SEED JOBS    with a bench program, by jobs on its standard input
+//! difftest served COMMAND SEED CASES  with the static library, through a program that serves its calls
+//! difftest bench COMMAND SEED JOBS    with a bench program, by jobs on its standard input
 //! ```
 //!
 //! After each step state, cause and the whole image must be the same. The first
 //! difference is printed, and the answer is then 1.
 
-use std::io::Write;
-use std::process::{Command, ExitCode, Stdio};
+use std::cell::RefCell;
+use std::io::{Read, Write};
+use std::process::{Child, Command, ExitCode, Stdio};
 
 use wd16::abi;
 use wd16::bench::bench;
@@ -62,98 +63,97 @@ impl Processor for Plain {
     }
 }
 
-/// The static library.
-#[cfg(feature = "linked")]
-#[allow(unsafe_code)]
-mod linked {
-    use super::Processor;
+/// A program that serves the calls on its standard input and output (c/serve.c).
+struct Served {
+    child: RefCell<Child>,
+}
 
-    extern "C" {
-        fn wd16_power_up(
-            state: *mut u8,
-            state_len: usize,
-            image: *const u8,
-            image_len: usize,
-            map: *const u8,
-            map_len: usize,
-        ) -> u8;
-        fn wd16_step(
-            state: *mut u8,
-            state_len: usize,
-            image: *mut u8,
-            image_len: usize,
-            map: *const u8,
-            map_len: usize,
-            line: u16,
-        ) -> u8;
-        fn wd16_run(
-            state: *mut u8,
-            state_len: usize,
-            tally: *mut u8,
-            tally_len: usize,
-            image: *mut u8,
-            image_len: usize,
-            map: *const u8,
-            map_len: usize,
-            lines: *const u16,
-            lines_len: usize,
-        ) -> u8;
+/// What a call is lent, in the order of the request.
+struct Lent<'a> {
+    bytes: [&'a [u8]; 4],
+    lines: &'a [u16],
+}
+
+impl Served {
+    fn start(command: &str) -> std::io::Result<Served> {
+        let mut words = command.split_whitespace();
+        let child = Command::new(words.next().unwrap_or_default())
+            .args(words)
+            .stdin(Stdio::piped())
+            .stdout(Stdio::piped())
+            .spawn()?;
+        Ok(Served {
+            child: RefCell::new(child),
+        })
     }
 
-    pub struct Linked;
+    fn exchange(&self, request: &[u8], answer: &mut [u8]) -> std::io::Result<()> {
+        let mut child = self.child.borrow_mut();
+        let input = child.stdin.as_mut().expect("a pipe");
+        input.write_all(request)?;
+        input.flush()?;
+        child.stdout.as_mut().expect("a pipe").read_exact(answer)
+    }
 
-    // Each pointer comes with its slice's length, and no two slices overlap.
-    impl Processor for Linked {
-        fn power_up(&self, state: &mut [u8], image: &[u8], map: &[u8]) -> u8 {
-            unsafe {
-                wd16_power_up(
-                    state.as_mut_ptr(),
-                    state.len(),
-                    image.as_ptr(),
-                    image.len(),
-                    map.as_ptr(),
-                    map.len(),
-                )
-            }
+    /// The number that is answered, and state, tally and image after the call.
+    fn call(&self, kind: u8, lent: Lent) -> (u8, [Vec<u8>; 3]) {
+        let lines: Vec<u8> = lent.lines.iter().flat_map(|l| l.to_le_bytes()).collect();
+        let mut request = vec![kind];
+        for length in lent.bytes.map(<[u8]>::len).into_iter().chain([lent.lines.len()]) {
+            request.extend((length as u32).to_le_bytes());
         }
+        let elements = [&lent.bytes.concat()[..], &lines].concat();
+        request.extend(&elements);
+        let mut answer = vec![0; 1 + elements.len()];
+        self.exchange(&request, &mut answer)
+            .expect("the server answers each call");
+        let (number, mut rest) = (answer[0], &answer[1..]);
+        let mut after = |length: usize| {
+            let (front, back) = rest.split_at(length);
+            rest = back;
+            front.to_vec()
+        };
+        let changed = [0, 1, 2].map(|buffer| after(lent.bytes[buffer].len()));
+        assert!(
+            rest == [lent.bytes[3], &lines].concat(),
+            "a call changed the map or the lines"
+        );
+        (number, changed)
+    }
+}
 
-        fn step(&self, state: &mut [u8], image: &mut [u8], map: &[u8], line: u16) -> u8 {
-            unsafe {
-                wd16_step(
-                    state.as_mut_ptr(),
-                    state.len(),
-                    image.as_mut_ptr(),
-                    image.len(),
-                    map.as_ptr(),
-                    map.len(),
-                    line,
-                )
-            }
-        }
+impl Processor for Served {
+    fn power_up(&self, state: &mut [u8], image: &[u8], map: &[u8]) -> u8 {
+        let bytes = [&*state, &[], image, map];
+        let (number, [s, _, i]) = self.call(0, Lent { bytes, lines: &[] });
+        assert!(i == image, "a power-up changed the image");
+        state.copy_from_slice(&s);
+        number
+    }
 
-        fn run(
-            &self,
-            state: &mut [u8],
-            tally: &mut [u8],
-            image: &mut [u8],
-            map: &[u8],
-            lines: &[u16],
-        ) -> u8 {
-            unsafe {
-                wd16_run(
-                    state.as_mut_ptr(),
-                    state.len(),
-                    tally.as_mut_ptr(),
-                    tally.len(),
-                    image.as_mut_ptr(),
-                    image.len(),
-                    map.as_ptr(),
-                    map.len(),
-                    lines.as_ptr(),
-                    lines.len(),
-                )
-            }
-        }
+    fn step(&self, state: &mut [u8], image: &mut [u8], map: &[u8], line: u16) -> u8 {
+        let bytes = [&*state, &[], &*image, map];
+        let lines = &[line];
+        let (number, [s, _, i]) = self.call(1, Lent { bytes, lines });
+        state.copy_from_slice(&s);
+        image.copy_from_slice(&i);
+        number
+    }
+
+    fn run(
+        &self,
+        state: &mut [u8],
+        tally: &mut [u8],
+        image: &mut [u8],
+        map: &[u8],
+        lines: &[u16],
+    ) -> u8 {
+        let bytes = [&*state, &*tally, &*image, map];
+        let (number, [s, t, i]) = self.call(2, Lent { bytes, lines });
+        state.copy_from_slice(&s);
+        tally.copy_from_slice(&t);
+        image.copy_from_slice(&i);
+        number
     }
 }
 
@@ -499,15 +499,14 @@ fn compare_jobs(program: &str, seed: u64, jobs: usize) -> ExitCode {
     ExitCode::SUCCESS
 }
 
-#[cfg(feature = "linked")]
-fn compare_linked(seed: u64, cases: usize) -> ExitCode {
-    compare(&linked::Linked, seed, cases)
-}
-
-#[cfg(not(feature = "linked"))]
-fn compare_linked(_: u64, _: usize) -> ExitCode {
-    println!("built without the feature `linked`");
-    ExitCode::FAILURE
+fn compare_served(command: &str, seed: u64, cases: usize) -> ExitCode {
+    match Served::start(command) {
+        Ok(served) => compare(&served, seed, cases),
+        Err(error) => {
+            println!("{command}: {error}");
+            ExitCode::FAILURE
+        }
+    }
 }
 
 fn main() -> ExitCode {
@@ -515,24 +514,23 @@ fn main() -> ExitCode {
     let words: Vec<&str> = arguments.iter().map(String::as_str).collect();
     let number = |text: &str| text.parse::<u64>().ok();
     let usage = || {
-        println!("difftest self SEED CASES | linked SEED CASES | bench PROGRAM SEED JOBS");
+        println!("difftest self SEED CASES | served COMMAND SEED CASES | bench COMMAND SEED JOBS");
         ExitCode::FAILURE
     };
-    match words[..] {
-        ["self" | "linked", seed, cases] => {
-            let (Some(seed), Some(cases)) = (number(seed), number(cases)) else {
-                return usage();
-            };
-            if words[0] == "self" {
-                compare(&Plain, seed, cases as usize)
-            } else {
-                compare_linked(seed, cases as usize)
-            }
+    let (what, seed, count) = match words[..] {
+        [what @ "self", seed, count] => ((what, ""), number(seed), number(count)),
+        [what @ ("served" | "bench"), command, seed, count] => {
+            ((what, command), number(seed), number(count))
         }
-        ["bench", program, seed, jobs] => match (number(seed), number(jobs)) {
-            (Some(seed), Some(jobs)) => compare_jobs(program, seed, jobs as usize),
-            _ => usage(),
-        },
-        _ => usage(),
+        _ => return usage(),
+    };
+    let (Some(seed), Some(count)) = (seed, count) else {
+        return usage();
+    };
+    let count = count as usize;
+    match what {
+        ("self", _) => compare(&Plain, seed, count),
+        ("served", command) => compare_served(command, seed, count),
+        (_, command) => compare_jobs(command, seed, count),
     }
 }
