@@ -63,6 +63,16 @@ impl Processor for Plain {
     }
 }
 
+/// A program, with its input and output as pipes.
+fn started(command: &str) -> std::io::Result<Child> {
+    let mut words = command.split_whitespace();
+    Command::new(words.next().unwrap_or_default())
+        .args(words)
+        .stdin(Stdio::piped())
+        .stdout(Stdio::piped())
+        .spawn()
+}
+
 /// A program that serves the calls on its standard input and output (c/serve.c).
 struct Served {
     child: RefCell<Child>,
@@ -76,15 +86,8 @@ struct Lent<'a> {
 
 impl Served {
     fn start(command: &str) -> std::io::Result<Served> {
-        let mut words = command.split_whitespace();
-        let child = Command::new(words.next().unwrap_or_default())
-            .args(words)
-            .stdin(Stdio::piped())
-            .stdout(Stdio::piped())
-            .spawn()?;
-        Ok(Served {
-            child: RefCell::new(child),
-        })
+        let child = RefCell::new(started(command)?);
+        Ok(Served { child })
     }
 
     fn exchange(&self, request: &[u8], answer: &mut [u8]) -> std::io::Result<()> {
@@ -99,7 +102,12 @@ impl Served {
     fn call(&self, kind: u8, lent: Lent) -> (u8, [Vec<u8>; 3]) {
         let lines: Vec<u8> = lent.lines.iter().flat_map(|l| l.to_le_bytes()).collect();
         let mut request = vec![kind];
-        for length in lent.bytes.map(<[u8]>::len).into_iter().chain([lent.lines.len()]) {
+        for length in lent
+            .bytes
+            .map(<[u8]>::len)
+            .into_iter()
+            .chain([lent.lines.len()])
+        {
             request.extend((length as u32).to_le_bytes());
         }
         let elements = [&lent.bytes.concat()[..], &lines].concat();
@@ -320,8 +328,8 @@ fn damage(call: &mut Call, random: &mut Random, reads_state: bool) {
     }
 }
 
-/// A call on both sides; kind 0 is power-up, 1 step, 2 run.
-fn refused_call(kind: usize, call: &Call, other: &dyn Processor) -> Result<(), Difference> {
+/// A call on both sides, and its number; kind 0 is power-up, 1 step, 2 run.
+fn refused_call(kind: usize, call: &Call, other: &dyn Processor) -> Result<u8, Difference> {
     let make = |processor: &dyn Processor| {
         let mut c = call.clone();
         let answer = match kind {
@@ -342,11 +350,18 @@ fn refused_call(kind: usize, call: &Call, other: &dyn Processor) -> Result<(), D
     if ours.0 != 0 && (ours.1 != [&call.state[..], &call.tally].concat() || ours.2 != call.image) {
         return Err(format!("{what}: a refused call changed a buffer"));
     }
-    Ok(())
+    Ok(ours.0)
 }
 
-fn refused_calls(pair: &Pair, random: &mut Random) -> Result<(), Difference> {
-    for kind in 0..3 {
+/// How many calls of each kind are damaged on a board.
+const DAMAGED_ON_A_BOARD: usize = 8;
+
+fn refused_calls(
+    pair: &Pair,
+    random: &mut Random,
+    reached: &mut Coverage,
+) -> Result<(), Difference> {
+    for kind in (0..3).cycle().take(3 * DAMAGED_ON_A_BOARD) {
         let state = gen::state(random, &pair.map);
         let mut call = Call {
             state: abi::bytes_of(&state, Cause::OpCode).to_vec(),
@@ -358,7 +373,8 @@ fn refused_calls(pair: &Pair, random: &mut Random) -> Result<(), Difference> {
         for _ in 0..=random.below(3) {
             damage(&mut call, random, kind > 0);
         }
-        refused_call(kind, &call, pair.other)?;
+        let number = refused_call(kind, &call, pair.other)?;
+        reached.count_refusal(kind, number);
     }
     Ok(())
 }
@@ -419,7 +435,7 @@ fn one_board(
         one_case(&mut pair, random, reached)?;
     }
     one_run(&mut pair, random)?;
-    refused_calls(&pair, random)
+    refused_calls(&pair, random, reached)
 }
 
 fn compare(other: &dyn Processor, seed: u64, cases: usize) -> ExitCode {
@@ -452,11 +468,8 @@ fn compare(other: &dyn Processor, seed: u64, cases: usize) -> ExitCode {
 // ---- jobs through a program ----
 
 /// What a bench program prints for a job.
-fn printed(program: &str, job: &[u8]) -> std::io::Result<Vec<u8>> {
-    let mut child = Command::new(program)
-        .stdin(Stdio::piped())
-        .stdout(Stdio::piped())
-        .spawn()?;
+fn printed(command: &str, job: &[u8]) -> std::io::Result<Vec<u8>> {
+    let mut child = started(command)?;
     if let Some(mut input) = child.stdin.take() {
         // A program that refuses early may close its input before all is written.
         let _ = input.write_all(job);
@@ -464,7 +477,7 @@ fn printed(program: &str, job: &[u8]) -> std::io::Result<Vec<u8>> {
     Ok(child.wait_with_output()?.stdout)
 }
 
-fn compare_jobs(program: &str, seed: u64, jobs: usize) -> ExitCode {
+fn compare_jobs(command: &str, seed: u64, jobs: usize) -> ExitCode {
     println!("seed {seed}, {jobs} jobs");
     let mut random = Random::new(seed);
     let mut refused = [0_u64; 21];
@@ -479,9 +492,9 @@ fn compare_jobs(program: &str, seed: u64, jobs: usize) -> ExitCode {
             .strip_prefix("REFUSED ")
             .map_or(0, |refusal| refusal.parse().unwrap_or(0));
         refused[count] += 1;
-        let theirs = match printed(program, &job) {
+        let theirs = match printed(command, &job) {
             Ok(bytes) => String::from_utf8_lossy(&bytes).into_owned(),
-            Err(error) => format!("{program}: {error}"),
+            Err(error) => format!("{command}: {error}"),
         };
         if theirs.strip_suffix('\n').unwrap_or(&theirs) != ours {
             println!("job {number} of seed {seed}:\n  ours   {ours}\n  theirs {theirs}");
@@ -496,6 +509,10 @@ fn compare_jobs(program: &str, seed: u64, jobs: usize) -> ExitCode {
         &refused[11..]
     );
     println!("0 differences");
+    if refused[0] == 0 || refused[11..].contains(&0) {
+        println!("not reached: a refusal, or a good job");
+        return ExitCode::FAILURE;
+    }
     ExitCode::SUCCESS
 }
 
