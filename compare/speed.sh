@@ -8,30 +8,14 @@ cd "$(dirname "$0")/.."
 runs=${1:-2000} times=${2:-5}
 work=$(mktemp -d)
 trap 'rm -rf "$work"' EXIT
+. compare/toolchain.sh
 
-# A kit like the one that is installed, whose clang keeps the module that it is given.
-keeping_kit() { # KIT
-    local own=on/$(uname -m) tool
-    mkdir -p "$work/kit/$own/toolchain/bin"
-    for tool in "$1"/*; do [ "$(basename "$tool")" = on ] || ln -s "$tool" "$work/kit/"; done
-    for tool in "$1/$own"/*; do [ "$(basename "$tool")" = toolchain ] || ln -s "$tool" "$work/kit/$own/"; done
-    ln -s "$1/$own/toolchain/lib" "$work/kit/$own/toolchain/lib"
-    for tool in "$1/$own/toolchain/bin"/*; do ln -s "$tool" "$work/kit/$own/toolchain/bin/"; done
-    rm "$work/kit/$own/toolchain/bin/clang"
-    printf '#!/bin/sh\ncp module.bc "%s"\nexec "%s" "$@"\n' "$work/module.bc" "$1/$own/toolchain/bin/clang" >"$work/kit/$own/toolchain/bin/clang"
-    chmod +x "$work/kit/$own/toolchain/bin/clang"
-}
-
-for_this_machine() { # KIT
-    local clang=$1/on/$(uname -m)/toolchain/bin/clang here
-    keeping_kit "$1"
-    RATTLE_HOME=$work/kit rt try speed >"$work/try.log" 2>&1 || true
-    [ -f "$work/module.bc" ] || { cat "$work/try.log"; exit 1; }
+# The module is optimized as for x86-64: there 16 bits are a width of the machine.
+native_program() {
+    module . speed "$work/module.bc"
     "$clang" --target=x86_64-unknown-linux-gnu -march=x86-64 --no-default-config -fPIE -O3 -Xclang -fmerge-functions \
         -mllvm -mergefunc-use-aliases -S -emit-llvm -x ir "$work/module.bc" -o "$work/ours.ll"
-    here=$(echo 'int x;' | "$clang" --no-default-config -S -emit-llvm -x c - -o - | grep '^target')
-    sed -i -e '/^target /d' -e 's/"\(target-cpu\|target-features\|tune-cpu\)"="[^"]*"//g' "$work/ours.ll"
-    { echo "$here"; cat "$work/ours.ll"; } >"$work/here.ll"
+    for_this_machine "$work/ours.ll" "$work/here.ll"
     "$clang" --no-default-config -fPIE -O3 -Xclang -disable-llvm-passes -c -x ir "$work/here.ll" -o "$work/ours.o"
     cc -pie "$work/ours.o" -o "$work/ours"
 }
@@ -41,6 +25,6 @@ if [ "$(uname -m)" = x86_64 ]; then
     rt check speed
     cp target/bin/speed "$work/ours"
 else
-    for_this_machine "$(dirname "$(dirname "$(rt doc)")")"
+    native_program
 fi
 python3 compare/speed.py "$runs" "$times" "$work/ours" compare/target/release/speed

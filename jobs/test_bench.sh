@@ -1,9 +1,11 @@
 #!/usr/bin/env bash
 # Runs bench on every sample job, from a file and from a slow pipe, and on inputs at and over the longest job, and holds what it
 # prints to what it should: test_bench.sh. With a seed and a number also against the plain interpreter, on as many generated
-# jobs: test_bench.sh SEED JOBS (build it first: cargo build --release in compare).
+# jobs: test_bench.sh SEED JOBS (build it first: cargo build --release in compare). BENCH is the command to test; without it, the
+# bench that rt check bench proves and links.
 set -euo pipefail
 cd "$(dirname "$0")/.."
+bench=${BENCH:-jobs/run_bench.sh}
 made=$(mktemp -d)
 trap 'rm -rf "$made"' EXIT
 wrong=0
@@ -19,12 +21,12 @@ same() { # NAME GOT WANT
 for text in jobs/*.txt; do
     name=$(basename "$text" .txt)
     python3 jobs/make_job.py "$text" >"$made/job"
-    same "$name" "$(jobs/run_bench.sh <"$made/job")" "$(cat "jobs/$name.line")"
+    same "$name" "$($bench <"$made/job")" "$(cat "jobs/$name.line")"
 done
 python3 jobs/make_job.py jobs/example.txt >"$made/job"
 half=$(($(wc -c <"$made/job") / 2))
 slow() { head -c "$half" "$made/job"; sleep 0.3; tail -c "+$((half + 1))" "$made/job"; }
-same pipe "$(slow | jobs/run_bench.sh)" "$(cat jobs/example.line)"
+same pipe "$(slow | $bench)" "$(cat jobs/example.line)"
 # The longest job: all pages, 4,096 words from 0000 on, 4,096 line words. All op codes are NOP.
 longest() {
     python3 -c 'import sys
@@ -33,11 +35,15 @@ job = word(256) + bytes(range(256)) + word(4096) + b"".join(word(2 * n) + word(0
 assert len(job) == 24838
 sys.stdout.buffer.write(job + bytes(int(sys.argv[1])))' "$1"
 }
-same longest "$(longest 0 | jobs/run_bench.sh)" "0000 0000 0000 0000 0000 0000 0000 2000 0F00 0 0000 ----"
-same one-byte-more "$(longest 1 | jobs/run_bench.sh)" "REFUSED 20"
-same much-more "$(longest 100000 | jobs/run_bench.sh)" "REFUSED 20"
-same empty "$(jobs/run_bench.sh </dev/null)" "REFUSED 11"
+same longest "$(longest 0 | $bench)" "0000 0000 0000 0000 0000 0000 0000 2000 0F00 0 0000 ----"
+same one-byte-more "$(longest 1 | $bench)" "REFUSED 20"
+same much-more "$(longest 100000 | $bench)" "REFUSED 20"
+same empty "$($bench </dev/null)" "REFUSED 11"
 if [ $# -eq 2 ]; then
-    compare/target/release/difftest bench jobs/run_bench.sh "$1" "$2" || wrong=1
+    # Half of the jobs on each of two cores.
+    compare/target/release/difftest bench "$bench" "$1" "$(($2 / 2))" &
+    half=$!
+    compare/target/release/difftest bench "$bench" "$(($1 + 1))" "$(($2 / 2))" || wrong=1
+    wait "$half" || wrong=1
 fi
 exit "$wrong"

@@ -17,13 +17,16 @@ pub struct Coverage {
     /// By mode and register, of words and of bytes, of completed steps.
     sources: [[u64; 64]; 2],
     destinations: [[u64; 64]; 2],
-    causes: [u64; 9],
-    /// By mode before the step.
-    modes: [u64; 5],
-    /// Completed steps whose stack pointer lay in the last or first words of a page,
-    /// and at either end of memory.
+    /// By mode before the step and cause.
+    causes: [[u64; 9]; 5],
+    /// By mode after an op code.
+    entered: [u64; 5],
+    /// Completed op codes whose stack pointer lay in the last or first words of a page,
+    /// and in the first or last words of memory.
     page_ends: u64,
-    memory_ends: u64,
+    memory_ends: [u64; 2],
+    /// By call (power-up, step, run) and number of damaged calls.
+    refusals: [[u64; 22]; 3],
 }
 
 fn kind_of(op: u16) -> usize {
@@ -82,23 +85,26 @@ impl Coverage {
             dropped: [0; KINDS],
             sources: [[0; 64]; 2],
             destinations: [[0; 64]; 2],
-            causes: [0; 9],
-            modes: [0; 5],
+            causes: [[0; 9]; 5],
+            entered: [0; 5],
             page_ends: 0,
-            memory_ends: 0,
+            memory_ends: [0; 2],
+            refusals: [[0; 22]; 3],
         }
     }
 
     /// Counts a step by what was ahead and the state's bytes after it.
     pub fn count(&mut self, ahead: Ahead, after: &[u8; abi::STATE]) {
         let cause = after[19];
-        self.causes[usize::from(cause)] += 1;
-        self.modes[ahead.mode as usize] += 1;
+        self.causes[ahead.mode as usize][usize::from(cause)] += 1;
         let Some(op) = ahead.op.filter(|_| ahead.mode == Mode::Running) else {
             return;
         };
         match cause {
-            0 => self.count_done(ahead, op),
+            0 => {
+                self.entered[usize::from(after[18])] += 1;
+                self.count_done(ahead, op);
+            }
             5 => self.dropped[kind_of(ahead.traced.unwrap_or(op))] += 1,
             _ => {}
         }
@@ -112,7 +118,13 @@ impl Coverage {
         self.count_operands(ahead.traced.unwrap_or(op));
         let in_page = ahead.sp & 0xFF;
         self.page_ends += u64::from(!(0x14..0xF0).contains(&in_page));
-        self.memory_ends += u64::from(!(0x14..0xFFF0).contains(&ahead.sp));
+        self.memory_ends[0] += u64::from(ahead.sp < 0x14);
+        self.memory_ends[1] += u64::from(ahead.sp >= 0xFFF0);
+    }
+
+    /// Counts a damaged call by its answer, 0 where the damage was none.
+    pub fn count_refusal(&mut self, call: usize, number: u8) {
+        self.refusals[call][usize::from(number)] += 1;
     }
 
     fn count_operands(&mut self, op: u16) {
@@ -152,12 +164,49 @@ impl Coverage {
                 }
             }
         }
-        for cause in [0, 1, 2, 3, 4, 5, 6, 8] {
-            if self.causes[cause] == 0 {
-                missing.push(format!("cause {cause}"));
+        self.missing_ways(&mut missing);
+        missing
+    }
+
+    /// What each mode can come to; what a halt and WFI lead to; ends of memory; refusals.
+    fn missing_ways(&self, missing: &mut Vec<String>) {
+        let mut ask = |count: u64, what: String| {
+            if count == 0 {
+                missing.push(what);
+            }
+        };
+        let causes: [&[usize]; 5] = [
+            &[0, 1, 2, 3, 5, 6, 8],
+            &[1, 2, 3, 4, 6, 8],
+            &[0, 4, 8],
+            &[1, 4, 8],
+            &[8],
+        ];
+        for (mode, causes) in causes.iter().enumerate() {
+            for &cause in *causes {
+                let what = format!("cause {cause} in mode {mode}");
+                ask(self.causes[mode][cause], what);
             }
         }
-        missing
+        for mode in 0..4 {
+            ask(
+                self.entered[mode],
+                format!("an op code that leads to mode {mode}"),
+            );
+        }
+        ask(self.page_ends, "a stack at a page end".to_string());
+        ask(self.memory_ends[0], "a stack at 0000".to_string());
+        ask(self.memory_ends[1], "a stack at FFFE".to_string());
+        let numbers: [&[usize]; 3] = [&[21, 1, 2, 3], &[21, 1, 2, 3, 5], &[21, 1, 2, 3, 4, 5]];
+        for (call, numbers) in numbers.iter().enumerate() {
+            for &number in *numbers {
+                let name = ["power-up", "step", "run"][call];
+                ask(
+                    self.refusals[call][number],
+                    format!("{name} refused by {number}"),
+                );
+            }
+        }
     }
 
     pub fn print(&self) {
@@ -187,10 +236,23 @@ impl Coverage {
                 println!();
             }
         }
-        println!("causes 0 to 8: {:?}", self.causes);
-        println!("modes 0 to 4 before the step: {:?}", self.modes);
+        for (mode, causes) in self.causes.iter().enumerate() {
+            println!("causes 0 to 8 in mode {mode}: {causes:?}");
+        }
+        println!("modes 0 to 4 after an op code: {:?}", self.entered);
         println!("op codes with SP at a page end: {}", self.page_ends);
-        println!("op codes with SP at an end of memory: {}", self.memory_ends);
+        println!(
+            "op codes with SP at the ends of memory: {:?}",
+            self.memory_ends
+        );
+        for (call, numbers) in self.refusals.iter().enumerate() {
+            let name = ["power-up", "step", "run"][call];
+            println!(
+                "damaged {name}, refused by 1 to 5 {:?}, by 21 {}",
+                &numbers[1..6],
+                numbers[21]
+            );
+        }
     }
 }
 

@@ -2,15 +2,16 @@
 //!
 //! ```text
 //! difftest self SEED CASES            the interpreter with itself; prints what was reached
-//! difftest linked SEED CASES          with the static library (feature `linked`)
-//! difftest bench PROGRAM SEED JOBS    with a bench program, by jobs on its standard input
+//! difftest served COMMAND SEED CASES  with the static library, through a program that serves its calls
+//! difftest bench COMMAND SEED JOBS    with a bench program, by jobs on its standard input
 //! ```
 //!
 //! After each step state, cause and the whole image must be the same. The first
 //! difference is printed, and the answer is then 1.
 
-use std::io::Write;
-use std::process::{Command, ExitCode, Stdio};
+use std::cell::RefCell;
+use std::io::{Read, Write};
+use std::process::{Child, Command, ExitCode, Stdio};
 
 use wd16::abi;
 use wd16::bench::bench;
@@ -62,98 +63,105 @@ impl Processor for Plain {
     }
 }
 
-/// The static library.
-#[cfg(feature = "linked")]
-#[allow(unsafe_code)]
-mod linked {
-    use super::Processor;
+/// A program, with its input and output as pipes.
+fn started(command: &str) -> std::io::Result<Child> {
+    let mut words = command.split_whitespace();
+    Command::new(words.next().unwrap_or_default())
+        .args(words)
+        .stdin(Stdio::piped())
+        .stdout(Stdio::piped())
+        .spawn()
+}
 
-    extern "C" {
-        fn wd16_power_up(
-            state: *mut u8,
-            state_len: usize,
-            image: *const u8,
-            image_len: usize,
-            map: *const u8,
-            map_len: usize,
-        ) -> u8;
-        fn wd16_step(
-            state: *mut u8,
-            state_len: usize,
-            image: *mut u8,
-            image_len: usize,
-            map: *const u8,
-            map_len: usize,
-            line: u16,
-        ) -> u8;
-        fn wd16_run(
-            state: *mut u8,
-            state_len: usize,
-            tally: *mut u8,
-            tally_len: usize,
-            image: *mut u8,
-            image_len: usize,
-            map: *const u8,
-            map_len: usize,
-            lines: *const u16,
-            lines_len: usize,
-        ) -> u8;
+/// A program that serves the calls on its standard input and output (c/serve.c).
+struct Served {
+    child: RefCell<Child>,
+}
+
+/// What a call is lent, in the order of the request.
+struct Lent<'a> {
+    bytes: [&'a [u8]; 4],
+    lines: &'a [u16],
+}
+
+impl Served {
+    fn start(command: &str) -> std::io::Result<Served> {
+        let child = RefCell::new(started(command)?);
+        Ok(Served { child })
     }
 
-    pub struct Linked;
+    fn exchange(&self, request: &[u8], answer: &mut [u8]) -> std::io::Result<()> {
+        let mut child = self.child.borrow_mut();
+        let input = child.stdin.as_mut().expect("a pipe");
+        input.write_all(request)?;
+        input.flush()?;
+        child.stdout.as_mut().expect("a pipe").read_exact(answer)
+    }
 
-    // Each pointer comes with its slice's length, and no two slices overlap.
-    impl Processor for Linked {
-        fn power_up(&self, state: &mut [u8], image: &[u8], map: &[u8]) -> u8 {
-            unsafe {
-                wd16_power_up(
-                    state.as_mut_ptr(),
-                    state.len(),
-                    image.as_ptr(),
-                    image.len(),
-                    map.as_ptr(),
-                    map.len(),
-                )
-            }
+    /// The number that is answered, and state, tally and image after the call.
+    fn call(&self, kind: u8, lent: Lent) -> (u8, [Vec<u8>; 3]) {
+        let lines: Vec<u8> = lent.lines.iter().flat_map(|l| l.to_le_bytes()).collect();
+        let mut request = vec![kind];
+        for length in lent
+            .bytes
+            .map(<[u8]>::len)
+            .into_iter()
+            .chain([lent.lines.len()])
+        {
+            request.extend((length as u32).to_le_bytes());
         }
+        let elements = [&lent.bytes.concat()[..], &lines].concat();
+        request.extend(&elements);
+        let mut answer = vec![0; 1 + elements.len()];
+        self.exchange(&request, &mut answer)
+            .expect("the server answers each call");
+        let (number, mut rest) = (answer[0], &answer[1..]);
+        let mut after = |length: usize| {
+            let (front, back) = rest.split_at(length);
+            rest = back;
+            front.to_vec()
+        };
+        let changed = [0, 1, 2].map(|buffer| after(lent.bytes[buffer].len()));
+        assert!(
+            rest == [lent.bytes[3], &lines].concat(),
+            "a call changed the map or the lines"
+        );
+        (number, changed)
+    }
+}
 
-        fn step(&self, state: &mut [u8], image: &mut [u8], map: &[u8], line: u16) -> u8 {
-            unsafe {
-                wd16_step(
-                    state.as_mut_ptr(),
-                    state.len(),
-                    image.as_mut_ptr(),
-                    image.len(),
-                    map.as_ptr(),
-                    map.len(),
-                    line,
-                )
-            }
-        }
+impl Processor for Served {
+    fn power_up(&self, state: &mut [u8], image: &[u8], map: &[u8]) -> u8 {
+        let bytes = [&*state, &[], image, map];
+        let (number, [s, _, i]) = self.call(0, Lent { bytes, lines: &[] });
+        assert!(i == image, "a power-up changed the image");
+        state.copy_from_slice(&s);
+        number
+    }
 
-        fn run(
-            &self,
-            state: &mut [u8],
-            tally: &mut [u8],
-            image: &mut [u8],
-            map: &[u8],
-            lines: &[u16],
-        ) -> u8 {
-            unsafe {
-                wd16_run(
-                    state.as_mut_ptr(),
-                    state.len(),
-                    tally.as_mut_ptr(),
-                    tally.len(),
-                    image.as_mut_ptr(),
-                    image.len(),
-                    map.as_ptr(),
-                    map.len(),
-                    lines.as_ptr(),
-                    lines.len(),
-                )
-            }
-        }
+    fn step(&self, state: &mut [u8], image: &mut [u8], map: &[u8], line: u16) -> u8 {
+        let bytes = [&*state, &[], &*image, map];
+        let lines = &[line];
+        let (number, [s, _, i]) = self.call(1, Lent { bytes, lines });
+        state.copy_from_slice(&s);
+        image.copy_from_slice(&i);
+        number
+    }
+
+    fn run(
+        &self,
+        state: &mut [u8],
+        tally: &mut [u8],
+        image: &mut [u8],
+        map: &[u8],
+        lines: &[u16],
+    ) -> u8 {
+        let bytes = [&*state, &*tally, &*image, map];
+        let (number, [s, t, i]) = self.call(2, Lent { bytes, lines });
+        state.copy_from_slice(&s);
+        tally.copy_from_slice(&t);
+        image.copy_from_slice(&i);
+        number
     }
 }
 
@@ -320,8 +328,8 @@ fn damage(call: &mut Call, random: &mut Random, reads_state: bool) {
     }
 }
 
-/// A call on both sides; kind 0 is power-up, 1 step, 2 run.
-fn refused_call(kind: usize, call: &Call, other: &dyn Processor) -> Result<(), Difference> {
+/// A call on both sides, and its number; kind 0 is power-up, 1 step, 2 run.
+fn refused_call(kind: usize, call: &Call, other: &dyn Processor) -> Result<u8, Difference> {
     let make = |processor: &dyn Processor| {
         let mut c = call.clone();
         let answer = match kind {
@@ -342,11 +350,18 @@ fn refused_call(kind: usize, call: &Call, other: &dyn Processor) -> Result<(), D
     if ours.0 != 0 && (ours.1 != [&call.state[..], &call.tally].concat() || ours.2 != call.image) {
         return Err(format!("{what}: a refused call changed a buffer"));
     }
-    Ok(())
+    Ok(ours.0)
 }
 
-fn refused_calls(pair: &Pair, random: &mut Random) -> Result<(), Difference> {
-    for kind in 0..3 {
+/// How many calls of each kind are damaged on a board.
+const DAMAGED_ON_A_BOARD: usize = 8;
+
+fn refused_calls(
+    pair: &Pair,
+    random: &mut Random,
+    reached: &mut Coverage,
+) -> Result<(), Difference> {
+    for kind in (0..3).cycle().take(3 * DAMAGED_ON_A_BOARD) {
         let state = gen::state(random, &pair.map);
         let mut call = Call {
             state: abi::bytes_of(&state, Cause::OpCode).to_vec(),
@@ -358,7 +373,8 @@ fn refused_calls(pair: &Pair, random: &mut Random) -> Result<(), Difference> {
         for _ in 0..=random.below(3) {
             damage(&mut call, random, kind > 0);
         }
-        refused_call(kind, &call, pair.other)?;
+        let number = refused_call(kind, &call, pair.other)?;
+        reached.count_refusal(kind, number);
     }
     Ok(())
 }
@@ -419,7 +435,7 @@ fn one_board(
         one_case(&mut pair, random, reached)?;
     }
     one_run(&mut pair, random)?;
-    refused_calls(&pair, random)
+    refused_calls(&pair, random, reached)
 }
 
 fn compare(other: &dyn Processor, seed: u64, cases: usize) -> ExitCode {
@@ -452,11 +468,8 @@ fn compare(other: &dyn Processor, seed: u64, cases: usize) -> ExitCode {
 // ---- jobs through a program ----
 
 /// What a bench program prints for a job.
-fn printed(program: &str, job: &[u8]) -> std::io::Result<Vec<u8>> {
-    let mut child = Command::new(program)
-        .stdin(Stdio::piped())
-        .stdout(Stdio::piped())
-        .spawn()?;
+fn printed(command: &str, job: &[u8]) -> std::io::Result<Vec<u8>> {
+    let mut child = started(command)?;
     if let Some(mut input) = child.stdin.take() {
         // A program that refuses early may close its input before all is written.
         let _ = input.write_all(job);
@@ -464,7 +477,7 @@ fn printed(program: &str, job: &[u8]) -> std::io::Result<Vec<u8>> {
     Ok(child.wait_with_output()?.stdout)
 }
 
-fn compare_jobs(program: &str, seed: u64, jobs: usize) -> ExitCode {
+fn compare_jobs(command: &str, seed: u64, jobs: usize) -> ExitCode {
     println!("seed {seed}, {jobs} jobs");
     let mut random = Random::new(seed);
     let mut refused = [0_u64; 21];
@@ -479,9 +492,9 @@ fn compare_jobs(program: &str, seed: u64, jobs: usize) -> ExitCode {
             .strip_prefix("REFUSED ")
             .map_or(0, |refusal| refusal.parse().unwrap_or(0));
         refused[count] += 1;
-        let theirs = match printed(program, &job) {
+        let theirs = match printed(command, &job) {
             Ok(bytes) => String::from_utf8_lossy(&bytes).into_owned(),
-            Err(error) => format!("{program}: {error}"),
+            Err(error) => format!("{command}: {error}"),
         };
         if theirs.strip_suffix('\n').unwrap_or(&theirs) != ours {
             println!("job {number} of seed {seed}:\n  ours   {ours}\n  theirs {theirs}");
@@ -496,18 +509,21 @@ fn compare_jobs(program: &str, seed: u64, jobs: usize) -> ExitCode {
         &refused[11..]
     );
     println!("0 differences");
+    if refused[0] == 0 || refused[11..].contains(&0) {
+        println!("not reached: a refusal, or a good job");
+        return ExitCode::FAILURE;
+    }
     ExitCode::SUCCESS
 }
 
-#[cfg(feature = "linked")]
-fn compare_linked(seed: u64, cases: usize) -> ExitCode {
-    compare(&linked::Linked, seed, cases)
-}
-
-#[cfg(not(feature = "linked"))]
-fn compare_linked(_: u64, _: usize) -> ExitCode {
-    println!("built without the feature `linked`");
-    ExitCode::FAILURE
+fn compare_served(command: &str, seed: u64, cases: usize) -> ExitCode {
+    match Served::start(command) {
+        Ok(served) => compare(&served, seed, cases),
+        Err(error) => {
+            println!("{command}: {error}");
+            ExitCode::FAILURE
+        }
+    }
 }
 
 fn main() -> ExitCode {
@@ -515,24 +531,23 @@ fn main() -> ExitCode {
     let words: Vec<&str> = arguments.iter().map(String::as_str).collect();
     let number = |text: &str| text.parse::<u64>().ok();
     let usage = || {
-        println!("difftest self SEED CASES | linked SEED CASES | bench PROGRAM SEED JOBS");
+        println!("difftest self SEED CASES | served COMMAND SEED CASES | bench COMMAND SEED JOBS");
         ExitCode::FAILURE
     };
-    match words[..] {
-        ["self" | "linked", seed, cases] => {
-            let (Some(seed), Some(cases)) = (number(seed), number(cases)) else {
-                return usage();
-            };
-            if words[0] == "self" {
-                compare(&Plain, seed, cases as usize)
-            } else {
-                compare_linked(seed, cases as usize)
-            }
+    let (what, seed, count) = match words[..] {
+        [what @ "self", seed, count] => ((what, ""), number(seed), number(count)),
+        [what @ ("served" | "bench"), command, seed, count] => {
+            ((what, command), number(seed), number(count))
         }
-        ["bench", program, seed, jobs] => match (number(seed), number(jobs)) {
-            (Some(seed), Some(jobs)) => compare_jobs(program, seed, jobs as usize),
-            _ => usage(),
-        },
-        _ => usage(),
+        _ => return usage(),
+    };
+    let (Some(seed), Some(count)) = (seed, count) else {
+        return usage();
+    };
+    let count = count as usize;
+    match what {
+        ("self", _) => compare(&Plain, seed, count),
+        ("served", command) => compare_served(command, seed, count),
+        (_, command) => compare_jobs(command, seed, count),
     }
 }

@@ -1,0 +1,71 @@
+/* A board's firmware in small: an image with a converter card that was pulled, powered up, run, stepped; and two refusals.
+   What it prints is held to example.out. */
+#include "hitchbriar.h"
+
+#include <stdio.h>
+#include <string.h>
+
+static uint8_t image[WD16_IMAGE];
+static uint8_t map[WD16_MAP];
+static uint8_t state[WD16_STATE];
+static uint8_t tally[WD16_TALLY];
+
+static void put(uint16_t at, uint16_t word)
+{
+    image[at] = (uint8_t)word;
+    image[at + 1] = (uint8_t)(word >> 8);
+}
+
+static unsigned word_at(const uint8_t *bytes, size_t at)
+{
+    return bytes[at] + 256u * bytes[at + 1];
+}
+
+/* Reads a converter at C000 again and again; the routine at 0090 counts in R1 what could not be read. */
+static void load(void)
+{
+    map[0x00] = 1;
+    put(0x0012, 0x0090); /* bus error */
+    put(0x0016, 0x0080); /* power-up */
+    put(0x0080, 0x09BF); /* MOVI 10,SP */
+    put(0x0082, 0xB5C2); /* MOV #C000,R2 */
+    put(0x0084, 0xC000);
+    put(0x0086, 0xB280); /* MOV @R2,R0 */
+    put(0x0088, 0x01FE); /* BR 0086 */
+    put(0x0090, 0x0C81); /* INC R1 */
+    put(0x0092, 0x000F); /* RTT */
+}
+
+static void show(const char *what, uint8_t answer)
+{
+    printf("%-8s answer %u:", what, answer);
+    for (size_t at = 0; at < WD16_INDICATORS; at += 2)
+        printf(" %04X", word_at(state, at));
+    printf(", indicators %X, I2 %u, mode %u, cause %u\n", state[WD16_INDICATORS], state[WD16_I2], state[WD16_MODE],
+           state[WD16_CAUSE]);
+}
+
+static uint8_t step(uint16_t line)
+{
+    return wd16_step(state, sizeof state, image, sizeof image, map, sizeof map, line);
+}
+
+int main(void)
+{
+    static const uint16_t quiet[18];
+    load();
+    show("power-up", wd16_power_up(state, sizeof state, image, sizeof image, map, sizeof map));
+    show("run", wd16_run(state, sizeof state, tally, sizeof tally, image, sizeof image, map, sizeof map, quiet, 18));
+    printf("blanks %u, the first at %04X\n", word_at(tally, WD16_BLANKS), word_at(tally, WD16_FIRST));
+
+    map[0xC0] = 1; /* the card is put in again */
+    put(0xC000, 0x1234);
+    for (int n = 0; n < 4; n++)
+        show("step", step(0));
+    show("I3", step(WD16_LINE_I3));
+
+    show("refused", step(0x4000)); /* an unused bit: 5, and nothing changes */
+    map[0xC0] = 2;
+    show("refused", step(0)); /* a map byte over 1: 3 */
+    return 0;
+}

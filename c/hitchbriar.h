@@ -1,0 +1,101 @@
+/* The WD16 processor for C: power-up, one step, and a run over line words, on buffers that the caller lends.
+
+   Link libfirmware.a, which `rt staticlib firmware` proves and writes. It needs nothing else, no C library either.
+
+   Each buffer comes as a pointer and a length, in elements. The pointer is not null and points at that many elements, also
+   where the length is wrong; a buffer that is written overlaps no other. Nothing else is asked of the caller: whatever the
+   buffers hold, and whatever their lengths are, a call comes back with 0 or with the number of its refusal. A refused call
+   leaves every buffer as it was. Nothing is kept between calls. */
+#ifndef HITCHBRIAR_H
+#define HITCHBRIAR_H
+
+#include <stddef.h>
+#include <stdint.h>
+
+#ifdef __cplusplus
+extern "C" {
+#endif
+
+enum {
+    WD16_IMAGE = 65536,     /* bytes of an image: the low byte of a word at the even address */
+    WD16_MAP = 256,         /* bytes of a map: 1 where the page of 256 addresses is fitted, else 0 */
+    WD16_STATE = 20,        /* bytes of a state */
+    WD16_TALLY = 4,         /* bytes of a tally */
+    WD16_MOST_LINES = 4096, /* line words of a run, at most */
+};
+
+/* A state's bytes. R0 to R5, SP and PC are bytes 0 to 15, two each, low byte first. */
+enum {
+    WD16_SP = 12,
+    WD16_PC = 14,
+    WD16_INDICATORS = 16, /* N 8, Z 4, V 2, C 1 */
+    WD16_I2 = 17,         /* the interrupt enable: 0 or 1 */
+    WD16_MODE = 18,
+    WD16_CAUSE = 19, /* of the step that led here; 0 after power-up and after a run. Read for its range alone */
+};
+
+enum { /* modes */
+    WD16_RUNNING = 0,
+    WD16_WAITING = 1,
+    WD16_HALTED_POWER_FAIL = 2,
+    WD16_HALTED_SWITCH = 3,
+    WD16_LOCKED = 4,
+};
+
+enum { /* causes */
+    WD16_BY_OP_CODE = 0, /* or its trap */
+    WD16_BY_I3 = 1,
+    WD16_BY_I1 = 2,
+    WD16_BY_I0 = 3,
+    WD16_BY_NOTHING = 4,      /* waiting or halted */
+    WD16_BLANK_OP_CODE = 5,   /* a bus error in an op code */
+    WD16_BLANK_INTERRUPT = 6, /* a bus error in an interrupt */
+    WD16_BLANK_RESTART = 7,   /* a bus error while fetching from 16 */
+    WD16_BY_LOCK = 8,         /* locked, now or before */
+};
+
+/* A tally's bytes: the number of steps with cause 5 to 7, then the place of the first of them, from 0, or FFFF where there
+   was none; two each, low byte first. */
+enum {
+    WD16_BLANKS = 0,
+    WD16_FIRST = 2,
+};
+
+/* A line word's bits. The others are 0. */
+enum {
+    WD16_LINE_I0 = 0x0001,
+    WD16_LINE_I1 = 0x0002,
+    WD16_LINE_I3 = 0x0008,
+    WD16_LINE_POWER_FAIL = 0x0080,
+    WD16_LINE_DEVICE = 0x0100, /* times the device code, 0 to 15 */
+};
+
+/* Refusals, in the order in which they are looked for. */
+enum {
+    WD16_DONE = 0,
+    WD16_BAD_BUFFER = 21,    /* the state is not 20 bytes or the tally not 4; or, where the state is read, indicators over
+                                15, I2 over 1, a mode over 4 or a cause over 8 */
+    WD16_BAD_IMAGE = 1,      /* not 65,536 bytes */
+    WD16_BAD_MAP = 2,        /* not 256 bytes */
+    WD16_BAD_MAP_BYTE = 3,   /* over 1 */
+    WD16_TOO_MANY_LINES = 4, /* over 4,096 */
+    WD16_BAD_LINE = 5,       /* an unused bit of a line word is set */
+};
+
+/* Writes the state after power-up, with cause 0. The state's bytes are not read. Refusals: 21 for its length, 1, 2, 3. */
+uint8_t wd16_power_up(uint8_t *state, size_t state_length, const uint8_t *image, size_t image_length, const uint8_t *map,
+                      size_t map_length);
+
+/* One step over a line word: the state, with its cause, and the image after it. Refusals: 21, 1, 2, 3, 5. */
+uint8_t wd16_step(uint8_t *state, size_t state_length, uint8_t *image, size_t image_length, const uint8_t *map,
+                  size_t map_length, uint16_t line);
+
+/* One step for each line word: the state, with cause 0, the tally and the image after them. Refusals: 21, 1 to 5. */
+uint8_t wd16_run(uint8_t *state, size_t state_length, uint8_t *tally, size_t tally_length, uint8_t *image,
+                 size_t image_length, const uint8_t *map, size_t map_length, const uint16_t *lines, size_t lines_length);
+
+#ifdef __cplusplus
+}
+#endif
+
+#endif

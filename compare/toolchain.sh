@@ -1,0 +1,60 @@
+# Shell functions to build what rt compiles without proving it again: sourced by compare/speed.sh and c/build.sh.
+# Rattle programs are compiled for x86-64. On another machine they run under the kit's emulator.
+kit=$(dirname "$(dirname "$(rt doc)")")
+tools=$kit/on/$(uname -m)/toolchain
+clang=$tools/bin/clang
+emulator=$tools/bin/qemu-x86_64
+[ -x "$emulator" ] || emulator=
+
+# A kit like the one that is installed, whose clang keeps the module that it is given to compile at -O3.
+# rt try compiles three times; the last module of the three has LLVM's assumptions checked at run time.
+keeping_kit() { # FOLDER MODULE
+    local own tool
+    own=on/$(uname -m)
+    mkdir -p "$1/$own/toolchain/bin"
+    for tool in "$kit"/*; do [ "$(basename "$tool")" = on ] || ln -s "$tool" "$1/"; done
+    for tool in "$kit/$own"/*; do [ "$(basename "$tool")" = toolchain ] || ln -s "$tool" "$1/$own/"; done
+    ln -s "$tools/lib" "$1/$own/toolchain/lib"
+    for tool in "$tools/bin"/*; do ln -s "$tool" "$1/$own/toolchain/bin/"; done
+    rm "$1/$own/toolchain/bin/clang"
+    printf '#!/bin/sh\ncase " $* " in *" -O3 "*) cp module.bc "%s";; esac\nexec "%s" "$@"\n' "$2" "$clang" >"$1/$own/toolchain/bin/clang"
+    chmod +x "$1/$own/toolchain/bin/clang"
+}
+
+# The LLVM module that the toolchain makes of a program. Nothing is proved by it.
+module() { # REPOSITORY PROGRAM MODULE
+    local made
+    made=$(mktemp -d)
+    keeping_kit "$made/kit" "$3"
+    rm -f "$3"
+    (cd "$1" && RATTLE_HOME=$made/kit rt try "$2") >"$made/log" 2>&1 || true
+    [ -f "$3" ] || { cat "$made/log"; rm -rf "$made"; return 1; }
+    rm -rf "$made"
+}
+
+# An x86-64 object of a module, with the toolchain's own options.
+x86_64_object() { # MODULE OBJECT
+    "$clang" --target=x86_64-unknown-linux-gnu -march=x86-64 -ffunction-sections -fdata-sections -mllvm -trap-unreachable \
+        -mllvm -no-trap-after-noreturn --no-default-config -Werror -fPIE -O3 -Xclang -fmerge-functions -mllvm -mergefunc-use-aliases \
+        -c -x ir "$1" -o "$2"
+}
+
+# The text of a module with the names of another machine taken out, for this machine.
+for_this_machine() { # TEXT OUT
+    echo 'int x;' | "$clang" --no-default-config -S -emit-llvm -x c - -o - | grep '^target' >"$2"
+    sed -e '/^target /d' -e 's/"\(target-cpu\|target-features\|tune-cpu\)"="[^"]*"//g' "$1" >>"$2"
+}
+
+# A C compiler for x86-64; installed where it is missing.
+x86_64_cc() {
+    if [ "$(uname -m)" = x86_64 ]; then
+        cc "$@"
+    else
+        command -v x86_64-linux-gnu-gcc >/dev/null || installed gcc-x86-64-linux-gnu libc6-dev-amd64-cross
+        x86_64-linux-gnu-gcc -static "$@"
+    fi
+}
+
+installed() { # PACKAGES
+    { apt-get update && apt-get install -y --no-install-recommends "$@"; } >&2
+}

@@ -1,0 +1,12 @@
+use Rattle.state.specs.declared.Mode.the-variants.{Locked}
+use Rattle.word.specs.Past.{past}
+use Rattle.firmware.specs.Layout.{modes}
+use borrow.Author.Needs.{needs}
+use Rattle.firmware.proofs.layout.mode_of.Statement.{statement}
+use Rattle.firmware.proofs.layout.mode_of.Tie as tie
+
+returns-5 : tie.Need-returns-5
+returns-5 c = past modes Locked (c .before .args .n) (c .match .rest)
+
+pub mode-of-spec : {M : Type 1} → statement M
+mode-of-spec = tie.close (tie.spec (λ c. search needs) (λ c. search needs) (λ c. search needs) (λ c. search needs) returns-5)

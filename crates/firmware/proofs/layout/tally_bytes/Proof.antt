@@ -1,0 +1,13 @@
+use Rattle.firmware.specs.Layout.{tallyBytes}
+use borrow.Author.Needs.{needs}
+use Rattle.firmware.proofs.layout.tally_bytes.Statement.{statement}
+use Rattle.firmware.proofs.layout.tally_bytes.Tie as tie
+
+returns : tie.Need-returns
+unfolding tallyBytes
+returns c = rw (c .before .before .before .low .ensures, c .before .before .high .ensures, c .before .low2 .ensures, c .high2 .ensures, c .before .before .before .before .place-of .ensures)
+
+pub tally-bytes-spec : {M : Type 1} → statement M
+tally-bytes-spec =
+    tie.close
+    (tie.spec (λ c κs. search needs) (λ c κs. search needs) (λ c κs. search needs) (λ c κs. search needs) (λ c κs. search needs) returns)

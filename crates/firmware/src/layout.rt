@@ -1,0 +1,186 @@
+// The lent bytes of a state and of a tally.
+use machine::First;
+use machine::Tally;
+use state::Mode;
+use state::State;
+use word::Flags;
+ghost use mathlib.Core.Path.{_≡_};
+ghost use Prim.Native.Nat.{_+_, _≤_, _<_, _*_};
+ghost use lib.ListN.{length};
+ghost use Rattle.word.specs.Number.{digit};
+ghost use Rattle.word.specs.Status.{flagsOf};
+ghost use Rattle.state.specs.State.{modeNumber};
+ghost use Rattle.firmware.specs.Layout as Spec;
+
+// The byte at a place, 0 past the end.
+fn byte_at(b: &[u8], at: usize) -> u8
+    ensures { λ r. ⌜ r ≡ Spec.byteAt (now (b .entry)) at ⌝ }
+{
+    if at < b.len() { b[at] } else { 0 }
+}
+
+// The word at a place, low byte first.
+fn word_at(b: &[u8], at: usize) -> u16
+    requires { ⌜ at < 65536 ⌝ }
+    ensures { λ r. ⌜ r ≡ Spec.wordAt (now (b .entry)) at ⌝ }
+{
+    let low = byte_at(b, at);
+    let high = byte_at(b, at + 1);
+    low as u16 + high as u16 * 256
+}
+
+fn low(v: u16) -> u8
+    ensures { λ r. ⌜ r ≡ Spec.low v ⌝ }
+{
+    (v % 256) as u8
+}
+
+fn high(v: u16) -> u8
+    ensures { λ r. ⌜ r ≡ Spec.high v ⌝ }
+{
+    (v / 256) as u8
+}
+
+// 1 for true, 0 for false.
+fn digit(b: bool) -> u8
+    ensures { λ r. ⌜ (r ≡ digit b) × (r ≤ 1) ⌝ }
+{
+    b as u8
+}
+
+// N 8, Z 4, V 2, C 1.
+fn indicators(f: Flags) -> u8
+    ensures { λ r. ⌜ r ≡ Spec.indicators f ⌝ }
+{
+    digit(f.n) * 8 + digit(f.z) * 4 + digit(f.v) * 2 + digit(f.c)
+}
+
+fn mode_number(m: Mode) -> u8
+    ensures { λ r. ⌜ r ≡ modeNumber m ⌝ }
+{
+    match m {
+        Mode::Running => 0,
+        Mode::Waiting => 1,
+        Mode::PowerHalt => 2,
+        Mode::SwitchHalt => 3,
+        Mode::Locked => 4,
+    }
+}
+
+fn mode_of(n: u8) -> Mode
+    ensures { λ r. ⌜ r ≡ Spec.modeOf n ⌝ }
+{
+    match n {
+        0 => Mode::Running,
+        1 => Mode::Waiting,
+        2 => Mode::PowerHalt,
+        3 => Mode::SwitchHalt,
+        _ => Mode::Locked,
+    }
+}
+
+// Whether bytes 16 to 19 hold more than they may.
+fn over(b: &[u8]) -> bool
+    ensures { λ r. ⌜ r ≡ Spec.over (now (b .entry)) ⌝ }
+{
+    (15 < byte_at(b, 16)) | (1 < byte_at(b, 17)) | (4 < byte_at(b, 18)) | (8 < byte_at(b, 19))
+}
+
+// Whether these are no state's bytes.
+pub(crate) fn refused_state(b: &[u8]) -> bool
+    ensures { λ r. ⌜ r ≡ Spec.refusedState (now (b .entry)) ⌝ }
+{
+    if b.len() != 20 {
+        return true;
+    }
+    over(b)
+}
+
+// R0 to R5, SP and PC.
+fn regs_from(b: &[u8]) -> State
+    ensures { λ r. ⌜ r ≡ Spec.regsFrom (now (b .entry)) ⌝ }
+{
+    state::cleared()
+        .with_reg(0, word_at(b, 0))
+        .with_reg(1, word_at(b, 2))
+        .with_reg(2, word_at(b, 4))
+        .with_reg(3, word_at(b, 6))
+        .with_reg(4, word_at(b, 8))
+        .with_reg(5, word_at(b, 10))
+        .with_reg(6, word_at(b, 12))
+        .with_reg(7, word_at(b, 14))
+}
+
+// The state that the bytes hold.
+pub(crate) fn state_from(b: &[u8]) -> State
+    ensures { λ r. ⌜ r ≡ Spec.stateFrom (now (b .entry)) ⌝ }
+{
+    regs_from(b)
+        .with_flags(word::status::flags_of(byte_at(b, 16) as u16))
+        .with_i2(byte_at(b, 17) == 1)
+        .with_mode(mode_of(byte_at(b, 18)))
+}
+
+// The bytes of a state and of the cause that led to it.
+fn state_bytes(s: State, cause: u8) -> [u8; 20]
+    ensures { λ r. ⌜ r ≡ Spec.bytesOf s cause ⌝ }
+{
+    let mode = s.mode;
+    [
+        low(s.regs.r0),
+        high(s.regs.r0),
+        low(s.regs.r1),
+        high(s.regs.r1),
+        low(s.regs.r2),
+        high(s.regs.r2),
+        low(s.regs.r3),
+        high(s.regs.r3),
+        low(s.regs.r4),
+        high(s.regs.r4),
+        low(s.regs.r5),
+        high(s.regs.r5),
+        low(s.regs.sp),
+        high(s.regs.sp),
+        low(s.regs.pc),
+        high(s.regs.pc),
+        indicators(s.flags),
+        digit(s.i2),
+        mode_number(mode),
+        cause,
+    ]
+}
+
+pub(crate) fn put_state(b: &mut [u8], s: State, cause: u8)
+    requires { ⌜ length (now b) ≡ 20 ⌝ }
+    ensures { λ _. ⌜ now (b .exit) ≡ Spec.bytesOf s cause ⌝ }
+{
+    let from = state_bytes(s, cause);
+    bytes::copy(&from, b);
+}
+
+// The place of the first blank, FFFF where there is none.
+fn place_of(first: First) -> u16
+    ensures { λ r. ⌜ r ≡ Spec.placeOf first ⌝ }
+{
+    match first {
+        First::At(place) => place,
+        First::Never => 0xffff,
+    }
+}
+
+// The blanks and the place of the first.
+fn tally_bytes(t: Tally) -> [u8; 4]
+    ensures { λ r. ⌜ r ≡ Spec.tallyBytes t ⌝ }
+{
+    let first = t.first;
+    let place = place_of(first);
+    [low(t.blanks), high(t.blanks), low(place), high(place)]
+}
+
+pub(crate) fn put_tally(b: &mut [u8], t: Tally)
+    requires { ⌜ length (now b) ≡ 4 ⌝ }
+    ensures { λ _. ⌜ now (b .exit) ≡ Spec.tallyBytes t ⌝ }
+{
+    let from = tally_bytes(t);
+    bytes::copy(&from, b);
+}

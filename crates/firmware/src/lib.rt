@@ -1,0 +1,76 @@
+// The processor for C: power-up, one step and a run over plain lent bytes. c/hitchbriar.h has their layout.
+use layout::put_state;
+use layout::put_tally;
+use layout::refused_state;
+use layout::state_from;
+use machine::Finished;
+use machine::Powered;
+use machine::Stepped;
+ghost use mathlib.Core.Path.{_≡_};
+ghost use Rattle.firmware.specs.Calls as Spec;
+
+mod layout;
+
+// The state after power-up; or 21, 1, 2 or 3.
+#[no_mangle]
+pub extern "C" fn wd16_power_up(state: &mut [u8], image: &[u8], map: &[u8]) -> u8
+    ensures { λ r. ⌜ Spec.up r (now (state .exit)) ≡ Spec.powerUpCall (now (state .entry)) (now (image .entry)) (now (map .entry)) ⌝ }
+{
+    if state.len() != 20 {
+        return 21;
+    }
+    match machine::power_up(image, map) {
+        Powered::Up(s) => {
+            put_state(state, s, 0);
+            0
+        }
+        Powered::Refused(why) => why,
+    }
+}
+
+// One step over a line word; or 21, 1, 2, 3 or 5.
+#[no_mangle]
+pub extern "C" fn wd16_step(state: &mut [u8], image: &mut [u8], map: &[u8], line: u16) -> u8
+    ensures { λ r. ⌜ Spec.went r (now (state .exit)) (now (image .exit)) ≡ Spec.stepCall (now (state .entry)) (now (image .entry)) (now (map .entry)) line ⌝ }
+{
+    if refused_state(state) {
+        return 21;
+    }
+    match machine::step(state_from(state), image, map, line) {
+        Stepped::Done(t) => {
+            let after = t.state;
+            put_state(state, after, t.cause);
+            0
+        }
+        Stepped::Refused(why) => why,
+    }
+}
+
+// A run over line words; or 21, or 1 to 5.
+#[no_mangle]
+pub extern "C" fn wd16_run(
+    state: &mut [u8],
+    tally: &mut [u8],
+    image: &mut [u8],
+    map: &[u8],
+    lines: &[u16],
+) -> u8
+    ensures { λ r. ⌜ Spec.ended r (now (state .exit)) (now (tally .exit)) (now (image .exit)) ≡ Spec.runCall (now (state .entry)) (now (tally .entry)) (now (image .entry)) (now (map .entry)) (now (lines .entry)) ⌝ }
+{
+    if refused_state(state) {
+        return 21;
+    }
+    if tally.len() != 4 {
+        return 21;
+    }
+    match machine::run(state_from(state), image, map, lines) {
+        Finished::Done(ran) => {
+            let after = ran.state;
+            let counted = ran.tally;
+            put_state(state, after, 0);
+            put_tally(tally, counted);
+            0
+        }
+        Finished::Refused(why) => why,
+    }
+}
