@@ -15,7 +15,7 @@ use Rattle.state.specs.declared.State.{State}
 use Rattle.state.specs.declared.Mode.the-variants.{Running}
 use Rattle.state.specs.State.{regOf, setReg, reg, withReg, withPc, withSp, withFlags, withI2, withMode, withStatus, cleared, heard, psOf}
 use Rattle.state.specs.Stack.{push, pushReg, pop, popReg, popStatus, fetch, fromLoc, pushBoth, trap}
-use Rattle.operand.specs.Operand.{incrementDeferred, decrementDeferred, indexed, indexedDeferred, locate, moved, decode, readOf, writeTo}
+use Rattle.operand.specs.Operand.{deferred, incrementDeferred, decrementDeferred, indexed, indexedDeferred, locate, moved, decode, readOf, writeTo}
 use Rattle.operate.specs.Format5.{branch}
 use Rattle.operate.specs.Format6.{withDone, withPair, immediate, single, double, format6}
 use Rattle.operate.specs.Operands.{destination}
@@ -85,6 +85,7 @@ table =
     -- 7E02, R1 2, R0 5, R2 3: R0 AAAC, R1 1. R1 3: V1 C0, no divide. R2 0: V1 C1
     ∷ row (pair (stepped 0x7e02 (before 5 2 3 0 false) 0x300 0)) (0xaaac ∷ 1 ∷ 0b1001 ∷ [])
     ∷ row (pair (stepped 0x7e02 (before 5 3 3 0 false) 0x300 0)) (5 ∷ 3 ∷ 0b0010 ∷ [])
+    ∷ row (pair (stepped 0x7e02 (before 5 2 0 0 false) 0x300 0)) (5 ∷ 2 ∷ 0b0011 ∷ [])
     ∷ row (pair (stepped 0x7e02 (before 5 3 0 0 false) 0x300 0)) (5 ∷ 3 ∷ 0b0011 ∷ [])
     -- 7643 at 0100: R1 2 to 00FC, R1 1 to 0102, R1 0 to 00FC with FFFF
     ∷ row (r1pc (stepped 0x7643 (before 0 2 0 0 false) 0x300 0)) (1 ∷ 0x00fc ∷ [])
@@ -95,9 +96,9 @@ table =
     row (a .state .regs .r0 ∷ wordAt (a .image) 0x1fe ∷ wordAt (a .image) 0x1fc ∷ a .state .regs .pc ∷ []) (0x1234 ∷ 0x5f00 ∷ 0x0102 ∷ 0x0300 ∷ []))
     -- B44A with R2 unfitted: R1 is not incremented
     ∷ row (r1pc (stepped 0xb44a (before 0 0x0300 0x8000 0 false) 0x12 0x300)) (0x0300 ∷ 0x0300 ∷ [])
-    -- 15C0 0005 is ADD #0005,R0. B7E6 1234 is MOV @#1234,-(SP)
-    ∷ row (textOf (0x15c0 ∷ 0x0005 ∷ [])) (letters "ADD #0005,R0")
-    ∷ row (textOf (0xb7e6 ∷ 0x1234 ∷ [])) (letters "MOV @#1234,-(SP)")
+    -- 15C0 0005 is ADD #0005,R0. B7E6 1234 is MOV @#1234,-(SP). Each takes both words
+    ∷ row (taken 0x15c0 ∷ textOf (0x15c0 ∷ 0x0005 ∷ [])) (2 ∷ letters "ADD #0005,R0")
+    ∷ row (taken 0xb7e6 ∷ textOf (0xb7e6 ∷ 0x1234 ∷ [])) (2 ∷ letters "MOV @#1234,-(SP)")
     ∷ []
 
 -- EVERY ROW HOLDS

@@ -12,8 +12,7 @@ use Rattle.state.specs.declared.Outside.{Outside}
 use Rattle.state.specs.declared.Mode.{Mode}
 use Rattle.state.specs.declared.Mode.the-variants.{Running, Waiting, PowerHalt, SwitchHalt, Locked}
 use Rattle.state.specs.State.{pick, heard}
-use Rattle.step.specs.declared.Kind.{Kind}
-use Rattle.step.specs.declared.Kind.the-variants.{OpCode, Restart, NonVectored, Vectored, Idle}
+use Rattle.step.specs.Causes.{cause-le}
 use Rattle.step.specs.Step.{kindOf, asked, workOf, busError, causeOf, errorCauseOf, After, after, orElse, errorOf, stepOf, powerUpOf}
 use Rattle.machine.specs.Run.{End, end, runOf}
 use Rattle.machine.specs.Entry.{refused, answered, left, unless, turned, boardRefusal, stepRefusal, runRefusal, powerUpPage, stepPage, runPage}
@@ -21,44 +20,6 @@ use Rattle.machine.specs.Entry as Entry
 use Rattle.firmware.specs.Layout.{refusedState, stateFrom}
 use Rattle.firmware.specs.Again.{state-taken}
 use Rattle.firmware.specs.Calls.{Up, up, upFrom, powerUpCall, Went, went, wentFrom, stepCall, Ended, ended, endedFrom, runCall}
-
--- ---- a step's cause is 0 to 8
-
-pick-le : (b : Bool) (x y : Kind) → causeOf x ≤ 8 → causeOf y ≤ 8 → causeOf (pick b x y) ≤ 8
-pick-le true x y p q = p
-pick-le false x y p q = q
-
-asked-le : (i2 : Bool) (out : Outside) (k : Kind) → causeOf k ≤ 8 → causeOf (asked i2 out k) ≤ 8
-asked-le i2 out k h =
-    let one : causeOf NonVectored ≤ 8 = omega arith in
-    let zero : causeOf Vectored ≤ 8 = omega arith in
-    let three : causeOf (Restart 1) ≤ 8 = omega arith in
-    pick-le (out .i3) (Restart 1) _ three (pick-le i2 _ k (pick-le (out .i1) NonVectored _ one (pick-le (out .i0) Vectored k zero h)) h)
-
-kind-le : (m : Mode) (i2 : Bool) (out : Outside) → causeOf (kindOf m i2 out) ≤ 8
-unfolding kindOf
-kind-le Running i2 out = asked-le i2 out OpCode (omega arith)
-kind-le Waiting i2 out = asked-le i2 out (Idle 4) (omega arith)
-kind-le PowerHalt i2 out = pick-le (out .fail) (Idle 4) (Restart 0) (omega arith) (omega arith)
-kind-le SwitchHalt i2 out = pick-le (out .i3) (Restart 1) (Idle 4) (omega arith) (omega arith)
-kind-le Locked i2 out = omega arith
-
-error-le : (k : Kind) → errorCauseOf k ≤ 8
-error-le OpCode = omega arith
-error-le (Restart cause) = omega arith
-error-le NonVectored = omega arith
-error-le Vectored = omega arith
-error-le (Idle cause) = omega arith
-
-else-le : (c : Came State) (k : ℕ) (a : After) → k ≤ 8 → a .cause ≤ 8 → orElse c k a .cause ≤ 8
-else-le (value s m) k a p q = p
-else-le (blank b) k a p q = q
-
-pub cause-le : (map : List ℕ) (out : Outside) (s : State) (m : List ℕ) → stepOf map out s m .cause ≤ 8
-unfolding stepOf errorOf
-cause-le map out s m =
-    let k = kindOf (s .mode) (s .i2) out in
-    else-le (run map (workOf k out s) m) (causeOf k) _ (kind-le (s .mode) (s .i2) out) (else-le (run map (busError k out s) m) (errorCauseOf k) _ (error-le k) (omega arith))
 
 -- ---- from the pages to the calls
 

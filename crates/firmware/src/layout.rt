@@ -9,7 +9,6 @@ ghost use Prim.Native.Nat.{_+_, _≤_, _<_, _*_};
 ghost use lib.ListN.{length};
 ghost use Rattle.word.specs.Number.{digit};
 ghost use Rattle.word.specs.Status.{flagsOf};
-ghost use Rattle.state.specs.State.{modeNumber};
 ghost use Rattle.firmware.specs.Layout as Spec;
 
 // The byte at a place, 0 past the end.
@@ -55,18 +54,7 @@ fn indicators(f: Flags) -> u8
     digit(f.n) * 8 + digit(f.z) * 4 + digit(f.v) * 2 + digit(f.c)
 }
 
-fn mode_number(m: Mode) -> u8
-    ensures { λ r. ⌜ r ≡ modeNumber m ⌝ }
-{
-    match m {
-        Mode::Running => 0,
-        Mode::Waiting => 1,
-        Mode::PowerHalt => 2,
-        Mode::SwitchHalt => 3,
-        Mode::Locked => 4,
-    }
-}
-
+// A mode by its number.
 fn mode_of(n: u8) -> Mode
     ensures { λ r. ⌜ r ≡ Spec.modeOf n ⌝ }
 {
@@ -145,7 +133,7 @@ fn state_bytes(s: State, cause: u8) -> [u8; 20]
         high(s.regs.pc),
         indicators(s.flags),
         digit(s.i2),
-        mode_number(mode),
+        state::mode_number(mode),
         cause,
     ]
 }

@@ -7,8 +7,8 @@ use Rattle.board.specs.Alike.{Agree}
 use Rattle.state.specs.declared.State.{State}
 use Rattle.state.specs.State.{heard}
 use Rattle.step.specs.declared.Turn.{Turn}
-use Rattle.step.specs.Step.{After, stepOf}
-use Rattle.step.specs.Alike.{Same, step-alike, Untouched, step-untouched}
+use Rattle.step.specs.Step.{After, stepOf, powerUpOf}
+use Rattle.step.specs.Alike.{power-alike, Same, step-alike, Untouched, step-untouched}
 use Rattle.machine.specs.declared.Finished.{Finished}
 use Rattle.machine.specs.declared.Finished.the-variants as Finished
 use Rattle.machine.specs.declared.Stepped.{Stepped}
@@ -17,7 +17,9 @@ use Rattle.machine.specs.declared.Ran.{Ran}
 use Rattle.machine.specs.declared.Tally.{Tally}
 use Rattle.machine.specs.Run.{End, end, runOf, noBlanks}
 use Rattle.machine.specs.Alike.{Ends, ends, run-alike, imageOf, run-untouched}
-use Rattle.machine.specs.Entry.{Page, refused, answered, Left, left, unless, ended, turned, stepRefusal, runRefusal, stepPage, runPage, steppedPage, finishedPage}
+use Rattle.machine.specs.declared.Powered.{Powered}
+use Rattle.machine.specs.declared.Powered.the-variants as Powered
+use Rattle.machine.specs.Entry.{poweredPage, powerUpPage, boardRefusal, unless, Page, refused, answered, Left, left, ended, turned, stepRefusal, runRefusal, stepPage, runPage, steppedPage, finishedPage}
 
 -- the same answer, and images that agree on fitted bytes
 pub record SameLeft {A : Type 0} (map : List ℕ) (x y : Left A) : Type 0 where
@@ -73,6 +75,27 @@ stepped-one (Stepped.Refused x) (Stepped.Refused y) m n e = cc
 stepped-one (Stepped.Done x) (Stepped.Refused y) m n e = cc
 stepped-one (Stepped.Refused x) (Stepped.Done y) m n e = cc
 
+-- ONE OUTCOME: two outcomes of a call that meet its contract are the same
+pub one-power : (r q : Powered) → poweredPage r ≡ poweredPage q → r ≡ q
+one-power (Powered.Up x) (Powered.Up y) e = cc
+one-power (Powered.Refused x) (Powered.Refused y) e = cc
+one-power (Powered.Up x) (Powered.Refused y) e = cc
+one-power (Powered.Refused x) (Powered.Up y) e = cc
+
+pub one-step : (r q : Stepped) (m n : List ℕ) → steppedPage r m ≡ steppedPage q n → (r ≡ q) × (m ≡ n)
+one-step r q m n e = (stepped-one r q m n (ap (λ z. z .page) e), image-of r m ∙ ap (λ z. z .image) e ∙ sym (image-of q n))
+  where
+    image-of : (r : Stepped) (m : List ℕ) → m ≡ steppedPage r m .image
+    image-of (Stepped.Done x) m = refl
+    image-of (Stepped.Refused x) m = refl
+
+pub one-run : (r q : Finished) (m n : List ℕ) → finishedPage r m ≡ finishedPage q n → (r ≡ q) × (m ≡ n)
+one-run r q m n e = (finished-one r q m n (ap (λ z. z .page) e), image-of r m ∙ ap (λ z. z .image) e ∙ sym (image-of q n))
+  where
+    image-of : (r : Finished) (m : List ℕ) → m ≡ finishedPage r m .image
+    image-of (Finished.Done x) m = refl
+    image-of (Finished.Refused x) m = refl
+
 -- what two calls come to, whose images agreed on fitted bytes: the same answer, fitted bytes that agree, unfitted bytes as lent
 pub record Blind {A : Type 0} (map m n : List ℕ) (r q : A) (m′ n′ : List ℕ) : Type 0 where
   pub answer : r ≡ q
@@ -116,3 +139,11 @@ step-blind map line s m n m′ n′ r q e f l g =
     left-image : (r : Stepped) (k : List ℕ) {y : Left Turn} → steppedPage r k ≡ y → (a : ℕ) → getD k a 0 ≡ getD (y .image) a 0
     left-image (Stepped.Done x) k e a = ap (λ z. getD (z .image) a 0) e
     left-image (Stepped.Refused x) k e a = ap (λ z. getD (z .image) a 0) e
+
+power-same : (map m n : List ℕ) → length m ≡ length n → Agree map m n → powerUpPage m map ≡ powerUpPage n map
+unfolding powerUpPage
+power-same map m n l g = rw (l, power-alike map m n l g)
+
+-- POWER-UP IS BLIND TO UNFITTED BYTES
+pub power-blind : (map m n : List ℕ) (r q : Powered) → poweredPage r ≡ powerUpPage m map → poweredPage q ≡ powerUpPage n map → length m ≡ length n → Agree map m n → r ≡ q
+power-blind map m n r q e f l g = one-power r q (e ∙ power-same map m n l g ∙ sym f)

@@ -6,4 +6,3 @@ pub mod Over
 pub mod Answer
 pub mod Guess
 pub mod Words
-pub mod Examples

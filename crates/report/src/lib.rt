@@ -2,11 +2,9 @@
 use line::Place;
 use machine::First;
 use machine::Ran;
-use state::Mode;
 use state::State;
 ghost use mathlib.Core.Path.{_≡_};
 ghost use Rattle.line.specs.Line.{left, written};
-ghost use Rattle.state.specs.State.{modeNumber};
 ghost use Rattle.report.specs.Report as Spec;
 
 // The registers in the line's order.
@@ -23,19 +21,6 @@ fn registers(s: State) -> [u16; 8]
         s.regs.sp,
         s.regs.pc,
     ]
-}
-
-// The page's number of a mode.
-fn digit(mode: Mode) -> u8
-    ensures { λ r. ⌜ r ≡ modeNumber mode ⌝ }
-{
-    match mode {
-        Mode::Running => 0,
-        Mode::Waiting => 1,
-        Mode::PowerHalt => 2,
-        Mode::SwitchHalt => 3,
-        Mode::Locked => 4,
-    }
 }
 
 fn place(first: First) -> Place
@@ -57,7 +42,7 @@ pub fn write_end(text: &mut [u8], ran: Ran) -> usize
     let first = tally.first;
     let regs = registers(s);
     let ps = s.ps(state::hear(0), false);
-    let number = digit(mode);
+    let number = state::mode_number(mode);
     let at = place(first);
     line::write_line(text, regs, ps, number, tally.blanks, at)
 }

@@ -6,7 +6,7 @@ use word::Flags;
 ghost use mathlib.Core.Path.{_≡_};
 ghost use Rattle.board.specs.Exec.{beside, Lent, Board, Saw};
 ghost use Rattle.state.specs.State as Spec;
-ghost use Rattle.state.specs.State.{withReg, withSp, withPc, withI2, withMode, withFlags, withStatus, psOf};
+ghost use Rattle.state.specs.State.{modeNumber, withReg, withSp, withPc, withI2, withMode, withFlags, withStatus, psOf};
 ghost use Rattle.state.specs.Stack as Stack;
 ghost use Rattle.state.specs.Answer as Answer;
 ghost use Rattle.state.specs.Answer.{Works, wentAs, tookAs};
@@ -378,6 +378,19 @@ pub fn untaken(took: Took) -> Went
     match took {
         Took::Word(_, _) => Went::Blank(0),
         Took::Blank(a) => Went::Blank(a),
+    }
+}
+
+// The page's number of a mode.
+pub fn mode_number(mode: Mode) -> u8
+    ensures { λ r. ⌜ r ≡ modeNumber mode ⌝ }
+{
+    match mode {
+        Mode::Running => 0,
+        Mode::Waiting => 1,
+        Mode::PowerHalt => 2,
+        Mode::SwitchHalt => 3,
+        Mode::Locked => 4,
     }
 }
 

@@ -8,7 +8,9 @@ use Rattle.board.specs.Work.{Work, Came, value, blank, run, fitted}
 use Rattle.board.specs.Alike.{Agree, Alike, both, neither, alike, kept}
 use Rattle.state.specs.declared.State.{State}
 use Rattle.state.specs.declared.Outside.{Outside}
-use Rattle.step.specs.Step.{After, after, stepOf, errorOf, orElse, kindOf, workOf, busError, causeOf, errorCauseOf}
+use Rattle.state.specs.State.{cleared}
+use Rattle.state.specs.Stack.{fromLoc}
+use Rattle.step.specs.Step.{After, after, stepOf, errorOf, orElse, orLocked, powerUpOf, kindOf, workOf, busError, causeOf, errorCauseOf}
 
 -- ---- two images that agree on fitted bytes
 
@@ -29,6 +31,15 @@ step-alike map out s m n l g =
     let k = kindOf (s .mode) (s .i2) out in
     or-same map (causeOf k) (alike map (workOf k out s) m n l g)
     (or-same map (errorCauseOf k) (alike map (busError k out s) m n l g) (record { state = refl; cause = refl; size = l; agree = g }))
+
+or-locked : (map : List ℕ) {x y : Came State} → Alike map x y → orLocked x ≡ orLocked y
+or-locked map (both l g) = refl
+or-locked map neither = refl
+
+-- the same state after power-up
+pub power-alike : (map m n : List ℕ) → length m ≡ length n → Agree map m n → powerUpOf map m ≡ powerUpOf map n
+unfolding powerUpOf
+power-alike map m n l g = or-locked map (alike map (fromLoc cleared 0x16) m n l g)
 
 -- ---- unfitted bytes come back as lent
 

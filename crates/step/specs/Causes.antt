@@ -1,5 +1,6 @@
 -- What the definitions of a step rule out.
-use Prim.Native.Nat.{ℕ}
+use Prim.Native.Nat.{ℕ, _≤_}
+use native.Mathlib.Omega.{arith}
 use mathlib.Core.Bool.{Bool, true, false}
 use mathlib.Core.List.{List}
 use mathlib.Core.Path.{_≡_, refl, sym, ap, _∙_}
@@ -10,11 +11,11 @@ use Rattle.state.specs.declared.State.{State}
 use Rattle.state.specs.declared.Outside.{Outside}
 use Rattle.state.specs.declared.Mode.{Mode}
 use Rattle.state.specs.declared.Mode.the-variants.{Running, Waiting, PowerHalt, SwitchHalt, Locked}
-use Rattle.state.specs.State.{withReg, setReg, withMode, withI2, minus, pick}
+use Rattle.state.specs.State.{withReg, setReg, withMode, withI2, minus, pick, psOf}
 use Rattle.state.specs.Stack.{push, pushBoth, fromLoc, trap}
 use Rattle.step.specs.declared.Kind.{Kind}
 use Rattle.step.specs.declared.Kind.the-variants.{OpCode, Restart, NonVectored, Vectored, Idle}
-use Rattle.step.specs.Step.{After, after, isBlank, asked, raised, kindOf, workOf, busError, causeOf, errorCauseOf, errorOf, stepOf, orElse}
+use Rattle.step.specs.Step.{After, after, isBlank, asked, raised, kindOf, workOf, busError, causeOf, errorCauseOf, errorOf, stepOf, orElse, past}
 use Rattle.step.specs.Ends.{step-well, step-ill}
 
 -- A step from locked changes nothing.
@@ -24,30 +25,29 @@ locked-still map out s m e = sym (step-well map out s m {k = Idle 8} (sym (ap (�
 
 -- ---- the count of blanks is the count that the manual's steps give
 
-asked-plain : (i3 i2 i1 i0 : Bool) (other : Kind) → isBlank (causeOf other) ≡ false
-    → isBlank (causeOf (pick i3 (Restart 1) (pick i2 (pick i1 NonVectored (pick i0 Vectored other)) other))) ≡ false
-asked-plain true i2 i1 i0 other h = refl
-asked-plain false true true i0 other h = refl
-asked-plain false true false true other h = refl
-asked-plain false true false false other h = h
-asked-plain false false i1 i0 other h = h
+-- what holds of the causes 0 to 4 and 8 holds of the cause of every kind of step
+module _ (P : ℕ → Type 0) where
+  pick-cause : (b : Bool) (x y : Kind) → P (causeOf x) → P (causeOf y) → P (causeOf (pick b x y))
+  pick-cause true x y p q = p
+  pick-cause false x y p q = q
 
-picked-plain : (b : Bool) (x y : Kind) → isBlank (causeOf x) ≡ false → isBlank (causeOf y) ≡ false → isBlank (causeOf (pick b x y)) ≡ false
-picked-plain true x y h g = h
-picked-plain false x y h g = g
+  asked-cause : (i2 : Bool) (out : Outside) (k : Kind) → P 1 → P 2 → P 3 → P (causeOf k) → P (causeOf (asked i2 out k))
+  asked-cause i2 out k one two three h =
+      pick-cause (out .i3) (Restart 1) _ one
+      (pick-cause i2 _ k (pick-cause (out .i1) NonVectored _ two (pick-cause (out .i0) Vectored k three h)) h)
 
-kind-plain : (mode : Mode) (i2 : Bool) (out : Outside) → isBlank (causeOf (kindOf mode i2 out)) ≡ false
-unfolding kindOf
-kind-plain Running i2 out = asked-plain (out .i3) i2 (out .i1) (out .i0) OpCode refl
-kind-plain Waiting i2 out = asked-plain (out .i3) i2 (out .i1) (out .i0) (Idle 4) refl
-kind-plain PowerHalt i2 out = picked-plain (out .fail) (Idle 4) (Restart 0) refl refl
-kind-plain SwitchHalt i2 out = picked-plain (out .i3) (Restart 1) (Idle 4) refl refl
-kind-plain Locked i2 out = refl
+  kind-cause : P 0 → P 1 → P 2 → P 3 → P 4 → P 8 → (mode : Mode) (i2 : Bool) (out : Outside) → P (causeOf (kindOf mode i2 out))
+  unfolding kindOf
+  kind-cause zero one two three four eight Running i2 out = asked-cause i2 out OpCode one two three zero
+  kind-cause zero one two three four eight Waiting i2 out = asked-cause i2 out (Idle 4) one two three four
+  kind-cause zero one two three four eight PowerHalt i2 out = pick-cause (out .fail) (Idle 4) (Restart 0) four zero
+  kind-cause zero one two three four eight SwitchHalt i2 out = pick-cause (out .i3) (Restart 1) (Idle 4) one four
+  kind-cause zero one two three four eight Locked i2 out = eight
 
 module _ (map : List ℕ) (out : Outside) (s : State) (m : List ℕ) where
   -- A step whose work reaches fitted addresses alone is no blank.
   pub value-no-blank : {t : State} {n : List ℕ} → run map (workOf (kindOf (s .mode) (s .i2) out) out s) m ≡ value t n → isBlank (stepOf map out s m .cause) ≡ false
-  value-no-blank h = ap (λ a. isBlank (a .cause)) (sym (step-well map out s m refl h refl)) ∙ kind-plain (s .mode) (s .i2) out
+  value-no-blank h = ap (λ a. isBlank (a .cause)) (sym (step-well map out s m refl h refl)) ∙ kind-cause (λ c. isBlank c ≡ false) refl refl refl refl refl refl (s .mode) (s .i2) out
 
   -- A step whose work reaches an unfitted address is the bus error's: its trap, or locked.
   pub blank-error : {a : ℕ} → run map (workOf (kindOf (s .mode) (s .i2) out) out s) m ≡ blank a → stepOf map out s m ≡ errorOf map (kindOf (s .mode) (s .i2) out) out s m
@@ -75,6 +75,27 @@ blank-counted map out s m h =
       (λ g. e ∙ ap (λ c. orElse c (errorCauseOf k) (after (withMode s Locked) m 8)) g),
     )
 
+-- ---- a step's cause is 0 to 8
+
+error-le : (k : Kind) → errorCauseOf k ≤ 8
+error-le OpCode = omega arith
+error-le (Restart cause) = omega arith
+error-le NonVectored = omega arith
+error-le Vectored = omega arith
+error-le (Idle cause) = omega arith
+
+else-le : (c : Came State) (k : ℕ) (a : After) → k ≤ 8 → a .cause ≤ 8 → orElse c k a .cause ≤ 8
+else-le (value s m) k a p q = p
+else-le (blank b) k a p q = q
+
+pub cause-le : (map : List ℕ) (out : Outside) (s : State) (m : List ℕ) → stepOf map out s m .cause ≤ 8
+unfolding stepOf errorOf
+cause-le map out s m =
+    let k = kindOf (s .mode) (s .i2) out in
+    else-le (run map (workOf k out s) m) (causeOf k) _
+    (kind-cause (λ c. c ≤ 8) (omega arith) (omega arith) (omega arith) (omega arith) (omega arith) (omega arith) (s .mode) (s .i2) out)
+    (else-le (run map (busError k out s) m) (errorCauseOf k) _ (error-le k) (omega arith))
+
 -- ---- the image after a trap differs from the one before only where it pushed: at SP - 2 and SP - 4
 
 pub trap-image : (map : List ℕ) (s : State) (ps at : ℕ) (m : List ℕ) (t : State) (n : List ℕ)
@@ -85,3 +106,16 @@ trap-image map s ps at m t n h =
     let two = found-value (writable map (minus (minus (s .regs .sp) 2) 2)) (minus (minus (s .regs .sp) 2) 2) _ t n (one .1) in
     let three = found-value (fitted map at) at _ t n (two .1) in
     cc
+
+-- and so does the image after a blank step: its work is dropped, and what the bus error pushed is all that is new
+pub blank-image : (map : List ℕ) (out : Outside) (s : State) (m : List ℕ) {a : ℕ} (t : State) (n : List ℕ)
+    → run map (workOf (kindOf (s .mode) (s .i2) out) out s) m ≡ blank a
+    → run map (busError (kindOf (s .mode) (s .i2) out) out s) m ≡ value t n
+    → (let u = past (kindOf (s .mode) (s .i2) out) s in
+    stepOf map out s m .image ≡ withWord (withWord m (minus (u .regs .sp) 2) (psOf out true u)) (minus (minus (u .regs .sp) 2) 2) (u .regs .pc))
+unfolding errorOf busError
+blank-image map out s m t n h g =
+    let k = kindOf (s .mode) (s .i2) out in
+    let e : stepOf map out s m ≡ orElse (run map (busError k out s) m) (errorCauseOf k) (after (withMode s Locked) m 8) = blank-error map out s m h in
+    ap (λ r. r .image) (e ∙ ap (λ c. orElse c (errorCauseOf k) (after (withMode s Locked) m 8)) g)
+    ∙ trap-image map (past k s) (psOf out true (past k s)) 0x12 m t n g

@@ -9,5 +9,4 @@ pub mod Binary
 pub mod Immediate
 pub mod Branch
 pub mod Within
-pub mod Examples
 pub mod Past
