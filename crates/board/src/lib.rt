@@ -110,7 +110,7 @@ fn note(image: &[u8], log: &mut [u16; 32], a: u16)
 // May this address be written, and is there room in the log?
 fn writable(map: &[u8], log: &[u16; 32], a: u16) -> bool
     requires { ⌜ length (now map) ≡ 256 ⌝ }
-    ensures { λ r. ⌜ r ≡ and (Work.fitted (now (map .entry)) a) (Exec.room (now (log .entry))) ⌝ }
+    ensures { λ r. ⌜ r ≡ and (Work.writable (now (map .entry)) a) (Exec.room (now (log .entry))) ⌝ }
 {
     fitted(map, a) && log[0] < 15
 }

@@ -26,18 +26,21 @@ fn halted(out: Outside) -> Mode
     }
 }
 
+// HALT: I2 is reset; the mode tells whether the end of power fail or the halt switch ends it.
 fn halt(s: State, out: Outside) -> State
     ensures { λ r. ⌜ r ≡ Spec.halt out s ⌝ }
 {
     s.with_i2(false).with_mode(halted(out))
 }
 
+// WFI: I2 is set; nothing more happens until an interrupt.
 fn wfi(s: State) -> State
     ensures { λ r. ⌜ r ≡ Spec.wfi s ⌝ }
 {
     s.with_i2(true).with_mode(Mode::Waiting)
 }
 
+// The error of XCT: HALT, XCT, BPT or WFI was to be executed. I2 is reset.
 pub fn xct_error(s: State, image: &mut [u8], map: &[u8], log: &mut [u16; 32], out: Outside) -> Went
     requires { ⌜ Board (now map) (beside (now image) (now log)) ⌝ }
     ensures { λ r. ⌜ Works (now (map .entry)) (Spec.xctError out s) (now (image .entry)) (now (log .entry)) r (now (image .exit)) (now (log .exit)) ⌝ }
@@ -45,6 +48,7 @@ pub fn xct_error(s: State, image: &mut [u8], map: &[u8], log: &mut [u16; 32], ou
     s.trap(image, map, log, s.ps(out, false), 0x1e)
 }
 
+// BPT: ↓ PS, ↓ PC, PC ← (loc 2C); I2 is kept.
 fn bpt(s: State, image: &mut [u8], map: &[u8], log: &mut [u16; 32], out: Outside) -> Went
     requires { ⌜ Board (now map) (beside (now image) (now log)) ⌝ }
     ensures { λ r. ⌜ Works (now (map .entry)) (Spec.bpt out s) (now (image .entry)) (now (log .entry)) r (now (image .exit)) (now (log .exit)) ⌝ }
@@ -56,6 +60,7 @@ fn bpt(s: State, image: &mut [u8], map: &[u8], log: &mut [u16; 32], out: Outside
     t.from_loc(image, map, 0x2c)
 }
 
+// SAVE: R5 to R0 are pushed.
 pub(crate) fn save(s: State, image: &mut [u8], map: &[u8], log: &mut [u16; 32]) -> Went
     requires { ⌜ Board (now map) (beside (now image) (now log)) ⌝ }
     ensures { λ r. ⌜ Works (now (map .entry)) (Spec.save s) (now (image .entry)) (now (log .entry)) r (now (image .exit)) (now (log .exit)) ⌝ }
@@ -83,6 +88,7 @@ pub(crate) fn save(s: State, image: &mut [u8], map: &[u8], log: &mut [u16; 32]) 
     s1.push_reg(image, map, log, 0)
 }
 
+// SAVS: SAVE; ↓ SP, @SP ← (loc 2E); (loc 2E) ← (loc 2E) or MASK; IEN.
 fn savs(s: State, image: &mut [u8], map: &[u8], log: &mut [u16; 32]) -> Went
     requires { ⌜ Board (now map) (beside (now image) (now log)) ⌝ }
     ensures { λ r. ⌜ Works (now (map .entry)) (Spec.savs s) (now (image .entry)) (now (log .entry)) r (now (image .exit)) (now (log .exit)) ⌝ }
@@ -110,6 +116,7 @@ fn savs(s: State, image: &mut [u8], map: &[u8], log: &mut [u16; 32]) -> Went
     Went::Done(pushed.with_i2(true))
 }
 
+// REST: R0 to R5 are popped.
 fn rest(s: State, image: &[u8], map: &[u8]) -> Went
     requires { ⌜ Lent (now map) (now image) ⌝ }
     ensures { λ r. ⌜ Saw (now (map .entry)) (Spec.rest s) (now (image .entry)) (wentAs r) ⌝ }
@@ -137,6 +144,7 @@ fn rest(s: State, image: &[u8], map: &[u8]) -> Went
     s4.pop_reg(image, map, 5)
 }
 
+// RTT: PC ← @SP, SP ↑; PS ← @SP, SP ↑.
 fn rtt(s: State, image: &[u8], map: &[u8]) -> Went
     requires { ⌜ Lent (now map) (now image) ⌝ }
     ensures { λ r. ⌜ Saw (now (map .entry)) (Spec.rtt s) (now (image .entry)) (wentAs r) ⌝ }
@@ -148,6 +156,7 @@ fn rtt(s: State, image: &[u8], map: &[u8]) -> Went
     t.pop_status(image, map)
 }
 
+// RRTN: REST; PC ← @SP, SP ↑.
 fn rrtn(s: State, image: &[u8], map: &[u8]) -> Went
     requires { ⌜ Lent (now map) (now image) ⌝ }
     ensures { λ r. ⌜ Saw (now (map .entry)) (Spec.rrtn s) (now (image .entry)) (wentAs r) ⌝ }
@@ -159,6 +168,7 @@ fn rrtn(s: State, image: &[u8], map: &[u8]) -> Went
     t.pop_reg(image, map, 7)
 }
 
+// RRTT: REST; RTT.
 fn rrtt(s: State, image: &[u8], map: &[u8]) -> Went
     requires { ⌜ Lent (now map) (now image) ⌝ }
     ensures { λ r. ⌜ Saw (now (map .entry)) (Spec.rrtt s) (now (image .entry)) (wentAs r) ⌝ }
@@ -170,6 +180,7 @@ fn rrtt(s: State, image: &[u8], map: &[u8]) -> Went
     rtt(t, image, map)
 }
 
+// RSTS: (loc 2E) ← @SP, SP ↑; REST; RTT.
 fn rsts(s: State, image: &mut [u8], map: &[u8], log: &mut [u16; 32]) -> Went
     requires { ⌜ Board (now map) (beside (now image) (now log)) ⌝ }
     ensures { λ r. ⌜ Works (now (map .entry)) (Spec.rsts s) (now (image .entry)) (now (log .entry)) r (now (image .exit)) (now (log .exit)) ⌝ }
@@ -185,6 +196,7 @@ fn rsts(s: State, image: &mut [u8], map: &[u8], log: &mut [u16; 32]) -> Went
     rrtt(t, image, map)
 }
 
+// RSVC: REST; SP ↑, the saved SP is bypassed; RTT.
 fn rsvc(s: State, image: &[u8], map: &[u8]) -> Went
     requires { ⌜ Lent (now map) (now image) ⌝ }
     ensures { λ r. ⌜ Saw (now (map .entry)) (Spec.rsvc s) (now (image .entry)) (wentAs r) ⌝ }

@@ -20,12 +20,14 @@ fn acknowledge(out: Outside) -> u16
     plus(out.device, out.device)
 }
 
+// IAK: the acknowledge code is placed in REG.
 fn iak(s: State, out: Outside, k: u16) -> State
     ensures { λ r. ⌜ r ≡ Spec.iak out s k ⌝ }
 {
     s.with_reg(k, acknowledge(out))
 }
 
+// RTN: PC ← REG; REG ← @SP, SP ↑.
 pub(crate) fn rtn(s: State, image: &[u8], map: &[u8], k: u16) -> Went
     requires { ⌜ Lent (now map) (now image) ⌝ }
     ensures { λ r. ⌜ Saw (now (map .entry)) (Spec.rtn s k) (now (image .entry)) (wentAs r) ⌝ }
@@ -33,6 +35,7 @@ pub(crate) fn rtn(s: State, image: &[u8], map: &[u8], k: u16) -> Went
     s.with_pc(s.reg(k)).pop_reg(image, map, k)
 }
 
+// MSKO: (loc 2E) ← REG.
 fn msko(s: State, image: &mut [u8], map: &[u8], log: &mut [u16; 32], k: u16) -> Went
     requires { ⌜ Board (now map) (beside (now image) (now log)) ⌝ }
     ensures { λ r. ⌜ Works (now (map .entry)) (Spec.msko s k) (now (image .entry)) (now (log .entry)) r (now (image .exit)) (now (log .exit)) ⌝ }
@@ -44,6 +47,7 @@ fn msko(s: State, image: &mut [u8], map: &[u8], log: &mut [u16; 32], k: u16) -> 
     Went::Done(s)
 }
 
+// PRTN: TMP ← @SP; SP ← SP + TMP * 2; RTN REG.
 fn prtn(s: State, image: &[u8], map: &[u8], k: u16) -> Went
     requires { ⌜ Lent (now map) (now image) ⌝ }
     ensures { λ r. ⌜ Saw (now (map .entry)) (Spec.prtn s k) (now (image .entry)) (wentAs r) ⌝ }
@@ -77,6 +81,7 @@ pub(crate) fn format2(
     }
 }
 
+// LCC: N Z V C from bits 3 to 0 of the op code.
 pub(crate) fn lcc(s: State, op: u16) -> State
     ensures { λ r. ⌜ r ≡ Spec.lcc s op ⌝ }
 {

@@ -24,6 +24,7 @@ pub fn tabled(s: State, image: &[u8], map: &[u8], at: u16) -> Went
     Went::Done(s.with_pc(plus(at, offset)))
 }
 
+// SVCA: ↓ PS, ↓ PC; PC ← (loc 22) + ARG * 2; PC ← PC + @PC.
 fn svca(s: State, image: &mut [u8], map: &[u8], log: &mut [u16; 32], out: Outside, n: u16) -> Went
     requires { ⌜ Board (now map) (beside (now image) (now log)) ⌝ }
     ensures { λ r. ⌜ Works (now (map .entry)) (Spec.svca out s n) (now (image .entry)) (now (log .entry)) r (now (image .exit)) (now (log .exit)) ⌝ }
@@ -70,6 +71,7 @@ fn svc(
         .from_loc(image, map, at)
 }
 
+// SVCA 0040, SVCB 0080, SVCC 00C0.
 pub(crate) fn format4(
     s: State,
     image: &mut [u8],

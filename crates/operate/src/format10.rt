@@ -70,6 +70,7 @@ fn settle(
     Went::Done(s)
 }
 
+// The op code b on words.
 fn on_words(s: State, image: &mut [u8], map: &[u8], log: &mut [u16; 32], b: Binary, op: u16) -> Went
     requires { ⌜ Board (now map) (beside (now image) (now log)) ⌝ }
     ensures { λ r. ⌜ Works (now (map .entry)) (Spec.onWords b s op) (now (image .entry)) (now (log .entry)) r (now (image .exit)) (now (log .exit)) ⌝ }
@@ -152,6 +153,7 @@ fn settle_byte(
     }
 }
 
+// The op code b on bytes.
 fn on_bytes(
     s: State,
     image: &mut [u8],
@@ -164,15 +166,9 @@ fn on_bytes(
     ensures { λ r. ⌜ Works (now (map .entry)) (Spec.onBytes b s op) (now (image .entry)) (now (log .entry)) r (now (image .exit)) (now (log .exit)) ⌝ }
 {
     let from = op / 64 % 8;
-    let found = locate(
-        image,
-        map,
-        byte_step(from),
-        from,
-        s.reg(from),
-        s.regs.pc,
-        op / 512 % 8,
-    );
+    let step = byte_step(from);
+    let mode = op / 512 % 8;
+    let found = locate(image, map, step, from, s.reg(from), s.regs.pc, mode);
     let Found::At(source) = found else {
         return unfound(found);
     };
@@ -182,15 +178,9 @@ fn on_bytes(
         return unread_byte(byte);
     };
     let to = op % 8;
-    let found = locate(
-        image,
-        map,
-        byte_step(to),
-        to,
-        t.reg(to),
-        t.regs.pc,
-        op / 8 % 8,
-    );
+    let step = byte_step(to);
+    let mode = op / 8 % 8;
+    let found = locate(image, map, step, to, t.reg(to), t.regs.pc, mode);
     let Found::At(place) = found else {
         return unfound(found);
     };
@@ -200,18 +190,11 @@ fn on_bytes(
         return unread_byte(byte);
     };
     let done = word::format10::byte_binary(b, x, y, u.flags);
-    settle_byte(
-        u.with_flags(done.flags),
-        image,
-        map,
-        log,
-        b,
-        to,
-        place,
-        done.value,
-    )
+    let w = u.with_flags(done.flags);
+    settle_byte(w, image, map, log, b, to, place, done.value)
 }
 
+// CMPB C000, MOVB D000, BISB E000 on bytes, the others on words.
 pub fn format10(s: State, image: &mut [u8], map: &[u8], log: &mut [u16; 32], op: u16) -> Went
     requires { ⌜ Board (now map) (beside (now image) (now log)) ⌝ }
     ensures { λ r. ⌜ Works (now (map .entry)) (Spec.format10 s op) (now (image .entry)) (now (log .entry)) r (now (image .exit)) (now (log .exit)) ⌝ }

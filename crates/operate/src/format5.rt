@@ -12,6 +12,7 @@ fn displacement(op: u16) -> u16
     if d < 128 { d * 2 } else { d * 2 + 65024 }
 }
 
+// IF the condition holds, PC ← PC + (DISP * 2).
 pub fn branch(s: State, op: u16) -> State
     ensures { λ r. ⌜ r ≡ Spec.branch s op ⌝ }
 {

@@ -21,6 +21,7 @@ pub(crate) fn with_pair(s: State, k: u16, p: Pair) -> State
         .with_flags(p.flags)
 }
 
+// ADDI, SUBI, BICI, MOVI.
 fn immediate(s: State, op: u16) -> State
     ensures { λ r. ⌜ r ≡ Spec.immediate s op ⌝ }
 {
@@ -30,6 +31,7 @@ fn immediate(s: State, op: u16) -> State
     with_done(s, k, done)
 }
 
+// SSRR, SSLR, SSRA, SSLA.
 fn single(s: State, op: u16) -> State
     ensures { λ r. ⌜ r ≡ Spec.single s op ⌝ }
 {
@@ -39,6 +41,7 @@ fn single(s: State, op: u16) -> State
     with_done(s, k, done)
 }
 
+// SDRR, SDLR, SDRA, SDLA: on REG+1:REG.
 fn double(s: State, op: u16) -> State
     ensures { λ r. ⌜ r ≡ Spec.double s op ⌝ }
 {

@@ -175,6 +175,7 @@ fn modify_byte(
     )
 }
 
+// TCALL: ↓ SP, @SP ← PC; PC ← PC + (DST); PC ← PC + @PC.
 fn tcall(s: State, image: &mut [u8], map: &[u8], log: &mut [u16; 32], op: u16) -> Went
     requires { ⌜ Board (now map) (beside (now image) (now log)) ⌝ }
     ensures { λ r. ⌜ Works (now (map .entry)) (Spec.tcall s op) (now (image .entry)) (now (log .entry)) r (now (image .exit)) (now (log .exit)) ⌝ }
@@ -190,6 +191,7 @@ fn tcall(s: State, image: &mut [u8], map: &[u8], log: &mut [u16; 32], op: u16) -
     control::format4::tabled(u, image, map, plus(u.regs.pc, d))
 }
 
+// TJMP: PC ← PC + (DST); PC ← PC + @PC.
 fn tjmp(s: State, image: &[u8], map: &[u8], op: u16) -> Went
     requires { ⌜ Lent (now map) (now image) ⌝ }
     ensures { λ r. ⌜ Saw (now (map .entry)) (Spec.tjmp s op) (now (image .entry)) (wentAs r) ⌝ }
@@ -201,6 +203,7 @@ fn tjmp(s: State, image: &[u8], map: &[u8], op: u16) -> Went
     control::format4::tabled(t, image, map, plus(t.regs.pc, d))
 }
 
+// LSTS: the indicators and I2 are loaded from (DST).
 fn lsts(s: State, image: &[u8], map: &[u8], op: u16) -> Went
     requires { ⌜ Lent (now map) (now image) ⌝ }
     ensures { λ r. ⌜ Saw (now (map .entry)) (Spec.lsts s op) (now (image .entry)) (wentAs r) ⌝ }
@@ -212,6 +215,7 @@ fn lsts(s: State, image: &[u8], map: &[u8], op: u16) -> Went
     Went::Done(t.with_status(d))
 }
 
+// SSTS: the PS is formed and stored in (DST).
 fn ssts(s: State, image: &mut [u8], map: &[u8], log: &mut [u16; 32], out: Outside, op: u16) -> Went
     requires { ⌜ Board (now map) (beside (now image) (now log)) ⌝ }
     ensures { λ r. ⌜ Works (now (map .entry)) (Spec.ssts out s op) (now (image .entry)) (now (log .entry)) r (now (image .exit)) (now (log .exit)) ⌝ }
@@ -230,6 +234,7 @@ fn on_word(op: u16, at: u16) -> bool
     if op < 0x8000 { at < 14 } else { 13 < at }
 }
 
+// 8D00 LSTS, 8D40 SSTS.
 fn status_code(
     s: State,
     image: &mut [u8],

@@ -21,6 +21,7 @@ ghost use Rattle.state.specs.Answer.{Works, wentAs};
 ghost use Prim.Native.Nat.{_%_};
 ghost use Rattle.operate.specs.Format9 as Spec;
 
+// DMØ is illegal: the illegal-format trap.
 fn illegal(s: State, image: &mut [u8], map: &[u8], log: &mut [u16; 32], out: Outside) -> Went
     requires { ⌜ Board (now map) (beside (now image) (now log)) ⌝ }
     ensures { λ r. ⌜ Works (now (map .entry)) (Spec.illegal out s) (now (image .entry)) (now (log .entry)) r (now (image .exit)) (now (log .exit)) ⌝ }
@@ -28,6 +29,7 @@ fn illegal(s: State, image: &mut [u8], map: &[u8], log: &mut [u16; 32], out: Out
     s.trap(image, map, log, s.ps(out, false), 0x1c)
 }
 
+// JSR at an address: ↓ SP, @SP ← REG; REG ← PC; PC ← DST.
 fn call(s: State, image: &mut [u8], map: &[u8], log: &mut [u16; 32], k: u16, a: u16) -> Went
     requires { ⌜ Board (now map) (beside (now image) (now log)) ⌝ }
     ensures { λ r. ⌜ Works (now (map .entry)) (Spec.call s k a) (now (image .entry)) (now (log .entry)) r (now (image .exit)) (now (log .exit)) ⌝ }
@@ -60,6 +62,7 @@ fn jsr_to(
     }
 }
 
+// JSR: DST is decoded, and nothing is read there.
 fn jsr(s: State, image: &mut [u8], map: &[u8], log: &mut [u16; 32], out: Outside, op: u16) -> Went
     requires { ⌜ Board (now map) (beside (now image) (now log)) ⌝ }
     ensures { λ r. ⌜ Works (now (map .entry)) (Spec.jsr out s op) (now (image .entry)) (now (log .entry)) r (now (image .exit)) (now (log .exit)) ⌝ }
@@ -91,6 +94,7 @@ fn lea_to(
     }
 }
 
+// LEA: REG ← DST.
 fn lea(s: State, image: &mut [u8], map: &[u8], log: &mut [u16; 32], out: Outside, op: u16) -> Went
     requires { ⌜ Board (now map) (beside (now image) (now log)) ⌝ }
     ensures { λ r. ⌜ Works (now (map .entry)) (Spec.lea out s op) (now (image .entry)) (now (log .entry)) r (now (image .exit)) (now (log .exit)) ⌝ }
@@ -104,6 +108,7 @@ fn lea(s: State, image: &mut [u8], map: &[u8], log: &mut [u16; 32], out: Outside
     lea_to(t, image, map, log, out, op / 64 % 8, to)
 }
 
+// ASH: REG is shifted by (DST), a signed byte.
 fn ash(s: State, image: &[u8], map: &[u8], op: u16) -> Went
     requires { ⌜ Lent (now map) (now image) ⌝ }
     ensures { λ r. ⌜ Saw (now (map .entry)) (Spec.ash s op) (now (image .entry)) (wentAs r) ⌝ }
@@ -117,6 +122,7 @@ fn ash(s: State, image: &[u8], map: &[u8], op: u16) -> Went
     Went::Done(with_done(t, k, done))
 }
 
+// SOB: REG ← REG - 1; IF REG is not 0, PC ← PC - (OFFSET * 2).
 fn sob(s: State, op: u16) -> State
     ensures { λ r. ⌜ r ≡ Spec.sob s op ⌝ }
 {
@@ -129,6 +135,7 @@ fn sob(s: State, op: u16) -> State
     t.with_pc(minus(t.regs.pc, op % 64 * 2))
 }
 
+// XCH: REG and (DST) are exchanged.
 fn xch(s: State, image: &mut [u8], map: &[u8], log: &mut [u16; 32], op: u16) -> Went
     requires { ⌜ Board (now map) (beside (now image) (now log)) ⌝ }
     ensures { λ r. ⌜ Works (now (map .entry)) (Spec.xch s op) (now (image .entry)) (now (log .entry)) r (now (image .exit)) (now (log .exit)) ⌝ }
@@ -142,6 +149,7 @@ fn xch(s: State, image: &mut [u8], map: &[u8], log: &mut [u16; 32], op: u16) -> 
     operand::write_word(t.with_reg(k, d), image, map, log, op % 8, place, r)
 }
 
+// ASHC: as ASH, on REG+1:REG.
 fn ashc(s: State, image: &[u8], map: &[u8], op: u16) -> Went
     requires { ⌜ Lent (now map) (now image) ⌝ }
     ensures { λ r. ⌜ Saw (now (map .entry)) (Spec.ashc s op) (now (image .entry)) (wentAs r) ⌝ }
@@ -155,6 +163,7 @@ fn ashc(s: State, image: &[u8], map: &[u8], op: u16) -> Went
     Went::Done(with_pair(t, k, pair))
 }
 
+// MUL: REG+1:REG ← REG * (DST).
 fn mul(s: State, image: &[u8], map: &[u8], op: u16) -> Went
     requires { ⌜ Lent (now map) (now image) ⌝ }
     ensures { λ r. ⌜ Saw (now (map .entry)) (Spec.mul s op) (now (image .entry)) (wentAs r) ⌝ }
@@ -168,6 +177,7 @@ fn mul(s: State, image: &[u8], map: &[u8], op: u16) -> Went
     Went::Done(with_pair(t, k, pair))
 }
 
+// DIV: REG ← REG+1:REG / (DST); REG+1 ← REMAINDER.
 fn div(s: State, image: &[u8], map: &[u8], op: u16) -> Went
     requires { ⌜ Lent (now map) (now image) ⌝ }
     ensures { λ r. ⌜ Saw (now (map .entry)) (Spec.div s op) (now (image .entry)) (wentAs r) ⌝ }

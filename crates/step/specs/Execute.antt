@@ -19,7 +19,7 @@ use Rattle.operate.specs.Format10.{format10}
 abbrev pub reserved : Outside → State → Work State
 reserved out s = trap s (psOf out false s) 0x1a
 
--- the op codes that are rarely met: formats 9, 1 to 4, 8 and 11
+-- formats 9, 1 to 4, 8 and 11
 unfoldable pub further : Outside → ℕ → State → ℕ → Work State
 further out f s op = pick (eqb f 9) (format9 out s op) (pick (eqb f 1) (lowCodes out s op) (reserved out s))
 

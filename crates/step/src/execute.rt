@@ -8,6 +8,7 @@ ghost use Rattle.state.specs.Answer.{Works, wentAs};
 ghost use Rattle.plate.specs.Plate.{table};
 ghost use Rattle.step.specs.Execute as Spec;
 
+// Formats 8 and 11: their microms aren't fitted.
 fn reserved(s: State, image: &mut [u8], map: &[u8], log: &mut [u16; 32], out: Outside) -> Went
     requires { ⌜ Board (now map) (beside (now image) (now log)) ⌝ }
     ensures { λ r. ⌜ Works (now (map .entry)) (Spec.reserved out s) (now (image .entry)) (now (log .entry)) r (now (image .exit)) (now (log .exit)) ⌝ }
@@ -15,6 +16,7 @@ fn reserved(s: State, image: &mut [u8], map: &[u8], log: &mut [u16; 32], out: Ou
     s.trap(image, map, log, s.ps(out, false), 0x1a)
 }
 
+// Formats 9, 1 to 4, 8 and 11.
 fn further(
     s: State,
     image: &mut [u8],

@@ -39,6 +39,7 @@ pub struct Turn {
     pub cause: u8,
 }
 
+// 2. I1 and I2. 3. I0 and I2. 4. what a waiting or a running processor does.
 fn raised(out: Outside, other: Kind) -> Kind
     ensures { λ r. ⌜ r ≡ Spec.raised out other ⌝ }
 {
@@ -51,6 +52,7 @@ fn raised(out: Outside, other: Kind) -> Kind
     other
 }
 
+// 1. I3.
 fn asked(i2: bool, out: Outside, other: Kind) -> Kind
     ensures { λ r. ⌜ r ≡ Spec.asked i2 out other ⌝ }
 {
@@ -83,6 +85,7 @@ fn switch_halted(out: Outside) -> Kind
     }
 }
 
+// Halted on power fail ends where power fail is clear, halted for the switch where I3 is set. Locked: nothing changes.
 fn kind_of(mode: Mode, i2: bool, out: Outside) -> Kind
     ensures { λ r. ⌜ r ≡ Spec.kindOf mode i2 out ⌝ }
 {
@@ -101,6 +104,7 @@ fn vector(out: Outside) -> u16
     if out.fail { 0x14 } else { 0x2a }
 }
 
+// I1: ↓ PS, ↓ PC, I2 reset, running, PC from 14 if power fail is set, else from 2A.
 fn non_vectored(s: State, image: &mut [u8], map: &[u8], log: &mut [u16; 32], out: Outside) -> Went
     requires { ⌜ Board (now map) (beside (now image) (now log)) ⌝ }
     ensures { λ r. ⌜ Works (now (map .entry)) (Spec.nonVectored out s) (now (image .entry)) (now (log .entry)) r (now (image .exit)) (now (log .exit)) ⌝ }
@@ -108,6 +112,7 @@ fn non_vectored(s: State, image: &mut [u8], map: &[u8], log: &mut [u16; 32], out
     s.trap(image, map, log, s.ps(out, false), vector(out))
 }
 
+// I0: ↓ PS, ↓ PC, I2 reset, running; T = word at 28 plus twice the device code; PC = T + word at T.
 fn vectored(s: State, image: &mut [u8], map: &[u8], log: &mut [u16; 32], out: Outside) -> Went
     requires { ⌜ Board (now map) (beside (now image) (now log)) ⌝ }
     ensures { λ r. ⌜ Works (now (map .entry)) (Spec.vectored out s) (now (image .entry)) (now (log .entry)) r (now (image .exit)) (now (log .exit)) ⌝ }
@@ -119,6 +124,7 @@ fn vectored(s: State, image: &mut [u8], map: &[u8], log: &mut [u16; 32], out: Ou
     control::format4::tabled(t, image, map, plus(t.regs.pc, plus(out.device, out.device)))
 }
 
+// I3 and the end of a halt: PC from 16, running.
 fn restart(s: State, image: &[u8], map: &[u8]) -> Went
     requires { ⌜ Lent (now map) (now image) ⌝ }
     ensures { λ r. ⌜ Saw (now (map .entry)) (Spec.restart s) (now (image .entry)) (wentAs r) ⌝ }
@@ -184,6 +190,7 @@ fn past(k: Kind, s: State) -> State
     }
 }
 
+// ↓ PS, with the bus error's bit; ↓ PC; I2 reset, running, PC from 12.
 fn bus_error(
     s: State,
     image: &mut [u8],

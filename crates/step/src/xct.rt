@@ -58,6 +58,7 @@ fn chosen(s: State, op: u16) -> Begun
     Begun::Code(s, op, !alone)
 }
 
+// XCT: PC ← @SP, SP ↑; PS ← @SP, SP ↑, but I2 is not altered; the op code is fetched.
 fn begin_xct(s: State, image: &[u8], map: &[u8]) -> Begun
     requires { ⌜ Lent (now map) (now image) ⌝ }
     ensures { λ r. ⌜ Saw (now (map .entry)) (Spec.beginXct s) (now (image .entry)) (begunAs r) ⌝ }
@@ -77,6 +78,7 @@ fn begin_xct(s: State, image: &[u8], map: &[u8]) -> Begun
     chosen(v, op)
 }
 
+// An op code is fetched; XCT is 0005.
 fn begun(s: State, image: &[u8], map: &[u8], op: u16) -> Begun
     requires { ⌜ Lent (now map) (now image) ⌝ }
     ensures { λ r. ⌜ Saw (now (map .entry)) (Spec.begun s op) (now (image .entry)) (begunAs r) ⌝ }
@@ -87,6 +89,7 @@ fn begun(s: State, image: &[u8], map: &[u8], op: u16) -> Begun
     Begun::Code(s, op, false)
 }
 
+// ↓ PS, ↓ PC, PC ← (loc 20).
 fn trace(s: State, image: &mut [u8], map: &[u8], log: &mut [u16; 32], out: Outside) -> Went
     requires { ⌜ Board (now map) (beside (now image) (now log)) ⌝ }
     ensures { λ r. ⌜ Works (now (map .entry)) (Spec.trace out s) (now (image .entry)) (now (log .entry)) r (now (image .exit)) (now (log .exit)) ⌝ }

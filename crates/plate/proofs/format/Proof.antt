@@ -1,11 +1,11 @@
-use Rattle.plate.specs.Plate.{table, plate-right}
+use Rattle.plate.specs.Plate.{table, entries, formatOf, plate-right}
 use Prim.Native.Nat.{_/_}
 use borrow.Author.Needs.{needs}
 use Rattle.plate.proofs.format.Statement.{statement}
 use Rattle.plate.proofs.format.Tie as tie
 
 returns : tie.Need-returns
-unfolding table
+unfolding table entries formatOf
 returns c = plate-right (c .args .op / 256) (search needs)
 
 pub format-spec : {M : Type 1} → statement M

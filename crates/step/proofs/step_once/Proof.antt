@@ -1,11 +1,11 @@
 use mathlib.Core.Path.{refl}
-use Rattle.plate.specs.Plate.{table}
+use Rattle.plate.specs.Plate.{formatOf, entries, table}
 use borrow.Author.Needs.{needs}
 use Rattle.step.proofs.step_once.Statement.{statement}
 use Rattle.step.proofs.step_once.Tie as tie
 
 step-on-requires : tie.Need-step-on-requires
-unfolding table
+unfolding table entries formatOf
 step-on-requires c κs = (search needs, refl)
 
 returns : tie.Need-returns

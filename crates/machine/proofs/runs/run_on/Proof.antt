@@ -4,7 +4,7 @@ use mathlib.Core.Path.{_≡_, refl, sym, _∙_}
 use lib.ListN.{length, drop}
 use borrow.Author.Needs.{needs}
 use Rattle.board.specs.Exec.{beside, Board}
-use Rattle.plate.specs.Plate.{table}
+use Rattle.plate.specs.Plate.{formatOf, entries, table}
 use Rattle.machine.specs.Run.{rest, runOf, rest-more, rest-none}
 use Rattle.machine.proofs.runs.run_on.Statement.{statement}
 use Rattle.machine.proofs.runs.run_on.Tie as tie
@@ -17,7 +17,7 @@ abbrev μ-loop : tie.MeasureT-loop
 μ-loop image₀ map lines log₀ sheet state₀ tally₀ i₀ image log state tally i = length lines - i
 
 loop-holds : tie.Need-loop-holds Inv-loop μ-loop
-unfolding table
+unfolding table entries formatOf
 loop-holds c = (omega arith, omega arith, refl, record { lent = c .before .before .before .pre .0; whole = refl; few = omega arith }, refl)
 
 mul-hear : tie.Need-mul-hear Inv-loop μ-loop
