@@ -1,10 +1,11 @@
 #!/usr/bin/env bash
 # Builds the C example, the server of calls and bench in target/c, for tests that run before the proof:
-#   example, serve, bench          for x86-64
-#   example-asan, serve-asan       for this machine, under the address sanitizer
+#   example, serve, bench
+#   example-asan, serve-asan       under the address sanitizer
 # The library's code is the module that the toolchain makes of a program that calls the exported functions (rt try, which
-# proves nothing). With an argument the library is that one instead, such as target/staticlib/libfirmware.a, which
-# rt staticlib firmware proves and writes; then the sanitizer is left out where this machine is not x86-64.
+# proves nothing), compiled for this machine. With an argument the library is that one instead, for x86-64, such as
+# target/staticlib/libfirmware.a, which rt staticlib firmware proves and writes; then the sanitizer is left out where this
+# machine is not x86-64.
 #   c/build.sh [LIBRARY]
 set -euo pipefail
 cd "$(dirname "$0")/.."
@@ -36,7 +37,7 @@ R
 
 # The module's text, with the three functions to be linked under names of their own, and without a main.
 inner() { # MODULE TEXT
-    "$clang" --target=x86_64-unknown-linux-gnu --no-default-config -S -emit-llvm -Xclang -disable-llvm-passes -x ir "$1" -o - |
+    module_text "$1" |
         sed -e 's/^define internal \(.*\)@"firmware::wd16_\(\w*\)"(/define \1@inner_\2(/' -e 's/@"firmware::wd16_\(\w*\)"(/@inner_\1(/' \
             -e 's/^define i32 @main(/define i32 @inner_main(/' >"$2"
 }
@@ -45,16 +46,15 @@ unproved_library() {
     reaching "$out/reaching"
     module "$out/reaching" reach "$PWD/$out/module.bc"
     inner "$out/module.bc" "$out/module.ll"
-    x86_64_object "$out/module.ll" "$out/module.o"
-    x86_64_cc $flags -c c/exports.c -o "$out/exports.o"
+    object "$out/module.ll" "$out/module.o" -O3
+    cc $flags -c c/exports.c -o "$out/exports.o"
     "$tools/bin/llvm-ar" rcs "$out/libfirmware.a" "$out/module.o" "$out/exports.o"
 }
 
 # The library's own accesses are checked too.
 sanitized_module() {
     sed -e 's/^\(attributes #[0-9]* = {\)/\1 sanitize_address/' "$out/module.ll" >"$out/sanitized.ll"
-    for_this_machine "$out/sanitized.ll" "$out/here.ll"
-    "$clang" --no-default-config -fPIE -O1 -fsanitize=address -c -x ir "$out/here.ll" -o "$out/here.o"
+    object "$out/sanitized.ll" "$out/sanitized.o" -O1 -fsanitize=address
 }
 
 sanitized() { # FILES
@@ -64,16 +64,16 @@ sanitized() { # FILES
     done
 }
 
-library=${1:-}
-if [ -z "$library" ]; then
+if [ $# -eq 0 ]; then
     unproved_library
-    library=$out/libfirmware.a
     sanitized_module
-    sanitized c/exports.c "$out/here.o"
-elif [ "$(uname -m)" = x86_64 ]; then
-    sanitized "$library"
+    sanitized c/exports.c "$out/sanitized.o"
+    for name in example serve; do cc $flags "c/$name.c" "$out/libfirmware.a" -o "$out/$name"; done
+else
+    for name in example serve; do x86_64_cc $flags "c/$name.c" "$1" -o "$out/$name"; done
+    [ "$(uname -m)" != x86_64 ] || sanitized "$1"
 fi
-for name in example serve; do x86_64_cc $flags "c/$name.c" "$library" -o "$out/$name"; done
 module . bench "$PWD/$out/bench.bc"
-x86_64_object "$out/bench.bc" "$out/bench.o"
-x86_64_cc "$out/bench.o" -o "$out/bench"
+module_text "$out/bench.bc" >"$out/bench.ll"
+object "$out/bench.ll" "$out/bench.o" -O3
+cc "$out/bench.o" -o "$out/bench"

@@ -8,6 +8,7 @@ cd "$(dirname "$0")/.."
 . compare/toolchain.sh
 seed=${1:-$(date +%s)} cases=${2:-40000}
 c/build.sh ${3:+"$3"}
+[ -n "${3:-}" ] || emulator=
 
 example() { # NAME COMMAND
     "${@:2}" target/c/"$1" | diff c/example.out -

@@ -32,11 +32,15 @@ module() { # REPOSITORY PROGRAM MODULE
     rm -rf "$made"
 }
 
-# An x86-64 object of a module, with the toolchain's own options.
-x86_64_object() { # MODULE OBJECT
-    "$clang" --target=x86_64-unknown-linux-gnu -march=x86-64 -ffunction-sections -fdata-sections -mllvm -trap-unreachable \
-        -mllvm -no-trap-after-noreturn --no-default-config -Werror -fPIE -O3 -Xclang -fmerge-functions -mllvm -mergefunc-use-aliases \
-        -c -x ir "$1" -o "$2"
+# A module's text.
+module_text() { # MODULE
+    "$clang" --target=x86_64-unknown-linux-gnu --no-default-config -S -emit-llvm -Xclang -disable-llvm-passes -x ir "$1" -o -
+}
+
+# An object for this machine, of a module's text.
+object() { # TEXT OBJECT FLAGS
+    for_this_machine "$1" "$1.here"
+    "$clang" --no-default-config -fPIE "${@:3}" -c -x ir "$1.here" -o "$2"
 }
 
 # The text of a module with the names of another machine taken out, for this machine.
