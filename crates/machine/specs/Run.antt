@@ -1,7 +1,7 @@
 -- A run: one step for each line word.
 use Prim.Native.Nat.{ℕ, zero, suc, _+_, _<_}
 use mathlib.Core.List.{List, [], _∷_}
-use mathlib.Core.Path.{_≡_, refl}
+use mathlib.Core.Path.{_≡_, refl, ap}
 use native.Mathlib.Numerals.{add-one}
 use lib.ListN.{length, drop, getD}
 use lib.Seq.{drop-cons, drop-length}
@@ -9,10 +9,11 @@ use Rattle.board.specs.Exec.{Lent}
 use Rattle.state.specs.declared.State.{State}
 use Rattle.state.specs.State.{heard, pick}
 use Rattle.machine.specs.declared.Ran.{Ran}
+use Rattle.machine.specs.declared.Last.{Last}
 use Rattle.machine.specs.declared.Tally.{Tally}
 use Rattle.machine.specs.declared.First.{First}
 use Rattle.machine.specs.declared.First.the-variants.{At, Never}
-use Rattle.step.specs.Step.{stepOf, After, isBlank}
+use Rattle.step.specs.Step.{stepOf, After, after, isBlank}
 
 -- the place of the first blank: the earlier one stays
 abbrev pub firstOf : First → ℕ → First
@@ -43,6 +44,13 @@ runOf map lines s m = rest map 0 lines s m noBlanks
 abbrev pub ranOf : Ran → List ℕ → End
 ranOf r m = end (r .state) m (r .tally)
 
+-- the cause of the last step, c where there is none
+unfoldable pub lastCause : List ℕ → List ℕ → State → List ℕ → ℕ → ℕ
+lastCause map [] s m c = c
+lastCause map (line ∷ lines) s m c =
+    let a = stepOf map (heard line) s m in
+    lastCause map lines (a .state) (a .image) (a .cause)
+
 rest-cons : (map : List ℕ) (i x : ℕ) (xs : List ℕ) (s : State) (m : List ℕ) (t : Tally)
     → rest map (i + 1) xs (stepOf map (heard x) s m .state) (stepOf map (heard x) s m .image) (noted t i (stepOf map (heard x) s m .cause)) ≡ rest map i (x ∷ xs) s m t
 unfolding rest
@@ -59,7 +67,37 @@ pub rest-none : (map lines : List ℕ) (i : ℕ) (s : State) (m : List ℕ) (t :
 unfolding rest
 rest-none map lines i s m t e = rw (e, drop-length lines)
 
--- what a run on a board promises
-pub record Ended (map : List ℕ) (want got : End) (m : List ℕ) : Type 0 where
-  pub same : got ≡ want
-  pub lent : Lent map m
+cause-cons : (map : List ℕ) (x : ℕ) (xs : List ℕ) (s : State) (m : List ℕ) (c : ℕ)
+    → lastCause map xs (stepOf map (heard x) s m .state) (stepOf map (heard x) s m .image) (stepOf map (heard x) s m .cause) ≡ lastCause map (x ∷ xs) s m c
+unfolding lastCause
+cause-cons map x xs s m c = refl
+
+pub cause-more : (map lines : List ℕ) (i : ℕ) (s : State) (m : List ℕ) (c : ℕ) (a : After)
+    → i < length lines → a ≡ stepOf map (heard (getD lines i 0)) s m
+    → lastCause map (drop (i + 1) lines) (a .state) (a .image) (a .cause) ≡ lastCause map (drop i lines) s m c
+cause-more map lines i s m c a l e = rw (drop-cons lines i 0 l, ← add-one i, e) (cause-cons map (getD lines i 0) (drop (i + 1) lines) s m c)
+
+pub cause-none : (map lines : List ℕ) (i : ℕ) (s : State) (m : List ℕ) (c : ℕ) → i ≡ length lines → lastCause map (drop i lines) s m c ≡ c
+unfolding lastCause
+cause-none map lines i s m c e = rw (e, drop-length lines)
+
+-- a run over one line word is a step
+pub run-of-one : (map : List ℕ) (line : ℕ) (s : State) (m : List ℕ) {t : State} {n : List ℕ} {y : Tally} {c : ℕ}
+    → end t n y ≡ runOf map (line ∷ []) s m → c ≡ lastCause map (line ∷ []) s m 4 → after t n c ≡ stepOf map (heard line) s m
+unfolding rest lastCause
+run-of-one map line s m {t = t} {n = n} e d =
+    let state : t ≡ stepOf map (heard line) s m .state = ap stateIn e in
+    let image : n ≡ stepOf map (heard line) s m .image = ap imageIn e in
+    rw (state, image, d)
+  where
+    stateIn : End → State
+    stateIn (end t n y) = t
+
+    imageIn : End → List ℕ
+    imageIn (end t n y) = n
+
+-- what a run on a board promises: the end, and the last cause
+pub record Ended (map lines : List ℕ) (s : State) (m : List ℕ) (r : Last) (n : List ℕ) : Type 0 where
+  pub same : ranOf (r .ran) n ≡ runOf map lines s m
+  pub cause : r .cause ≡ lastCause map lines s m 4
+  pub lent : Lent map n

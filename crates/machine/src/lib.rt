@@ -27,6 +27,12 @@ pub struct Ran {
     pub tally: Tally,
 }
 
+// A run, and the cause of its last step.
+pub(crate) struct Last {
+    pub ran: Ran,
+    pub cause: u8,
+}
+
 pub enum Powered {
     Up(State),
     Refused(u8),
@@ -61,7 +67,14 @@ pub fn step(s: State, image: &mut [u8], map: &[u8], line: u16) -> Stepped
     if why != 0 {
         return Stepped::Refused(why);
     }
-    Stepped::Done(step::step_once(s, image, map, line))
+    let lines = [line];
+    let last = runs::run_on(s, image, map, &lines);
+    let ran = last.ran;
+    let state = ran.state;
+    Stepped::Done(Turn {
+        state,
+        cause: last.cause,
+    })
 }
 
 // A run over line words: the state, the blanks and the first place after it; or 1 to 5 and the image as lent.
@@ -72,5 +85,7 @@ pub fn run(s: State, image: &mut [u8], map: &[u8], lines: &[u16]) -> Finished
     if why != 0 {
         return Finished::Refused(why);
     }
-    Finished::Done(runs::run_on(s, image, map, lines))
+    let last = runs::run_on(s, image, map, lines);
+    let ran = last.ran;
+    Finished::Done(ran)
 }

@@ -1,5 +1,6 @@
 // A run: one step for each line word.
 use super::First;
+use super::Last;
 use super::Ran;
 use super::Tally;
 use state::State;
@@ -38,9 +39,9 @@ fn noted(t: Tally, place: u16, cause: u8) -> Tally
 }
 
 // The log is made once and cleared for each step; the plate is laid out once.
-pub(crate) fn run_on(s: State, image: &mut [u8], map: &[u8], lines: &[u16]) -> Ran
+pub(crate) fn run_on(s: State, image: &mut [u8], map: &[u8], lines: &[u16]) -> Last
     requires { ⌜ (Lent (now map) (now image)) × (length (now lines) ≤ 4096) ⌝ }
-    ensures { λ r. ⌜ Spec.Ended (now (map .entry)) (Spec.runOf (now (map .entry)) (now (lines .entry)) s (now (image .entry))) (Spec.ranOf r (now (image .exit))) (now (image .exit)) ⌝ }
+    ensures { λ r. ⌜ Spec.Ended (now (map .entry)) (now (lines .entry)) s (now (image .entry)) r (now (image .exit)) ⌝ }
 {
     let mut log = [0u16; 32];
     let sheet = plate::PLATE;
@@ -49,12 +50,17 @@ pub(crate) fn run_on(s: State, image: &mut [u8], map: &[u8], lines: &[u16]) -> R
         blanks: 0,
         first: First::Never,
     };
+    let mut cause = 4u8;
     let mut i: usize = 0;
     while i < lines.len() {
         let turn = step_on(state, image, map, &mut log, hear(lines[i]), &sheet);
         state = turn.state;
+        cause = turn.cause;
         tally = noted(tally, i as u16, turn.cause);
         i += 1;
     }
-    Ran { state, tally }
+    Last {
+        ran: Ran { state, tally },
+        cause,
+    }
 }

@@ -136,8 +136,3 @@ turnOf r m = after (r .state) m (r .cause)
 pub record Stepped (map : List ℕ) (a : After) (r : Turn) (st : Store) : Type 0 where
   pub turn : turnOf r (st .image) ≡ a
   pub board : Board map st
-
--- and a step with a log of its own
-pub record Once (map : List ℕ) (a : After) (r : Turn) (m : List ℕ) : Type 0 where
-  pub turn : turnOf r m ≡ a
-  pub lent : Lent map m

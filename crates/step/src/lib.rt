@@ -3,14 +3,13 @@ use state::Mode;
 use state::Outside;
 use state::State;
 use state::Went;
-use state::hear;
 use state::plus;
 use xct::op_work;
 ghost use mathlib.Core.Path.{_≡_};
 ghost use Rattle.board.specs.Exec.{beside, Lent, Board, Saw};
 ghost use Rattle.state.specs.Answer.{Works, wentAs};
 ghost use Rattle.board.specs.Undo.{undone};
-ghost use Rattle.state.specs.State.{heard, pick};
+ghost use Rattle.state.specs.State.{pick};
 ghost use Rattle.plate.specs.Plate.{table};
 ghost use Rattle.step.specs.Step as Spec;
 
@@ -247,16 +246,6 @@ pub fn step_on(
         };
     }
     error(s, image, map, log, out, k)
-}
-
-// One step by itself.
-pub fn step_once(s: State, image: &mut [u8], map: &[u8], line: u16) -> Turn
-    requires { ⌜ Lent (now map) (now image) ⌝ }
-    ensures { λ r. ⌜ Spec.Once (now (map .entry)) (Spec.stepOf (now (map .entry)) (heard line) s (now (image .entry))) r (now (image .exit)) ⌝ }
-{
-    let mut log = [0u16; 32];
-    let sheet = plate::PLATE;
-    step_on(s, image, map, &mut log, hear(line), &sheet)
 }
 
 // PC from 16; locked where page 0 is unfitted.

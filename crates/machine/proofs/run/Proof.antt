@@ -16,11 +16,11 @@ run-on-requires c κs =
 
 same-length : tie.Need-same-length
 same-length c =
-    let k = run-sound (length (c .before .before .before .before .before .before .before .before .before .args .image .now)) (c .before .before .before .before .before .before .before .before .before .args .map .now) (c .before .before .before .before .before .before .before .before .before .args .lines .now) (sym (c .before .before .before .before .before .run-refusal .ensures) ∙ c .before .before .before .before .if1 .left) in
-    c .before .before .run-on .ensures .lent .size ∙ sym (k .0 .bytes)
+    let k = run-sound (length (c .before .before .before .before .before .before .before .before .before .before .args .image .now)) (c .before .before .before .before .before .before .before .before .before .before .args .map .now) (c .before .before .before .before .before .before .before .before .before .before .args .lines .now) (sym (c .before .before .before .before .before .before .run-refusal .ensures) ∙ c .before .before .before .before .before .if1 .left) in
+    c .before .before .before .run-on .ensures .lent .size ∙ sym (k .0 .bytes)
 
 returns-2 : tie.Need-returns-2
-returns-2 c = run-answered _ _ _ _ _ _ (sym (c .before .before .before .before .before .run-refusal .ensures) ∙ c .before .before .before .before .if1 .left) (c .before .before .run-on .ensures .same)
+returns-2 c = run-answered _ _ _ _ _ _ (sym (c .before .before .before .before .before .before .run-refusal .ensures) ∙ c .before .before .before .before .before .if1 .left) (c .before .before .before .run-on .ensures .same)
 
 pub run-spec : {M : Type 1} → statement M
 run-spec = tie.close (tie.spec (λ c κs. search needs) returns run-on-requires same-length returns-2)

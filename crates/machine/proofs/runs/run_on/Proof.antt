@@ -5,20 +5,20 @@ use lib.ListN.{length, drop}
 use borrow.Author.Needs.{needs}
 use Rattle.board.specs.Exec.{beside, Board}
 use Rattle.plate.specs.Plate.{formatOf, entries, table}
-use Rattle.machine.specs.Run.{rest, runOf, rest-more, rest-none}
+use Rattle.machine.specs.Run.{rest, runOf, rest-more, rest-none, lastCause, cause-more, cause-none}
 use Rattle.machine.proofs.runs.run_on.Statement.{statement}
 use Rattle.machine.proofs.runs.run_on.Tie as tie
 
 abbrev Inv-loop : tie.InvT-loop
-Inv-loop image₀ map lines log₀ sheet state₀ tally₀ i₀ image log state tally i =
-    (i ≤ length lines) × (tally .blanks ≤ i) × (rest map i (drop i lines) state image tally ≡ runOf map lines state₀ image₀) × Board map (beside image log) × (sheet ≡ table)
+Inv-loop image₀ map lines log₀ sheet state₀ tally₀ cause₀ i₀ image log state tally cause i =
+    (i ≤ length lines) × (tally .blanks ≤ i) × (rest map i (drop i lines) state image tally ≡ runOf map lines state₀ image₀) × Board map (beside image log) × (sheet ≡ table) × (lastCause map (drop i lines) state image cause ≡ lastCause map lines state₀ image₀ 4)
 
 abbrev μ-loop : tie.MeasureT-loop
-μ-loop image₀ map lines log₀ sheet state₀ tally₀ i₀ image log state tally i = length lines - i
+μ-loop image₀ map lines log₀ sheet state₀ tally₀ cause₀ i₀ image log state tally cause i = length lines - i
 
 loop-holds : tie.Need-loop-holds Inv-loop μ-loop
 unfolding table entries formatOf
-loop-holds c = (omega arith, omega arith, refl, record { lent = c .before .before .before .pre .0; whole = refl; few = omega arith }, refl)
+loop-holds c = (omega arith, omega arith, refl, record { lent = c .before .before .before .pre .0; whole = refl; few = omega arith }, refl, refl)
 
 mul-hear : tie.Need-mul-hear Inv-loop μ-loop
 mul-hear c = omega arith
@@ -48,13 +48,14 @@ loop-again c = (
   rest-more _ _ _ _ _ _ _ _ (c .before .before .before .before .before .before .before .before .before .before .loop-test .taken) (rw (c .before .before .before .before .before .before .hear .ensures) at (c .before .before .before .before .step-on .ensures .turn)) (c .noted .ensures .0) ∙ c .before .before .before .before .before .before .before .before .before .before .before .loop .inv .2,
   c .before .before .before .before .step-on .ensures .board,
   c .before .before .before .before .before .before .before .before .before .before .before .loop .inv .4,
+  cause-more _ _ _ _ _ _ _ (c .before .before .before .before .before .before .before .before .before .before .loop-test .taken) (rw (c .before .before .before .before .before .before .hear .ensures) at (c .before .before .before .before .step-on .ensures .turn)) ∙ c .before .before .before .before .before .before .before .before .before .before .before .loop .inv .5,
 )
 
 same-length : tie.Need-same-length Inv-loop μ-loop
 same-length c = c .before .loop .inv .3 .lent .size ∙ sym (c .before .before .before .before .before .pre .0 .size)
 
 returns : tie.Need-returns Inv-loop μ-loop
-returns c = record { same = sym (rest-none _ _ _ _ _ _ (omega arith)) ∙ c .before .loop .inv .2; lent = c .before .loop .inv .3 .lent }
+returns c = record { same = sym (rest-none _ _ _ _ _ _ (omega arith)) ∙ c .before .loop .inv .2; cause = sym (cause-none _ (c .before .before .before .before .before .args .lines .now) (c .before .loop .i) _ _ _ (omega arith)) ∙ c .before .loop .inv .5; lent = c .before .loop .inv .3 .lent }
 
 pub run-on-spec : {M : Type 1} → statement M
 run-on-spec =

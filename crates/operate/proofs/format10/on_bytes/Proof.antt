@@ -15,7 +15,7 @@ returns : tie.Need-returns
 unfolding onBytes
 returns c =
     did (went-store (c .unfound .result)) (c .before .before .before .before .before .before .before .before .before .pre)
-    (got-gone _ (undecoded byte _ _ _ ((rw (c .before .before .before .before .reg .ensures, c .before .before .before .before .before .byte-step .ensures) at (c .before .before .before .locate .ensures)) .got) (c .before .enum-told .given .1)) refl (found-lost (c .unfound .ensures) (c .before .enum-told .given .1)))
+    (got-gone _ (undecoded byte _ _ _ ((rw (c .before .before .before .before .reg .ensures, c .before .before .before .before .before .before .byte-step .ensures) at (c .before .before .before .locate .ensures)) .got) (c .before .enum-told .given .1)) refl (found-lost (c .unfound .ensures) (c .before .enum-told .given .1)))
 
 read-byte-requires : tie.Need-read-byte-requires
 read-byte-requires c κs = c .before .before .before .before .before .before .before .before .before .before .before .before .pre .lent
@@ -24,7 +24,7 @@ returns-2 : tie.Need-returns-2
 unfolding onBytes
 returns-2 c =
     did (went-store (c .unread-byte .result)) (c .before .before .before .before .before .before .before .before .before .before .before .before .before .before .before .before .pre)
-    (got-then _ (decoded byte _ _ _ ((rw (c .before .before .before .before .before .before .before .before .before .before .before .reg .ensures, c .before .before .before .before .before .before .before .before .before .before .before .before .byte-step .ensures) at (c .before .before .before .before .before .before .before .before .before .before .locate .ensures)) .got) (c .before .before .before .before .before .before .before .before .found .given .1) (c .before .before .before .before .before .before .moved .ensures)) refl
+    (got-then _ (decoded byte _ _ _ ((rw (c .before .before .before .before .before .before .before .before .before .before .before .reg .ensures, c .before .before .before .before .before .before .before .before .before .before .before .before .before .byte-step .ensures) at (c .before .before .before .before .before .before .before .before .before .before .locate .ensures)) .got) (c .before .before .before .before .before .before .before .before .found .given .1) (c .before .before .before .before .before .before .moved .ensures)) refl
     (got-gone _ ((rw (c .before .before .before .before .reg2 .ensures) at (c .before .before .before .read-byte .ensures)) .got) (byte-none (c .before .enum-told2 .given .1)) (byte-lost (c .unread-byte .ensures) (c .before .enum-told2 .given .1))))
 
 locate-requires-2 : tie.Need-locate-requires-2
@@ -34,9 +34,9 @@ returns-3 : tie.Need-returns-3
 unfolding onBytes
 returns-3 c =
     did (went-store (c .unfound2 .result)) (c .before .before .before .before .before .before .before .before .before .before .before .before .before .before .before .before .before .before .before .before .before .before .before .pre)
-    (got-then _ (decoded byte _ _ _ ((rw (c .before .before .before .before .before .before .before .before .before .before .before .before .before .before .before .before .before .before .reg .ensures, c .before .before .before .before .before .before .before .before .before .before .before .before .before .before .before .before .before .before .before .byte-step .ensures) at (c .before .before .before .before .before .before .before .before .before .before .before .before .before .before .before .before .before .locate .ensures)) .got) (c .before .before .before .before .before .before .before .before .before .before .before .before .before .before .before .found .given .1) (c .before .before .before .before .before .before .before .before .before .before .before .before .before .moved .ensures)) refl
+    (got-then _ (decoded byte _ _ _ ((rw (c .before .before .before .before .before .before .before .before .before .before .before .before .before .before .before .before .before .before .reg .ensures, c .before .before .before .before .before .before .before .before .before .before .before .before .before .before .before .before .before .before .before .before .byte-step .ensures) at (c .before .before .before .before .before .before .before .before .before .before .before .before .before .before .before .before .before .locate .ensures)) .got) (c .before .before .before .before .before .before .before .before .before .before .before .before .before .before .before .found .given .1) (c .before .before .before .before .before .before .before .before .before .before .before .before .before .moved .ensures)) refl
     (got-then _ ((rw (c .before .before .before .before .before .before .before .before .before .before .before .reg2 .ensures) at (c .before .before .before .before .before .before .before .before .before .before .read-byte .ensures)) .got) (byte-is (c .before .before .before .before .before .before .before .before .byte .given .1))
-    (got-gone _ (undecoded byte _ _ _ ((rw (c .before .before .before .before .reg3 .ensures, c .before .before .before .before .before .byte-step2 .ensures) at (c .before .before .before .locate2 .ensures)) .got) (c .before .enum-told3 .given .1)) refl (found-lost (c .unfound2 .ensures) (c .before .enum-told3 .given .1)))))
+    (got-gone _ (undecoded byte _ _ _ ((rw (c .before .before .before .before .reg3 .ensures, c .before .before .before .before .before .before .byte-step2 .ensures) at (c .before .before .before .locate2 .ensures)) .got) (c .before .enum-told3 .given .1)) refl (found-lost (c .unfound2 .ensures) (c .before .enum-told3 .given .1)))))
 
 read-byte-requires-2 : tie.Need-read-byte-requires-2
 read-byte-requires-2 c κs = c .before .before .before .before .before .before .before .before .before .before .before .before .before .before .before .before .before .before .before .before .before .before .before .before .before .before .pre .lent
@@ -45,9 +45,9 @@ returns-4 : tie.Need-returns-4
 unfolding onBytes
 returns-4 c =
     did (went-store (c .unread-byte2 .result)) (c .before .before .before .before .before .before .before .before .before .before .before .before .before .before .before .before .before .before .before .before .before .before .before .before .before .before .before .before .before .before .pre)
-    (got-then _ (decoded byte _ _ _ ((rw (c .before .before .before .before .before .before .before .before .before .before .before .before .before .before .before .before .before .before .before .before .before .before .before .before .before .reg .ensures, c .before .before .before .before .before .before .before .before .before .before .before .before .before .before .before .before .before .before .before .before .before .before .before .before .before .before .byte-step .ensures) at (c .before .before .before .before .before .before .before .before .before .before .before .before .before .before .before .before .before .before .before .before .before .before .before .before .locate .ensures)) .got) (c .before .before .before .before .before .before .before .before .before .before .before .before .before .before .before .before .before .before .before .before .before .before .found .given .1) (c .before .before .before .before .before .before .before .before .before .before .before .before .before .before .before .before .before .before .before .before .moved .ensures)) refl
+    (got-then _ (decoded byte _ _ _ ((rw (c .before .before .before .before .before .before .before .before .before .before .before .before .before .before .before .before .before .before .before .before .before .before .before .before .before .reg .ensures, c .before .before .before .before .before .before .before .before .before .before .before .before .before .before .before .before .before .before .before .before .before .before .before .before .before .before .before .byte-step .ensures) at (c .before .before .before .before .before .before .before .before .before .before .before .before .before .before .before .before .before .before .before .before .before .before .before .before .locate .ensures)) .got) (c .before .before .before .before .before .before .before .before .before .before .before .before .before .before .before .before .before .before .before .before .before .before .found .given .1) (c .before .before .before .before .before .before .before .before .before .before .before .before .before .before .before .before .before .before .before .before .moved .ensures)) refl
     (got-then _ ((rw (c .before .before .before .before .before .before .before .before .before .before .before .before .before .before .before .before .before .before .reg2 .ensures) at (c .before .before .before .before .before .before .before .before .before .before .before .before .before .before .before .before .before .read-byte .ensures)) .got) (byte-is (c .before .before .before .before .before .before .before .before .before .before .before .before .before .before .before .byte .given .1))
-    (got-then _ (decoded byte _ _ _ ((rw (c .before .before .before .before .before .before .before .before .before .before .before .reg3 .ensures, c .before .before .before .before .before .before .before .before .before .before .before .before .byte-step2 .ensures) at (c .before .before .before .before .before .before .before .before .before .before .locate2 .ensures)) .got) (c .before .before .before .before .before .before .before .before .found2 .given .1) (c .before .before .before .before .before .before .moved2 .ensures)) refl
+    (got-then _ (decoded byte _ _ _ ((rw (c .before .before .before .before .before .before .before .before .before .before .before .reg3 .ensures, c .before .before .before .before .before .before .before .before .before .before .before .before .before .byte-step2 .ensures) at (c .before .before .before .before .before .before .before .before .before .before .locate2 .ensures)) .got) (c .before .before .before .before .before .before .before .before .found2 .given .1) (c .before .before .before .before .before .before .moved2 .ensures)) refl
     (got-gone _ ((rw (c .before .before .before .before .reg4 .ensures) at (c .before .before .before .read-byte2 .ensures)) .got) (byte-none (c .before .enum-told4 .given .1)) (byte-lost (c .unread-byte2 .ensures) (c .before .enum-told4 .given .1))))))
 
 settle-byte-requires : tie.Need-settle-byte-requires
@@ -60,9 +60,9 @@ returns-5 : tie.Need-returns-5
 unfolding onBytes
 returns-5 c =
     record {
-      got = got-then _ (decoded byte _ _ _ ((rw (c .before .before .before .before .before .before .before .before .before .before .before .before .before .before .before .before .before .before .before .before .before .before .before .before .before .before .before .before .before .before .before .before .reg .ensures, c .before .before .before .before .before .before .before .before .before .before .before .before .before .before .before .before .before .before .before .before .before .before .before .before .before .before .before .before .before .before .before .before .before .byte-step .ensures) at (c .before .before .before .before .before .before .before .before .before .before .before .before .before .before .before .before .before .before .before .before .before .before .before .before .before .before .before .before .before .before .before .locate .ensures)) .got) (c .before .before .before .before .before .before .before .before .before .before .before .before .before .before .before .before .before .before .before .before .before .before .before .before .before .before .before .before .before .found .given .1) (c .before .before .before .before .before .before .before .before .before .before .before .before .before .before .before .before .before .before .before .before .before .before .before .before .before .before .before .moved .ensures)) refl
+      got = got-then _ (decoded byte _ _ _ ((rw (c .before .before .before .before .before .before .before .before .before .before .before .before .before .before .before .before .before .before .before .before .before .before .before .before .before .before .before .before .before .before .before .before .reg .ensures, c .before .before .before .before .before .before .before .before .before .before .before .before .before .before .before .before .before .before .before .before .before .before .before .before .before .before .before .before .before .before .before .before .before .before .byte-step .ensures) at (c .before .before .before .before .before .before .before .before .before .before .before .before .before .before .before .before .before .before .before .before .before .before .before .before .before .before .before .before .before .before .before .locate .ensures)) .got) (c .before .before .before .before .before .before .before .before .before .before .before .before .before .before .before .before .before .before .before .before .before .before .before .before .before .before .before .before .before .found .given .1) (c .before .before .before .before .before .before .before .before .before .before .before .before .before .before .before .before .before .before .before .before .before .before .before .before .before .before .before .moved .ensures)) refl
           (got-then _ ((rw (c .before .before .before .before .before .before .before .before .before .before .before .before .before .before .before .before .before .before .before .before .before .before .before .before .before .reg2 .ensures) at (c .before .before .before .before .before .before .before .before .before .before .before .before .before .before .before .before .before .before .before .before .before .before .before .before .read-byte .ensures)) .got) (byte-is (c .before .before .before .before .before .before .before .before .before .before .before .before .before .before .before .before .before .before .before .before .before .before .byte .given .1))
-          (got-then _ (decoded byte _ _ _ ((rw (c .before .before .before .before .before .before .before .before .before .before .before .before .before .before .before .before .before .before .reg3 .ensures, c .before .before .before .before .before .before .before .before .before .before .before .before .before .before .before .before .before .before .before .byte-step2 .ensures) at (c .before .before .before .before .before .before .before .before .before .before .before .before .before .before .before .before .before .locate2 .ensures)) .got) (c .before .before .before .before .before .before .before .before .before .before .before .before .before .before .before .found2 .given .1) (c .before .before .before .before .before .before .before .before .before .before .before .before .before .moved2 .ensures)) refl
+          (got-then _ (decoded byte _ _ _ ((rw (c .before .before .before .before .before .before .before .before .before .before .before .before .before .before .before .before .before .before .reg3 .ensures, c .before .before .before .before .before .before .before .before .before .before .before .before .before .before .before .before .before .before .before .before .byte-step2 .ensures) at (c .before .before .before .before .before .before .before .before .before .before .before .before .before .before .before .before .before .locate2 .ensures)) .got) (c .before .before .before .before .before .before .before .before .before .before .before .before .before .before .before .found2 .given .1) (c .before .before .before .before .before .before .before .before .before .before .before .before .before .moved2 .ensures)) refl
           (got-then _ ((rw (c .before .before .before .before .before .before .before .before .before .before .before .reg4 .ensures) at (c .before .before .before .before .before .before .before .before .before .before .read-byte2 .ensures)) .got) (byte-is (c .before .before .before .before .before .before .before .before .byte2 .given .1))
           ((rw (c .before .before .before .before .before .with-flags .ensures, c .before .before .before .before .before .before .byte-binary .ensures) at (c .before .before .settle-byte .ensures)) .got))));
       board = c .before .before .settle-byte .ensures .board;
