@@ -8,9 +8,10 @@ use mathlib.Core.Bool.{Bool, true, false}
 use lib.Dec.{ltb}
 use Prim.Native.Nat.{zero, _*_, _/_, _%_}
 use borrow.Author.Tests.{le-leb, lt-leb, lt-ltb, le-ltb}
+use Rattle.letters.specs.Digits.{hex4}
 use Rattle.line.specs.declared.Place.{Place}
 use Rattle.line.specs.declared.Place.the-variants.{At, Nowhere}
-use Rattle.line.specs.Line.{pick, hex4, field, fields, modeText, placeText, lineText, name, decimal, refusedText, left, written}
+use Rattle.line.specs.Line.{pick, field, fields, modeText, placeText, lineText, name, decimal, refusedText, left, written}
 use native.Mathlib.Nat.{zero-add}
 use native.Mathlib.Numerals.{add-one}
 use lib.ListN.{length, take, drop, set, getD, length-append, length-take, length-drop}
