@@ -6,7 +6,7 @@ use Prim.Native.Nat.{ℕ, zero, suc, _+_, _/_, _%_}
 use lib.Dec.{leb, ltb}
 use lib.ListN.{length, getD}
 use Rattle.letters.specs.Digits.{hexOf, hex4}
-use Rattle.line.specs.Over.{over}
+use Rattle.letters.specs.Over.{over}
 use Rattle.line.specs.declared.Place.{Place}
 use Rattle.line.specs.declared.Place.the-variants.{At, Nowhere}
 

@@ -4,7 +4,7 @@ ghost use mathlib.Core.Path.{_≡_};
 ghost use Prim.Native.Nat.{_+_, _*_, _≤_, _<_};
 ghost use lib.ListN.{length};
 ghost use Rattle.line.specs.Line.{field, four, fields, modeText, placeText, lineText, name, decimal, refusedText, left, written};
-ghost use Rattle.line.specs.Over.{Wrote, WroteAt};
+ghost use Rattle.letters.specs.Over.{Wrote, WroteAt};
 
 // Where the first blank was: a place in the list of line words, or none.
 pub enum Place {

@@ -5,7 +5,7 @@ ghost use Prim.Native.Nat.{_+_, _≤_, _<_};
 ghost use lib.ListN.{length, getD};
 ghost use Rattle.letters.specs.Digits.{hexOf, hex4, hex2};
 ghost use Rattle.optext.specs.Rows.{rowCount, nameOf};
-ghost use Rattle.optext.specs.Over.{Wrote, WroteAt};
+ghost use Rattle.letters.specs.Over.{Wrote, WroteAt};
 ghost use Rattle.optext.specs.Line.{regA, regB, regText, upText, literalText, downText, offsetText, plainText, modeText, operandText, isShown, rowOf, sepText, lineText};
 use crate::rows::Kind;
 use crate::rows::first;

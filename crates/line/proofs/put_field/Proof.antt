@@ -1,4 +1,4 @@
-use Rattle.line.proofs.Laws.{wrote-sets}
+use Rattle.letters.specs.Laid.{wrote-sets}
 use Rattle.letters.specs.Digits.{hex4}
 use Rattle.line.specs.Line.{field}
 use lib.ListN.{length-set}
