@@ -22,7 +22,7 @@ use Rattle.operate.specs.Operands.{destination}
 use Rattle.operate.specs.Format7.{wordOf, byteOf, stored, modify, noResult, statusCode, format7}
 use Rattle.operate.specs.Format9.{ash, sob, div, presetCode, format9}
 use Rattle.operate.specs.Format10.{settle, onWords, moveByte, settleByte, onBytes, format10}
-use Rattle.optext.specs.Digits.{letters, digits, hexOf, hex4, hex2}
+use Rattle.letters.specs.Digits.{letters, digits, hexOf, hex4, hex2}
 use Rattle.optext.specs.Rows.{theRow, rows}
 use Rattle.optext.specs.Line.{registers, regA, regB, regText, upText, literalText, downText, offsetText, plainText, modeText, modeTakes, addressed, rowOf, sepText, lineText, taken, textOf}
 use Rattle.step.specs.Execute.{further, byFormat}

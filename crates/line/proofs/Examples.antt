@@ -3,8 +3,9 @@
 use mathlib.Core.Path.{_≡_, refl}
 use mathlib.Core.List.{List, [], _∷_}
 use Prim.Native.Nat.{ℕ}
+use Rattle.letters.specs.Digits.{digits, hexOf, hex4}
 use Rattle.line.specs.declared.Place.the-variants.{At, Nowhere}
-use Rattle.line.specs.Line.{digits, hexOf, hex4, field, fields, modeText, placeText, lineText, name, decimal, refusedText}
+use Rattle.line.specs.Line.{field, fields, modeText, placeText, lineText, name, decimal, refusedText}
 
 registers : List ℕ
 registers = 0 ∷ 1 ∷ 0 ∷ 0 ∷ 0 ∷ 0 ∷ 12 ∷ 146 ∷ []

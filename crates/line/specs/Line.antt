@@ -5,7 +5,8 @@ use mathlib.Core.List.{List, [], _∷_, _++_}
 use Prim.Native.Nat.{ℕ, zero, suc, _+_, _/_, _%_}
 use lib.Dec.{leb, ltb}
 use lib.ListN.{length, getD}
-use Rattle.line.specs.Over.{over}
+use Rattle.letters.specs.Digits.{hexOf, hex4}
+use Rattle.letters.specs.Over.{over}
 use Rattle.line.specs.declared.Place.{Place}
 use Rattle.line.specs.declared.Place.the-variants.{At, Nowhere}
 
@@ -13,19 +14,9 @@ abbrev pub pick : {A : Type 0} → Bool → A → A → A
 pick true a b = a
 pick false a b = b
 
--- 0 to 9, A to F
-unfoldable pub digits : List ℕ
-digits = 48 ∷ 49 ∷ 50 ∷ 51 ∷ 52 ∷ 53 ∷ 54 ∷ 55 ∷ 56 ∷ 57 ∷ 65 ∷ 66 ∷ 67 ∷ 68 ∷ 69 ∷ 70 ∷ []
-
-unfoldable pub hexOf : ℕ → ℕ
-hexOf d = getD digits d 0
-
--- four digits
+-- four letters
 abbrev pub four : ℕ → ℕ → ℕ → ℕ → List ℕ
 four a b c d = a ∷ b ∷ c ∷ d ∷ []
-
-unfoldable pub hex4 : ℕ → List ℕ
-hex4 x = four (hexOf (x / 4096)) (hexOf (x / 256 % 16)) (hexOf (x / 16 % 16)) (hexOf (x % 16))
 
 -- four digits and a space
 unfoldable pub field : ℕ → List ℕ

@@ -1,42 +1,15 @@
 // The one line that bench prints, written into a lent text buffer from plain numbers.
+use letters::hex;
 ghost use mathlib.Core.Path.{_≡_};
 ghost use Prim.Native.Nat.{_+_, _*_, _≤_, _<_};
 ghost use lib.ListN.{length};
-ghost use Rattle.line.specs.Line.{hexOf, field, four, fields, modeText, placeText, lineText, name, decimal, refusedText, left, written};
-ghost use Rattle.line.specs.Over.{Wrote, WroteAt};
+ghost use Rattle.line.specs.Line.{field, four, fields, modeText, placeText, lineText, name, decimal, refusedText, left, written};
+ghost use Rattle.letters.specs.Over.{Wrote, WroteAt};
 
 // Where the first blank was: a place in the list of line words, or none.
 pub enum Place {
     At(u16),
     Nowhere,
-}
-
-const DIGITS: [u8; 16] = [
-    48,
-    49,
-    50,
-    51,
-    52,
-    53,
-    54,
-    55,
-    56,
-    57,
-    65,
-    66,
-    67,
-    68,
-    69,
-    70,
-];
-
-// A hex digit, upper case.
-fn hex(n: u16) -> u8
-    requires { ⌜ n < 16 ⌝ }
-    ensures { λ r. ⌜ r ≡ hexOf n ⌝ }
-{
-    let i = n as usize;
-    DIGITS[i]
 }
 
 // Four hex digits and a space.

@@ -1,5 +1,4 @@
 pub mod Choose
-pub mod Laid
 pub mod Keys
 pub mod Table
 pub mod Forms

@@ -10,13 +10,13 @@ use Rattle.optext.specs.declared.reading.Guess.{Guess}
 use Rattle.optext.specs.declared.reading.Operand.{Operand}
 use Rattle.optext.specs.declared.rows.Kind.{Kind}
 use Rattle.optext.specs.declared.Written.the-variants.{Line, TextShort, NoWords, WordMissing}
-use Rattle.optext.specs.Over.{Wrote}
+use Rattle.letters.specs.Over.{Wrote}
 use Rattle.optext.specs.Rows.{nameOf, baseOf, firstOf, secondOf}
 use Rattle.optext.specs.Line.{rowOf, operandText, takes, sepText, lineText, taken, textOf}
 use Rattle.optext.specs.Guess.{rowAt, unOp, guess, guessA, guessB, guessOf}
 use Rattle.optext.specs.Answer.{writeAnswer, writeBytes, Writes}
 use Rattle.optext.specs.Words.{Whole, Accepts, RefusedText, own, wordsOf}
-use Rattle.optext.proofs.Laid.{wrote-take, wrote-rest}
+use Rattle.letters.specs.Laid.{wrote-take, wrote-rest}
 use Rattle.optext.proofs.Forms.{takes-le}
 use Rattle.optext.proofs.Back.{op-ignores}
 use Rattle.optext.proofs.Trip.{guess-back, line-same}

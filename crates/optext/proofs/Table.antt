@@ -13,7 +13,7 @@ use lib.Seq.{getD-drop, drop-append-add}
 use Rattle.optext.specs.declared.rows.Kind.{Kind}
 use Rattle.optext.specs.declared.rows.Kind.the-variants.{None, Mask, Disp, Reg, Arg4, Arg6, Count, High, Dst, Addr, Src, Word}
 use Rattle.optext.specs.Pick.{pick}
-use Rattle.optext.specs.Digits.{hex4}
+use Rattle.letters.specs.Digits.{hex4}
 use Rattle.optext.specs.Rows.{Row, rows, theRow, noRow, nameOf, baseOf, firstOf, secondOf, lineOf, flat, letterOf, kindAs}
 use Rattle.optext.specs.Line.{isShown}
 use Rattle.optext.specs.Guess.{keyOf, rowAt}

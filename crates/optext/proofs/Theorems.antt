@@ -14,7 +14,7 @@ use Rattle.optext.specs.declared.ReadBack.{ReadBack}
 use Rattle.optext.specs.declared.ReadBack.the-variants.{Words, WordsShort, NotText}
 use lib.Seq.{take-append-seam}
 use Rattle.optext.specs.Pick.{pick}
-use Rattle.optext.specs.Over.{over}
+use Rattle.letters.specs.Over.{over}
 use Rattle.optext.specs.Rows.{firstOf, secondOf}
 use Rattle.optext.specs.Line.{rowOf, takes, lineText, taken, textOf}
 use Rattle.optext.specs.Guess.{guess, guessOf}

@@ -10,7 +10,7 @@ use Rattle.optext.specs.declared.Written.the-variants.{Line, TextShort, 
 use Rattle.optext.specs.declared.ReadBack.{ReadBack}
 use Rattle.optext.specs.declared.ReadBack.the-variants.{Words, WordsShort, NotText}
 use Rattle.optext.specs.Pick.{pick}
-use Rattle.optext.specs.Over.{over}
+use Rattle.letters.specs.Over.{over}
 use Rattle.optext.specs.Line.{taken, textOf}
 
 -- an answer: the values found, or the number of a refusal

@@ -2,7 +2,6 @@ pub mod Pick
 pub mod Digits
 pub mod Rows
 pub mod Line
-pub mod Over
 pub mod Answer
 pub mod Guess
 pub mod Words

@@ -8,7 +8,7 @@ use lib.Dec.{eqb}
 use lib.ListN.{length, take, getD}
 use Rattle.optext.specs.Pick.{pick}
 use Rattle.optext.specs.Rows.{firstOf, secondOf}
-use Rattle.optext.specs.Over.{over}
+use Rattle.letters.specs.Over.{over}
 use Rattle.optext.specs.Line.{rowOf, takes, taken, textOf}
 use Rattle.optext.specs.Answer.{Answer, found, refusal}
 

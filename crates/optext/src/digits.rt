@@ -1,17 +1,7 @@
-// Hex digits, upper case.
+// Hex digits read.
 ghost use mathlib.Core.Path.{_≡_};
 ghost use Prim.Native.Nat.{_<_};
-ghost use Rattle.optext.specs.Digits.{hexOf, unHex};
-
-const DIGITS: [u8; 16] = *b"0123456789ABCDEF";
-
-pub(crate) fn hex(d: u16) -> u8
-    requires { ⌜ d < 16 ⌝ }
-    ensures { λ r. ⌜ r ≡ hexOf d ⌝ }
-{
-    let i = d as usize;
-    DIGITS[i]
-}
+ghost use Rattle.optext.specs.Digits.{unHex};
 
 // The number of a digit, or 0.
 pub(crate) fn un_hex(c: u8) -> u16

@@ -4,7 +4,7 @@ ghost use mathlib.Core.Bool.{true};
 ghost use Prim.Native.Nat.{_≤_, _<_};
 ghost use lib.ListN.{length, getD};
 ghost use Rattle.optext.specs.Rows.{rowCount};
-ghost use Rattle.optext.specs.Over.{Wrote};
+ghost use Rattle.letters.specs.Over.{Wrote};
 ghost use Rattle.optext.specs.Line.{rowOf, lineText};
 ghost use Rattle.optext.specs.Answer.{Writes, readAs};
 ghost use Rattle.optext.specs.Words.{wordsOf, Reads};

@@ -3,16 +3,16 @@ ghost use mathlib.Core.Path.{_≡_};
 ghost use mathlib.Core.List.{[], _∷_};
 ghost use Prim.Native.Nat.{_+_, _≤_, _<_};
 ghost use lib.ListN.{length, getD};
+ghost use Rattle.letters.specs.Digits.{hexOf, hex4, hex2};
 ghost use Rattle.optext.specs.Rows.{rowCount, nameOf};
-ghost use Rattle.optext.specs.Over.{Wrote, WroteAt};
-ghost use Rattle.optext.specs.Digits.{hexOf, hex4, hex2};
+ghost use Rattle.letters.specs.Over.{Wrote, WroteAt};
 ghost use Rattle.optext.specs.Line.{regA, regB, regText, upText, literalText, downText, offsetText, plainText, modeText, operandText, isShown, rowOf, sepText, lineText};
-use crate::digits::hex;
 use crate::rows::Kind;
 use crate::rows::first;
 use crate::rows::letter;
 use crate::rows::name_len;
 use crate::rows::second;
+use letters::hex;
 
 // The names of the registers, two letters each.
 const REGISTERS: [u8; 16] = *b"R0R1R2R3R4R5SPPC";

@@ -1,4 +1,5 @@
-use Rattle.line.proofs.Laws.{at-part, mode-length}
+use Rattle.letters.specs.Laid.{at-part}
+use Rattle.line.proofs.Laws.{mode-length}
 use native.Mathlib.Omega.{arith}
 use borrow.Author.Needs.{needs}
 use Rattle.line.proofs.mode_at.Statement.{statement}

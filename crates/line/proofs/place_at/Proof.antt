@@ -1,4 +1,5 @@
-use Rattle.line.proofs.Laws.{at-part, place-length}
+use Rattle.letters.specs.Laid.{at-part}
+use Rattle.line.proofs.Laws.{place-length}
 use native.Mathlib.Omega.{arith}
 use borrow.Author.Needs.{needs}
 use Rattle.line.proofs.place_at.Statement.{statement}

@@ -1,4 +1,5 @@
-use Rattle.line.proofs.Laws.{one-digit, two-digits, three-digits, wrote-sets}
+use Rattle.letters.specs.Laid.{wrote-sets}
+use Rattle.line.proofs.Laws.{one-digit, two-digits, three-digits}
 use mathlib.Core.List.{[], _∷_}
 use lib.ListN.{length-set}
 use native.Mathlib.Omega.{arith}

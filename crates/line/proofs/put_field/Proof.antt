@@ -1,5 +1,6 @@
-use Rattle.line.proofs.Laws.{wrote-sets}
-use Rattle.line.specs.Line.{hex4, field}
+use Rattle.letters.specs.Laid.{wrote-sets}
+use Rattle.letters.specs.Digits.{hex4}
+use Rattle.line.specs.Line.{field}
 use lib.ListN.{length-set}
 use native.Mathlib.Omega.{arith}
 use borrow.Author.Needs.{needs}

@@ -1,4 +1,5 @@
-use Rattle.line.specs.Line.{placeText, hex4}
+use Rattle.letters.specs.Digits.{hex4}
+use Rattle.line.specs.Line.{placeText}
 use borrow.Author.Needs.{needs}
 use Rattle.line.proofs.put_place.Statement.{statement}
 use Rattle.line.proofs.put_place.Tie as tie

@@ -1,8 +1,9 @@
 -- After i turns the first i registers' fields stand in front, five characters each.
 -- Assumes nothing.
 use borrow.Author.Needs.{needs}
-use Rattle.line.proofs.Laws.{then, wrote-none, field-length, fields-more}
-use Rattle.line.specs.Over.{Wrote}
+use Rattle.letters.specs.Laid.{then, wrote-none}
+use Rattle.line.proofs.Laws.{field-length, fields-more}
+use Rattle.letters.specs.Over.{Wrote}
 use Rattle.line.specs.Line.{fields}
 use lib.ListN.{length, getD}
 use native.Mathlib.Omega.{arith}

@@ -2,7 +2,7 @@ use mathlib.Core.Path.{_≡_, sym, _∙_}
 use native.Mathlib.Omega.{arith}
 use lib.ListN.{length}
 use lib.Seq.{length-take-le}
-use Rattle.optext.proofs.Laid.{wrote-take}
+use Rattle.letters.specs.Laid.{wrote-take}
 use Rattle.optext.proofs.Longest.{line-le}
 use borrow.Author.Needs.{needs}
 use Rattle.optext.proofs.fits.Statement.{statement}

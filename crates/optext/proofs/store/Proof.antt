@@ -2,7 +2,7 @@ use mathlib.Core.Path.{_≡_, refl, _∙_}
 use mathlib.Core.List.{[], _∷_}
 use native.Mathlib.Omega.{arith}
 use lib.ListN.{length-set}
-use Rattle.optext.proofs.Laid.{wrote-sets}
+use Rattle.letters.specs.Laid.{wrote-sets}
 use Rattle.optext.specs.Rows.{firstOf, secondOf}
 use Rattle.optext.specs.Line.{takes, rowOf, taken}
 use Rattle.optext.proofs.Meets.{words-3, words-a, words-b, words-1}

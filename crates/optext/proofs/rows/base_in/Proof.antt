@@ -1,6 +1,7 @@
 use mathlib.Core.List.{[]}
 use Rattle.optext.specs.Rows.{baseOf}
-use Rattle.optext.specs.Digits.{hex4, unHex4}
+use Rattle.letters.specs.Digits.{hex4}
+use Rattle.optext.specs.Digits.{unHex4}
 use Rattle.optext.proofs.Back.{hex4-back}
 use Rattle.optext.proofs.Table.{base-lt}
 use borrow.Author.Needs.{needs}

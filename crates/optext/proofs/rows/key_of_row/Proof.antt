@@ -5,7 +5,7 @@ use native.Mathlib.Omega.{arith}
 use lib.ListN.{length, drop}
 use Rattle.optext.specs.Rows.{rows, flat}
 use Rattle.optext.specs.Guess.{keyOf}
-use Rattle.optext.proofs.Laid.{part-is-drop}
+use Rattle.letters.specs.Laid.{part-is-drop}
 use Rattle.optext.proofs.Table.{flat-length, table-drop, key-row}
 use borrow.Author.Needs.{needs}
 use Rattle.optext.proofs.rows.key_of_row.Statement.{statement}

@@ -1,5 +1,5 @@
 use Rattle.optext.specs.Rows.{rows}
-use Rattle.optext.specs.Digits.{digits, hexOf, hex4}
+use Rattle.letters.specs.Digits.{digits, hexOf, hex4}
 use Rattle.optext.proofs.Table.{table-at}
 use borrow.Author.Needs.{needs}
 use Rattle.optext.proofs.rows.letter.Statement.{statement}

@@ -1,7 +1,7 @@
 use mathlib.Core.List.{[], _∷_}
 use native.Mathlib.Omega.{arith}
-use Rattle.optext.proofs.Laid.{wrote-sets}
-use Rattle.optext.specs.Digits.{hexOf}
+use Rattle.letters.specs.Laid.{wrote-sets}
+use Rattle.letters.specs.Digits.{hexOf}
 use borrow.Author.Needs.{needs}
 use Rattle.optext.proofs.writing.put_digit.Statement.{statement}
 use Rattle.optext.proofs.writing.put_digit.Tie as tie

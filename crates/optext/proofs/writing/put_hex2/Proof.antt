@@ -1,6 +1,6 @@
 use native.Mathlib.Omega.{arith}
-use Rattle.optext.proofs.Laid.{wrote-sets}
-use Rattle.optext.specs.Digits.{hex2}
+use Rattle.letters.specs.Laid.{wrote-sets}
+use Rattle.letters.specs.Digits.{hex2}
 use borrow.Author.Needs.{needs}
 use Rattle.optext.proofs.writing.put_hex2.Statement.{statement}
 use Rattle.optext.proofs.writing.put_hex2.Tie as tie

@@ -4,7 +4,7 @@ use lib.ListN.{length}
 use Rattle.optext.specs.Line.{lineText}
 use Rattle.optext.proofs.Table.{name-le}
 use Rattle.optext.proofs.Forms.{sep-le}
-use Rattle.optext.proofs.Laid.{then}
+use Rattle.letters.specs.Laid.{then}
 use borrow.Author.Needs.{needs}
 use Rattle.optext.proofs.writing.put_line.Statement.{statement}
 use Rattle.optext.proofs.writing.put_line.Tie as tie

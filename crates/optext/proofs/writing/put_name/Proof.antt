@@ -3,8 +3,8 @@ use mathlib.Core.Path.{_≡_, refl, _∙_}
 use Prim.Native.Nat.{_≤_, _<_, _-_}
 use native.Mathlib.Omega.{arith}
 use lib.ListN.{length, take, length-set}
-use Rattle.optext.proofs.Laid.{copy-none, copy-more}
-use Rattle.optext.specs.Over.{over}
+use Rattle.letters.specs.Laid.{copy-none, copy-more}
+use Rattle.letters.specs.Over.{over}
 use Rattle.optext.specs.Rows.{nameOf}
 use Rattle.optext.proofs.Table.{name-letter}
 use lib.Seq.{take-length}

@@ -1,6 +1,6 @@
 use mathlib.Core.List.{[]}
 use native.Mathlib.Omega.{arith}
-use Rattle.optext.proofs.Laid.{wrote-sets}
+use Rattle.letters.specs.Laid.{wrote-sets}
 use borrow.Author.Needs.{needs}
 use Rattle.optext.proofs.writing.put_operand.Statement.{statement}
 use Rattle.optext.proofs.writing.put_operand.Tie as tie

@@ -6,9 +6,9 @@ use Prim.Native.Nat.{ℕ, suc, _+_, _-_, _≤_, _<_}
 use native.Mathlib.Omega.{arith}
 use native.Mathlib.Nat.{zero-add}
 use native.Mathlib.Numerals.{add-one}
-use lib.ListN.{length, take, drop, set, getD, length-append, length-drop}
+use lib.ListN.{length, take, drop, set, getD, length-append, length-take, length-drop}
 use lib.Seq.{sets, sets-eq, take-at, drop-at, drop-drop, drop-cons, set-at, append-snoc, take-all, drop-length, take-suc, take-append-seam, length-take-le}
-use Rattle.optext.specs.Over.{over, Wrote, WroteAt}
+use Rattle.letters.specs.Over.{over, Wrote, WroteAt}
 use borrow.Rule.Slice.PartMut.{midOf, putMid, post-is, same-len-mid}
 
 pub over-length : (xs b : List ℕ) → length xs ≤ length b → length (over xs b) ≡ length b
@@ -42,6 +42,10 @@ part-is-drop a b = take-all (length b - a) (drop a b) (simp length-drop (omega a
 pub wrote-sets : (vs b : List ℕ) → length vs ≤ length b → Wrote vs b (sets b 0 vs) (length vs)
 wrote-sets vs b h = record { bytes = over-sets vs b h; count = refl }
 
+pub wrote-none : (b : List ℕ) → Wrote [] b b 0
+unfolding over
+wrote-none b = record { bytes = refl; count = refl }
+
 -- a writer got the part from a on, where p stands in front already
 pub part-back : (p s b xs y : List ℕ) (a n : ℕ) → xs ≡ over p b → length p ≡ a → length p ≤ length b
     → Wrote s (midOf a (length xs - a) xs) y n
@@ -55,6 +59,10 @@ part-back p s b xs y a n q e h w =
 pub part-length : (a : ℕ) (xs ys : List ℕ) → length ys ≡ length (midOf a (length xs - a) xs) → length (putMid a (length xs - a) xs ys) ≡ length xs
 part-length a xs ys e = same-len-mid a (length xs - a) xs ys e
 
+-- the part from a place on has this much room
+pub part-room : (at k : ℕ) (b : List ℕ) → at + k ≤ length b → k ≤ length (midOf at (length b - at) b)
+part-room at k b h = simp (length-take, length-drop) (omega arith)
+
 -- a loop that writes s from the front
 pub copy-none : (s b : List ℕ) → b ≡ over (take 0 s) b
 unfolding over
@@ -66,6 +74,7 @@ copy-more s b e i q h l =
     let t : length (take i s) ≡ i = length-take-le i s (omega arith) in
     rw (q, add-one i, take-suc s i 0 h) (over-set (take i s) b i (getD s i 0) t (omega arith))
 
+-- a writer got the part from a place on
 pub at-part : (at n : ℕ) (s b y : List ℕ) → at ≤ length b → Wrote s (midOf at (length b - at) b) y n
     → WroteAt at s b (putMid at (length b - at) b y) (at + n)
 at-part at n s b y h w = record {
@@ -80,6 +89,7 @@ then p s b b1 e at n w v = record {
   count = v .count ∙ rw (w .count, length-append) refl;
 }
 
+-- the text is what stands in front
 pub wrote-take : (s b e : List ℕ) (n : ℕ) → Wrote s b e n → take n e ≡ s
 unfolding over
 wrote-take s b e n w = rw (w .bytes, w .count) (take-append-seam s (drop (length s) b))
