@@ -142,6 +142,13 @@ pub fn store_byte(image: &mut [u8], map: &[u8], log: &mut [u16; 32], a: u16, v: 
     }
 }
 
+// Empties the log.
+pub fn clear(log: &mut [u16; 32])
+    ensures { λ _. ⌜ now (log .exit) ≡ set (now (log .entry)) 0 0 ⌝ }
+{
+    log[0] = 0;
+}
+
 // Takes back what the log has, and empties it.
 pub fn rollback(image: &mut [u8], log: &mut [u16; 32])
     requires { ⌜ (length (now image) ≡ 65536) × (count (now log) ≤ 15) ⌝ }
@@ -154,12 +161,5 @@ pub fn rollback(image: &mut [u8], log: &mut [u16; 32])
         let v = log[n * 2 + 2];
         put_word(image, a, v);
     }
-    log[0] = 0;
-}
-
-// Empties the log.
-pub fn clear(log: &mut [u16; 32])
-    ensures { λ _. ⌜ now (log .exit) ≡ set (now (log .entry)) 0 0 ⌝ }
-{
-    log[0] = 0;
+    clear(log);
 }

@@ -1,5 +1,5 @@
 -- Format 2, 0010 to 002F: a register k; and format 3, 0030 to 003F.
-use Prim.Native.Nat.{ℕ, _+_, _*_, _/_, _%_, _≤_}
+use Prim.Native.Nat.{ℕ, _+_, _/_, _%_, _≤_}
 use mathlib.Core.List.{List, [], _∷_}
 use mathlib.Core.Path.{_≡_}
 use lib.ListN.{getD, List·getD-eq-default}
@@ -9,7 +9,8 @@ use Rattle.board.specs.Work as Work
 use Rattle.board.specs.Bind.{_>>=_, _>>_}
 use Rattle.state.specs.declared.State.{State}
 use Rattle.state.specs.declared.Outside.{Outside}
-use Rattle.state.specs.State.{reg, withReg, withSp, withPc, withFlags, plus, twice}
+use Rattle.state.specs.State.{reg, withReg, withSp, withPc, withFlags}
+use Rattle.word.specs.Address.{plus, twice}
 use Rattle.state.specs.Stack.{popReg}
 
 -- the acknowledge code that IAK reads

@@ -1,20 +1,15 @@
 -- Format 4, 0040 to 00FF: supervisor calls with a number n of 6 bits. All keep I2.
-use Prim.Native.Nat.{ℕ, _+_, _*_, _/_, _%_}
-use mathlib.Core.Bool.{false}
+use Prim.Native.Nat.{ℕ, _/_, _%_}
+use mathlib.Core.Bool.{false, cond}
 use lib.Dec.{eqb}
-use Rattle.board.specs.Work.{Work, give, load}
+use Rattle.board.specs.Work.{Work, load}
 use Rattle.board.specs.Bind.{_>>=_, _>>_}
 use Rattle.state.specs.declared.State.{State}
 use Rattle.state.specs.declared.Outside.{Outside}
-use Rattle.state.specs.State.{withReg, withPc, psOf, plus, twice, pick}
-use Rattle.state.specs.Stack.{push, fromLoc, pushBoth}
-use Rattle.control.specs.Format1.{save}
-
--- PC ← at; PC ← PC + @PC
-unfoldable pub tabled : State → ℕ → Work State
-tabled s at = do
-  offset ← load at
-  give (withPc s (plus at offset))
+use Rattle.state.specs.State.{withReg, psOf}
+use Rattle.word.specs.Address.{plus, twice}
+use Rattle.state.specs.Stack.{push, fromLoc, pushBoth, tabled}
+use Rattle.format1.specs.Format1.{save}
 
 -- SVCA: ↓ PS, ↓ PC; PC ← (loc 22) + ARG * 2; PC ← PC + @PC
 unfoldable pub svca : Outside → State → ℕ → Work State
@@ -34,4 +29,4 @@ svc out s n at = do
 -- SVCA 0040, SVCB 0080, SVCC 00C0
 unfoldable pub format4 : Outside → State → ℕ → Work State
 format4 out s op =
-    pick (eqb (op / 64) 1) (svca out s (op % 64)) (pick (eqb (op / 64) 2) (svc out s (op % 64) 0x24) (svc out s (op % 64) 0x26))
+    cond (eqb (op / 64) 1) (svca out s (op % 64)) (cond (eqb (op / 64) 2) (svc out s (op % 64) 0x24) (svc out s (op % 64) 0x26))

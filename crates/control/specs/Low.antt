@@ -1,5 +1,6 @@
 -- The op codes whose high byte is 00: formats 1 to 4.
 use Prim.Native.Nat.{ℕ, _/_, _%_}
+use mathlib.Core.Bool.{cond}
 use mathlib.Core.Path.{_≡_}
 use native.Mathlib.Omega.{arith}
 use borrow.Author.Tests.{lt-ltb, le-ltb}
@@ -7,16 +8,15 @@ use lib.Dec.{ltb}
 use Rattle.board.specs.Work.{Work, give}
 use Rattle.state.specs.declared.State.{State}
 use Rattle.state.specs.declared.Outside.{Outside}
-use Rattle.state.specs.State.{pick}
-use Rattle.control.specs.Format1.{format1}
+use Rattle.format1.specs.Format1.{format1}
 use Rattle.control.specs.Format2.{rtn, format2, lcc}
 use Rattle.control.specs.Format4.{format4}
 
 unfoldable pub formats2to4 : Outside → State → ℕ → Work State
-formats2to4 out s op = pick (ltb op 0x30) (format2 out s op) (pick (ltb op 0x40) (give (lcc s op)) (format4 out s op))
+formats2to4 out s op = cond (ltb op 0x30) (format2 out s op) (cond (ltb op 0x40) (give (lcc s op)) (format4 out s op))
 
 unfoldable pub lowCodes : Outside → State → ℕ → Work State
-lowCodes out s op = pick (ltb op 0x10) (format1 out s op) (formats2to4 out s op)
+lowCodes out s op = cond (ltb op 0x10) (format1 out s op) (formats2to4 out s op)
 
 -- 0018 to 001F
 pub low-rtn : (out : Outside) (s : State) (op : ℕ) → op / 8 ≡ 3 → lowCodes out s op ≡ rtn s (op % 8)

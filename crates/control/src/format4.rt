@@ -1,28 +1,16 @@
 // Format 4, 0040 to 00FF: supervisor calls.
-use super::format1::save;
 use board::Word;
+use format1::save;
 use state::Outside;
 use state::State;
 use state::Went;
-use state::plus;
 use state::unread;
+use word::address::plus;
 ghost use mathlib.Core.Path.{_≡_};
 ghost use Rattle.board.specs.Exec.{beside, Lent, Board, Saw};
 ghost use Rattle.state.specs.Answer.{Works, wentAs};
 ghost use Prim.Native.Nat.{_*_};
 ghost use Rattle.control.specs.Format4 as Spec;
-
-// PC ← at; PC ← PC + @PC
-pub fn tabled(s: State, image: &[u8], map: &[u8], at: u16) -> Went
-    requires { ⌜ Lent (now map) (now image) ⌝ }
-    ensures { λ r. ⌜ Saw (now (map .entry)) (Spec.tabled s at) (now (image .entry)) (wentAs r) ⌝ }
-{
-    let word = board::load(image, map, at);
-    let Word::Value(offset) = word else {
-        return unread(word);
-    };
-    Went::Done(s.with_pc(plus(at, offset)))
-}
 
 // SVCA: ↓ PS, ↓ PC; PC ← (loc 22) + ARG * 2; PC ← PC + @PC.
 fn svca(s: State, image: &mut [u8], map: &[u8], log: &mut [u16; 32], out: Outside, n: u16) -> Went
@@ -37,7 +25,7 @@ fn svca(s: State, image: &mut [u8], map: &[u8], log: &mut [u16; 32], out: Outsid
     let Word::Value(table) = word else {
         return unread(word);
     };
-    tabled(t, image, map, plus(table, plus(n, n)))
+    t.tabled(image, map, plus(table, plus(n, n)))
 }
 
 // SVCB and SVCC, by the location that has their PC.

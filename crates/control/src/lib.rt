@@ -7,9 +7,8 @@ ghost use Rattle.board.specs.Exec.{beside, Lent, Board, Saw};
 ghost use Rattle.state.specs.Answer.{Works, wentAs};
 ghost use Rattle.control.specs.Low as Spec;
 
-pub mod format1;
 mod format2;
-pub mod format4;
+mod format4;
 
 fn formats_2_to_4(
     s: State,

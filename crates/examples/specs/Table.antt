@@ -6,22 +6,24 @@ use mathlib.Core.Path.{_≡_, refl}
 use lib.ListN.{replicate, getD}
 use Rattle.word.specs.declared.Flags.{Flags}
 use Rattle.word.specs.Number.{digit}
-use Rattle.word.specs.Shift.{turns}
+use Rattle.shift.specs.Shift.{turns}
 use Rattle.word.specs.Status.{flagsOf}
 use Rattle.plate.specs.Plate.{formatOf}
 use Rattle.board.specs.Work.{run, fitted, even, wordAt, withWord, withByte}
 use Rattle.board.specs.Bind.{_>>=_}
 use Rattle.state.specs.declared.State.{State}
 use Rattle.state.specs.declared.Mode.the-variants.{Running}
-use Rattle.state.specs.State.{regOf, setReg, reg, withReg, withPc, withSp, withFlags, withI2, withMode, withStatus, cleared, heard, psOf}
+use Rattle.state.specs.Registers.{regOf, setReg}
+use Rattle.state.specs.State.{reg, withReg, withPc, withSp, withFlags, withI2, withMode, withStatus, cleared, heard, psOf}
 use Rattle.state.specs.Stack.{push, pushReg, pop, popReg, popStatus, fetch, fromLoc, pushBoth, trap}
 use Rattle.operand.specs.Operand.{deferred, incrementDeferred, decrementDeferred, indexed, indexedDeferred, locate, moved, decode, readOf, writeTo}
-use Rattle.operate.specs.Format5.{branch}
-use Rattle.operate.specs.Format6.{withDone, withPair, immediate, single, double, format6}
-use Rattle.operate.specs.Operands.{destination}
-use Rattle.operate.specs.Format7.{wordOf, byteOf, stored, modify, noResult, statusCode, format7}
-use Rattle.operate.specs.Format9.{ash, sob, div, presetCode, format9}
-use Rattle.operate.specs.Format10.{settle, onWords, moveByte, settleByte, onBytes, format10}
+use Rattle.format6.specs.Format5.{branch}
+use Rattle.state.specs.State.{withDone, withPair}
+use Rattle.format6.specs.Format6.{immediate, single, double, format6}
+use Rattle.operand.specs.Destination.{destination}
+use Rattle.format7.specs.Format7.{wordOf, byteOf, stored, modify, noResult, statusCode, format7}
+use Rattle.format9.specs.Format9.{ash, sob, div, presetCode, format9}
+use Rattle.format10.specs.Format10.{settle, onWords, moveByte, settleByte, onBytes, format10}
 use Rattle.letters.specs.Digits.{letters, digits, hexOf, hex4, hex2}
 use Rattle.optext.specs.Rows.{theRow, rows}
 use Rattle.optext.specs.Line.{registers, regA, regB, regText, upText, literalText, downText, offsetText, plainText, modeText, modeTakes, addressed, rowOf, sepText, lineText, taken, textOf}

@@ -1,6 +1,6 @@
 -- From the code's facts to what the exported calls leave.
 use Prim.Native.Nat.{ℕ, _≤_}
-use mathlib.Core.Bool.{Bool, true, false}
+use mathlib.Core.Bool.{Bool, true, false, cond}
 use mathlib.Core.List.{List, [], _∷_, _++_, append-nil}
 use mathlib.Core.Path.{_≡_, refl, sym, ap, _∙_}
 use native.Mathlib.Omega.{arith}
@@ -9,7 +9,6 @@ use lib.Seq.{take-length, drop-length}
 use lib.Dec.{eqb}
 use borrow.Author.Tests.{eqb-true, eq-eqb, ne-eqb}
 use Rattle.state.specs.declared.State.{State}
-use Rattle.state.specs.State.{pick}
 use Rattle.step.specs.declared.Turn.{Turn}
 use Rattle.machine.specs.declared.Ran.{Ran}
 use Rattle.machine.specs.declared.Powered.{Powered}
@@ -26,14 +25,14 @@ use Rattle.firmware.specs.Calls.{up, powerUpCall, went, stepCall, ended,
 pub copied : (from b b′ : List ℕ) → length b ≡ length from → b′ ≡ take (length from) from ++ drop (length from) b → b′ ≡ from
 copied from b b′ l e = e ∙ rw (take-length from, ← l, drop-length b, append-nil)
 
-pick-false : (b x : Bool) → pick b x true ≡ false → b ≡ true
-pick-false true x e = refl
-pick-false false x e = sym e
+cond-false : (b x : Bool) → cond b x true ≡ false → b ≡ true
+cond-false true x e = refl
+cond-false false x e = sym e
 
 -- what is a state's bytes is 20 of them
 pub state-length : (b : List ℕ) → refusedState b ≡ false → length b ≡ 20
 unfolding refusedState
-state-length b e = eqb-true _ _ (pick-false (eqb (length b) 20) (over b) e)
+state-length b e = eqb-true _ _ (cond-false (eqb (length b) 20) (over b) e)
 
 -- ---- power-up
 

@@ -11,7 +11,8 @@ use Rattle.word.specs.Status.{flagsOf}
 use Rattle.state.specs.declared.State.{State}
 use Rattle.state.specs.declared.Mode.{Mode}
 use Rattle.state.specs.declared.Mode.the-variants.{Running, Waiting, PowerHalt, SwitchHalt, Locked}
-use Rattle.state.specs.State.{modeNumber, withReg, setReg, withFlags, withI2, withMode, cleared}
+use Rattle.state.specs.State.{modeNumber, withReg, withFlags, withI2, withMode, cleared}
+use Rattle.state.specs.Registers.{setReg}
 use Rattle.firmware.specs.Layout.{bytesOf, regsFrom, stateFrom, refusedState, indicators, modeOf}
 
 word-again : (v : ℕ) → v % 256 + v / 256 * 256 ≡ v

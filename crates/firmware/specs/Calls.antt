@@ -1,11 +1,10 @@
 -- What the exported calls leave: the number that they answer, and the bytes that they were lent to write. 0 is no refusal.
 use Prim.Native.Nat.{ℕ}
-use mathlib.Core.Bool.{Bool, true, false}
+use mathlib.Core.Bool.{Bool, true, false, cond}
 use mathlib.Core.List.{List, [], _∷_}
 use lib.ListN.{length}
 use lib.Dec.{eqb}
 use Rattle.state.specs.declared.State.{State}
-use Rattle.state.specs.State.{pick}
 use Rattle.step.specs.declared.Turn.{Turn}
 use Rattle.machine.specs.declared.Ran.{Ran}
 use Rattle.machine.specs.Entry.{Page, refused, answered, Left, powerUpPage, stepPage, runPage}
@@ -29,7 +28,7 @@ upFrom b (answered s) = up 0 (bytesOf s 0)
 upFrom b (refused why) = up why b
 
 unfoldable pub powerUpCall : List ℕ → List ℕ → List ℕ → Up
-powerUpCall b image map = pick (eqb (length b) 20) (upFrom b (powerUpPage image map)) (up badBuffer b)
+powerUpCall b image map = cond (eqb (length b) 20) (upFrom b (powerUpPage image map)) (up badBuffer b)
 
 -- ---- one step
 
@@ -48,7 +47,7 @@ wentFrom b (refused why) m = went why b m
 unfoldable pub stepCall : List ℕ → List ℕ → List ℕ → ℕ → Went
 stepCall b image map line =
     let l = stepPage image map line (stateFrom b) in
-    pick (refusedState b) (went badBuffer b image) (wentFrom b (l .page) (l .image))
+    cond (refusedState b) (went badBuffer b image) (wentFrom b (l .page) (l .image))
 
 -- ---- a run: the cause that it leaves is 0
 
@@ -68,4 +67,4 @@ endedFrom b t (refused why) m = ended why b t m
 unfoldable pub runCall : List ℕ → List ℕ → List ℕ → List ℕ → List ℕ → Ended
 runCall b t image map lines =
     let l = runPage image map lines (stateFrom b) in
-    pick (refusedState b) (ended badBuffer b t image) (pick (eqb (length t) 4) (endedFrom b t (l .page) (l .image)) (ended badBuffer b t image))
+    cond (refusedState b) (ended badBuffer b t image) (cond (eqb (length t) 4) (endedFrom b t (l .page) (l .image)) (ended badBuffer b t image))

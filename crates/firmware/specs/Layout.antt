@@ -1,6 +1,6 @@
 -- The lent bytes of a state and of a tally.
 use Prim.Native.Nat.{ℕ, _+_, _*_, _/_, _%_}
-use mathlib.Core.Bool.{Bool, true, false, _||_}
+use mathlib.Core.Bool.{Bool, true, false, _||_, cond}
 use mathlib.Core.List.{List, [], _∷_}
 use lib.ListN.{length, getD}
 use lib.Dec.{eqb, ltb}
@@ -10,7 +10,7 @@ use Rattle.word.specs.Status.{flagsOf}
 use Rattle.state.specs.declared.State.{State}
 use Rattle.state.specs.declared.Mode.{Mode}
 use Rattle.state.specs.declared.Mode.the-variants.{Running, Waiting, PowerHalt, SwitchHalt, Locked}
-use Rattle.state.specs.State.{modeNumber, pick, cleared, withReg, withFlags, withI2, withMode}
+use Rattle.state.specs.State.{modeNumber, cleared, withReg, withFlags, withI2, withMode}
 use Rattle.machine.specs.declared.Tally.{Tally}
 use Rattle.machine.specs.declared.First.{First}
 use Rattle.machine.specs.declared.First.the-variants.{At, Never}
@@ -75,7 +75,7 @@ abbrev pub over : List ℕ → Bool
 over b = ((ltb 15 (byteAt b 16) || ltb 1 (byteAt b 17)) || ltb 4 (byteAt b 18)) || ltb 8 (byteAt b 19)
 
 unfoldable pub refusedState : List ℕ → Bool
-refusedState b = pick (eqb (length b) 20) (over b) true
+refusedState b = cond (eqb (length b) 20) (over b) true
 
 -- ---- 4 bytes: the blanks, and the place of the first, FFFF where there is none
 

@@ -1,7 +1,7 @@
 -- Laws of the job's definitions, in the order in which the proofs use them.
 -- Assumes nothing.
 use Prim.Native.Nat.{ℕ, zero, suc, _+_, _-_, _*_, _<_, _≤_}
-use mathlib.Core.Bool.{Bool, true, false}
+use mathlib.Core.Bool.{Bool, true, false, cond}
 use mathlib.Core.List.{List, [], _∷_, _++_, append-nil}
 use mathlib.Core.Path.{_≡_, refl, sym, ap, _∙_}
 use lib.ListN.{length, getD, set, drop, replicate, List·getD-eq-default}
@@ -16,7 +16,7 @@ use borrow.Author.Tests.{le-leb, lt-leb, leb-true, eqb-true}
 use lib.Dec.{leb, eqb}
 use borrow.Author.Fill.{fill-more}
 use lib.Seq.{drop-cons, drop-length}
-use Rattle.job.specs.Job.{byteAt, wordAt, sections, sizeOf, mostOf, overOf, keyAt, note, pick, first, cut, whyKey, whyEntry, whyEntries, noted, whyCount, whyLeft, whySections, stored, listed, wordsAt, linesAt, imageOf, mapOf, linesOf, Filled, pageOf, After, after, unless, whyRead, jobOf}
+use Rattle.job.specs.Job.{byteAt, wordAt, sections, sizeOf, mostOf, overOf, keyAt, note, first, cut, whyKey, whyEntry, whyEntries, noted, whyCount, whyLeft, whySections, stored, listed, wordsAt, linesAt, imageOf, mapOf, linesOf, Filled, pageOf, After, after, unless, whyRead, jobOf}
 
 -- from the third on, a section is the line words
 pub nth-rest : (i : ℕ) → (i ≡ 0 → ⊥) → (i ≡ 1 → ⊥) → section.Lines ≡ getD sections i section.Lines
@@ -86,13 +86,13 @@ first-both : (a b : ℕ) → first a b ≡ 0 → (a ≡ 0) × (b ≡ 0)
 first-both zero b e = (refl, e)
 first-both (suc a) b e = absurd (omega (arith, e))
 
-pick-zero : (b : Bool) (k : ℕ) → (k ≡ 0 → ⊥) → pick b 0 k ≡ 0 → b ≡ true
-pick-zero true k n e = refl
-pick-zero false k n e = absurd (n e)
+cond-zero : (b : Bool) (k : ℕ) → (k ≡ 0 → ⊥) → cond b 0 k ≡ 0 → b ≡ true
+cond-zero true k n e = refl
+cond-zero false k n e = absurd (n e)
 
 cut-zero : (input : List ℕ) (at size : ℕ) → cut input at size ≡ 0 → at + size ≤ length input
 cut-zero input at size e =
-    leb-true (at + size) (length input) (pick-zero (leb (at + size) (length input)) 11 (λ h. omega arith) e)
+    leb-true (at + size) (length input) (cond-zero (leb (at + size) (length input)) 11 (λ h. omega arith) e)
 
 -- what is not cut short is there
 pub count-room : (s : Section) (input : List ℕ) (at : ℕ) → whyCount s input at ≡ 0 → at + 2 ≤ length input
@@ -259,13 +259,13 @@ pub read-lengths : (image map lines : ℕ) (input : List ℕ) → whyRead image 
     → (image ≡ 65536) × ((map ≡ 256) × (lines ≡ 4096))
 unfolding whyRead
 read-lengths image map lines input e =
-    let a = first-both (pick (eqb image 65536) 0 1) _ e in
-    let b = first-both (pick (eqb map 256) 0 2) _ (a .1) in
-    let c = first-both (pick (eqb lines 4096) 0 4) _ (b .1) in (
-      eqb-true _ _ (pick-zero (eqb image 65536) 1 (λ h. omega arith) (a .0)),
+    let a = first-both (cond (eqb image 65536) 0 1) _ e in
+    let b = first-both (cond (eqb map 256) 0 2) _ (a .1) in
+    let c = first-both (cond (eqb lines 4096) 0 4) _ (b .1) in (
+      eqb-true _ _ (cond-zero (eqb image 65536) 1 (λ h. omega arith) (a .0)),
       (
-        eqb-true _ _ (pick-zero (eqb map 256) 2 (λ h. omega arith) (b .0)),
-        eqb-true _ _ (pick-zero (eqb lines 4096) 4 (λ h. omega arith) (c .0)),
+        eqb-true _ _ (cond-zero (eqb map 256) 2 (λ h. omega arith) (b .0)),
+        eqb-true _ _ (cond-zero (eqb lines 4096) 4 (λ h. omega arith) (c .0)),
       ),
     )
 

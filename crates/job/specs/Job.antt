@@ -1,19 +1,16 @@
 -- A job: three sections, each after its count. What is refused, and what an accepted job leaves in the lent buffers.
 -- Assumes nothing.
 use Prim.Native.Nat.{ℕ, zero, suc, _+_, _*_, _/_, _%_}
-use mathlib.Core.Bool.{Bool, true, false}
+use mathlib.Core.Bool.{cond}
 use mathlib.Core.List.{List, [], _∷_}
 use mathlib.Core.Path.{_≡_}
 use lib.ListN.{length, getD, set, replicate}
 use lib.Dec.{eqb, leb}
+use Rattle.refusal.specs.Refusal.{plain}
 use Rattle.job.specs.declared.Answer.{Answer}
 use Rattle.job.specs.declared.Answer.the-variants.{Lines, Refused}
 use Rattle.job.specs.declared.Section.{Section}
 use Rattle.job.specs.declared.Section.the-variants as section
-
-abbrev pub pick : {A : Type 0} → Bool → A → A → A
-pick true a b = a
-pick false a b = b
 
 -- the first refusal met: 0 is none
 abbrev pub first : ℕ → ℕ → ℕ
@@ -60,26 +57,22 @@ note section.Pages page map = set map page 1
 note section.Words page map = map
 note section.Lines page map = map
 
--- bits 2, 4 to 6 and 12 to 15 of a line word are not used
-abbrev pub plain : ℕ → Bool
-plain x = eqb (x / 4 % 2 + x / 16 % 8 + x / 4096) 0
-
 -- 11: the job ends inside a count or entry of this size
 abbrev pub cut : List ℕ → ℕ → ℕ → ℕ
-cut input at size = pick (leb (at + size) (length input)) 0 11
+cut input at size = cond (leb (at + size) (length input)) 0 11
 
 -- an entry's own checks, by number. `low` is the least that rises above the entry before
 abbrev pub whyPage : ℕ → ℕ → ℕ
-whyPage low page = pick (leb low page) 0 13
+whyPage low page = cond (leb low page) 0 13
 
 unfoldable pub whyAddress : List ℕ → ℕ → ℕ → ℕ
 whyAddress map low address =
-    first (pick (eqb (address % 2) 0) 0 15)
-    (first (pick (leb low address) 0 16)
-    (pick (eqb (getD map (address / 256) 0) 1) 0 17))
+    first (cond (eqb (address % 2) 0) 0 15)
+    (first (cond (leb low address) 0 16)
+    (cond (eqb (getD map (address / 256) 0) 1) 0 17))
 
 abbrev pub whyLine : ℕ → ℕ
-whyLine line = pick (plain line) 0 19
+whyLine line = cond (plain line) 0 19
 
 abbrev pub whyKey : Section → List ℕ → ℕ → ℕ → ℕ
 whyKey section.Pages map low page = whyPage low page
@@ -103,7 +96,7 @@ noted s input (suc n) at map = noted s input n (at + sizeOf s) (note s (keyAt s 
 
 -- a count: two bytes; its own check as soon as it is read
 unfoldable pub whyCount : Section → List ℕ → ℕ → ℕ
-whyCount s input at = first (cut input at 2) (pick (leb (wordAt input at) (mostOf s)) 0 (overOf s))
+whyCount s input at = first (cut input at 2) (cond (leb (wordAt input at) (mostOf s)) 0 (overOf s))
 
 -- the place after a section that starts with its count
 abbrev pub next : Section → List ℕ → ℕ → ℕ
@@ -111,7 +104,7 @@ next s input at = at + 2 + wordAt input at * sizeOf s
 
 -- 20: bytes left over
 abbrev pub whyLeft : List ℕ → ℕ → ℕ
-whyLeft input at = pick (eqb at (length input)) 0 20
+whyLeft input at = cond (eqb at (length input)) 0 20
 
 -- each section after its count; then nothing is left over
 unfoldable pub whySections : List Section → List ℕ → ℕ → List ℕ → ℕ
@@ -180,9 +173,9 @@ after page image map lines = record { page = page; image = image; map = map; lin
 -- the first refusal that applies, or 0: the lent buffers' lengths, then the job in reading order
 unfoldable pub whyRead : ℕ → ℕ → ℕ → List ℕ → ℕ
 whyRead image map lines input =
-    first (pick (eqb image 65536) 0 1)
-    (first (pick (eqb map 256) 0 2)
-    (first (pick (eqb lines 4096) 0 4)
+    first (cond (eqb image 65536) 0 1)
+    (first (cond (eqb map 256) 0 2)
+    (first (cond (eqb lines 4096) 0 4)
     (whyJob input)))
 
 -- a refusal returns its number alone and changes no buffer

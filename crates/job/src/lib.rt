@@ -129,11 +129,7 @@ fn address_refusal(low: u32, address: u16, fitted: &[u8; 256]) -> u8
 fn line_refusal(line: u16) -> u8
     ensures { λ r. ⌜ r ≡ whyLine line ⌝ }
 {
-    if line / 4 % 2 + line / 16 % 8 + line / 4096 == 0 {
-        0
-    } else {
-        19
-    }
+    if refusal::plain(line) { 0 } else { 19 }
 }
 
 // The refusal that an entry's own checks give, or 0.

@@ -1,7 +1,7 @@
 -- Laws of the line's lengths, and of what fits in the buffer.
 -- Assumes nothing.
 use mathlib.Core.Path.{_≡_, refl, ap, _∙_}
-use mathlib.Core.Bool.{Bool, true, false}
+use mathlib.Core.Bool.{Bool, true, false, cond}
 use mathlib.Core.List.{List, [], _∷_, _++_}
 use Prim.Native.Nat.{ℕ, zero, suc, _+_, _*_, _/_, _%_, _≤_, _<_}
 use native.Mathlib.Omega.{arith}
@@ -13,7 +13,7 @@ use Rattle.letters.specs.Digits.{hex4}
 use Rattle.letters.specs.Over.{Wrote}
 use Rattle.line.specs.declared.Place.{Place}
 use Rattle.line.specs.declared.Place.the-variants.{At, Nowhere}
-use Rattle.line.specs.Line.{pick, field, fields, modeText, placeText, lineText, name, decimal, refusedText, left, written}
+use Rattle.line.specs.Line.{field, fields, modeText, placeText, lineText, name, decimal, refusedText, left, written}
 
 -- the lengths of the line's parts
 pub field-length : (x : ℕ) → length (field x) ≡ 5
@@ -80,7 +80,7 @@ pub digits-few : (n : ℕ) → length (decimal n) ≤ 3
 unfolding decimal
 digits-few n = few (ltb n 10) (ltb n 100)
   where
-    few : (a b : Bool) → length (pick a ((48 + n) ∷ []) (pick b ((48 + n / 10) ∷ (48 + n % 10) ∷ []) ((48 + n / 100) ∷ (48 + n / 10 % 10) ∷ (48 + n % 10) ∷ []))) ≤ 3
+    few : (a b : Bool) → length (cond a ((48 + n) ∷ []) (cond b ((48 + n / 10) ∷ (48 + n % 10) ∷ []) ((48 + n / 100) ∷ (48 + n / 10 % 10) ∷ (48 + n % 10) ∷ []))) ≤ 3
     few true b = omega arith
     few false true = omega arith
     few false false = omega arith

@@ -1,6 +1,6 @@
 -- The line that bench prints: R0-R5, SP, PC, PS, mode digit, blanks, first place or ----. Or REFUSED and a number in decimal.
 -- Assumes nothing.
-use mathlib.Core.Bool.{Bool, true, false}
+use mathlib.Core.Bool.{Bool, true, false, cond}
 use mathlib.Core.List.{List, [], _∷_, _++_}
 use Prim.Native.Nat.{ℕ, zero, suc, _+_, _/_, _%_}
 use lib.Dec.{leb, ltb}
@@ -9,10 +9,6 @@ use Rattle.letters.specs.Digits.{hexOf, hex4}
 use Rattle.letters.specs.Over.{over}
 use Rattle.line.specs.declared.Place.{Place}
 use Rattle.line.specs.declared.Place.the-variants.{At, Nowhere}
-
-abbrev pub pick : {A : Type 0} → Bool → A → A → A
-pick true a b = a
-pick false a b = b
 
 -- four letters
 abbrev pub four : ℕ → ℕ → ℕ → ℕ → List ℕ
@@ -48,8 +44,8 @@ name = 82 ∷ 69 ∷ 70 ∷ 85 ∷ 83 ∷ 69 ∷ 68 ∷ 32 ∷ []
 -- a number below 1000 in decimal
 unfoldable pub decimal : ℕ → List ℕ
 decimal n =
-    pick (ltb n 10) ((48 + n) ∷ [])
-    (pick (ltb n 100) ((48 + n / 10) ∷ (48 + n % 10) ∷ [])
+    cond (ltb n 10) ((48 + n) ∷ [])
+    (cond (ltb n 100) ((48 + n / 10) ∷ (48 + n % 10) ∷ [])
     ((48 + n / 100) ∷ (48 + n / 10 % 10) ∷ (48 + n % 10) ∷ []))
 
 unfoldable pub refusedText : ℕ → List ℕ
@@ -65,4 +61,4 @@ left n b = record { count = n; bytes = b }
 
 -- a text goes to the front of the buffer and the rest stays; where it does not fit, nothing is written
 unfoldable pub written : List ℕ → List ℕ → Left
-written text b = pick (leb (length text) (length b)) (left (length text) (over text b)) (left 0 b)
+written text b = cond (leb (length text) (length b)) (left (length text) (over text b)) (left 0 b)

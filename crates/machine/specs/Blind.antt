@@ -7,19 +7,19 @@ use Rattle.board.specs.Alike.{Agree}
 use Rattle.state.specs.declared.State.{State}
 use Rattle.state.specs.State.{heard}
 use Rattle.step.specs.declared.Turn.{Turn}
-use Rattle.step.specs.Step.{After, stepOf, powerUpOf}
+use Rattle.step.specs.Step.{After, stepOf}
 use Rattle.step.specs.Alike.{power-alike, Same, step-alike, Untouched, step-untouched}
 use Rattle.machine.specs.declared.Finished.{Finished}
 use Rattle.machine.specs.declared.Finished.the-variants as Finished
 use Rattle.machine.specs.declared.Stepped.{Stepped}
 use Rattle.machine.specs.declared.Stepped.the-variants as Stepped
 use Rattle.machine.specs.declared.Ran.{Ran}
-use Rattle.machine.specs.declared.Tally.{Tally}
 use Rattle.machine.specs.Run.{End, end, runOf, noBlanks}
 use Rattle.machine.specs.Alike.{Ends, ends, run-alike, imageOf, run-untouched}
 use Rattle.machine.specs.declared.Powered.{Powered}
 use Rattle.machine.specs.declared.Powered.the-variants as Powered
-use Rattle.machine.specs.Entry.{poweredPage, powerUpPage, boardRefusal, unless, Page, refused, answered, Left, left, ended, turned, stepRefusal, runRefusal, stepPage, runPage, steppedPage, finishedPage}
+use Rattle.refusal.specs.Refusal.{stepRefusal, runRefusal}
+use Rattle.machine.specs.Entry.{poweredPage, powerUpPage, unless, refused, Left, left, ended, turned, stepPage, runPage, steppedPage, finishedPage}
 
 -- the same answer, and images that agree on fitted bytes
 pub record SameLeft {A : Type 0} (map : List ℕ) (x y : Left A) : Type 0 where

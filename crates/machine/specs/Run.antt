@@ -1,13 +1,14 @@
 -- A run: one step for each line word.
-use Prim.Native.Nat.{ℕ, zero, suc, _+_, _<_}
+use Prim.Native.Nat.{ℕ, _+_, _<_}
 use mathlib.Core.List.{List, [], _∷_}
+use mathlib.Core.Bool.{cond}
 use mathlib.Core.Path.{_≡_, refl, ap}
 use native.Mathlib.Numerals.{add-one}
 use lib.ListN.{length, drop, getD}
 use lib.Seq.{drop-cons, drop-length}
 use Rattle.board.specs.Exec.{Lent}
 use Rattle.state.specs.declared.State.{State}
-use Rattle.state.specs.State.{heard, pick}
+use Rattle.state.specs.State.{heard}
 use Rattle.machine.specs.declared.Ran.{Ran}
 use Rattle.machine.specs.declared.Last.{Last}
 use Rattle.machine.specs.declared.Tally.{Tally}
@@ -22,7 +23,7 @@ firstOf Never place = At place
 
 -- the blanks counted, and the first place, after the step at this place
 unfoldable pub noted : Tally → ℕ → ℕ → Tally
-noted t place cause = pick (isBlank cause) (record { blanks = t .blanks + 1; first = firstOf (t .first) place }) t
+noted t place cause = cond (isBlank cause) (record { blanks = t .blanks + 1; first = firstOf (t .first) place }) t
 
 abbrev pub noBlanks : Tally
 noBlanks = record { blanks = 0; first = Never }

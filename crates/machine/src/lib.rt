@@ -6,7 +6,6 @@ ghost use Prim.Native.Nat.{_≤_};
 ghost use lib.ListN.{length};
 ghost use Rattle.machine.specs.Entry as Spec;
 
-mod refusals;
 mod runs;
 
 // The place of the first blank step of a run.
@@ -52,7 +51,7 @@ pub enum Finished {
 pub fn power_up(image: &[u8], map: &[u8]) -> Powered
     ensures { λ r. ⌜ Spec.poweredPage r ≡ Spec.powerUpPage (now (image .entry)) (now (map .entry)) ⌝ }
 {
-    let why = refusals::board_refusal(image.len(), map);
+    let why = refusal::board_refusal(image.len(), map);
     if why != 0 {
         return Powered::Refused(why);
     }
@@ -63,7 +62,7 @@ pub fn power_up(image: &[u8], map: &[u8]) -> Powered
 pub fn step(s: State, image: &mut [u8], map: &[u8], line: u16) -> Stepped
     ensures { λ r. ⌜ Spec.steppedPage r (now (image .exit)) ≡ Spec.stepPage (now (image .entry)) (now (map .entry)) line s ⌝ }
 {
-    let why = refusals::step_refusal(image.len(), map, line);
+    let why = refusal::step_refusal(image.len(), map, line);
     if why != 0 {
         return Stepped::Refused(why);
     }
@@ -81,7 +80,7 @@ pub fn step(s: State, image: &mut [u8], map: &[u8], line: u16) -> Stepped
 pub fn run(s: State, image: &mut [u8], map: &[u8], lines: &[u16]) -> Finished
     ensures { λ r. ⌜ Spec.finishedPage r (now (image .exit)) ≡ Spec.runPage (now (image .entry)) (now (map .entry)) (now (lines .entry)) s ⌝ }
 {
-    let why = refusals::run_refusal(image.len(), map, lines);
+    let why = refusal::run_refusal(image.len(), map, lines);
     if why != 0 {
         return Finished::Refused(why);
     }

@@ -1,13 +1,14 @@
 -- How often decoding, reading and writing an operand writes, at most.
 use Prim.Native.Nat.{ℕ}
 use native.Mathlib.Omega.{arith}
-use Rattle.board.specs.Work.{Work, give, load, Size, word, byte}
+use Rattle.board.specs.Work.{give, load, Size, word}
 use Rattle.board.specs.Bind.{_>>=_}
 use Rattle.board.specs.Bounded.{Bounded, gives, bounded-then, bounded-load, bounded-store, bounded-getD, none, also}
 use Rattle.state.specs.declared.State.{State}
 use Rattle.operand.specs.declared.Place.{Place}
 use Rattle.operand.specs.declared.Place.the-variants.{Reg, Mem}
-use Rattle.operand.specs.Operand.{locate, incrementDeferred, decrementDeferred, indexed, indexedDeferred, deferred, decode, moved, readOf, writeTo, incrementOf}
+use Rattle.operand.specs.Destination.{destination}
+use Rattle.operand.specs.Operand.{locate, incrementDeferred, decrementDeferred, indexed, indexedDeferred, deferred, decode, readOf, writeTo}
 
 -- a word read, and a place given
 one : (a : ℕ) (f : ℕ → Place) → Bounded 0 (load a >>= (λ v. give (f v)))
@@ -33,3 +34,10 @@ pub bounded-write : (z : Size) (s : State) (k : ℕ) (p : Place) (v : ℕ) → B
 unfolding writeTo
 bounded-write z s k Reg v = gives _
 bounded-write z s k (Mem a which w) v = bounded-then (omega arith) (bounded-store z a v) (λ _. gives {n = 0} _)
+
+pub bounded-destination : (z : Size) (s : State) (op : ℕ) → Bounded 0 (destination z s op)
+unfolding destination
+bounded-destination z s op =
+    bounded-then {k = 0} (omega arith) (bounded-decode z s _ _) λ to.
+    bounded-then {k = 0} (omega arith) (bounded-read z _ _) λ v.
+    gives _

@@ -1,3 +1,4 @@
 pub mod Operand
 pub mod Modes
+pub mod Destination
 pub mod Bounds

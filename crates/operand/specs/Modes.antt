@@ -2,7 +2,7 @@
 use Prim.Native.Nat.{ℕ, zero, suc, _/_, _%_, _≤_, _<_}
 use native.Mathlib.Nat.{le-of-suc-le-suc, not-suc-le-zero}
 use native.Mathlib.Omega.{arith}
-use mathlib.Core.Bool.{Bool, true, false, _&&_, not}
+use mathlib.Core.Bool.{Bool, true, false, _&&_, not, cond}
 use mathlib.Core.List.{[], _∷_}
 use mathlib.Core.Path.{_≡_, refl, ap}
 use borrow.Author.Tests.{lt-ltb}
@@ -10,7 +10,7 @@ use lib.Dec.{eqb, ltb}
 use lib.ListN.{List·getD-eq-default}
 use Rattle.board.specs.Work.{Work, give, load}
 use Rattle.board.specs.Bind.{_>>=_}
-use Rattle.state.specs.State.{plus, minus, pick}
+use Rattle.word.specs.Address.{plus, minus}
 use Rattle.operand.specs.declared.Place.{Place}
 use Rattle.operand.specs.declared.Place.the-variants.{Mem}
 use Rattle.operand.specs.Operand.{baseOf, direct, indirect, increment, incrementDeferred, decrement, decrementDeferred, indexed, indexedDeferred, deferred, locate}
@@ -20,13 +20,13 @@ abbrev pub defers : ℕ → Bool
 defers mode = eqb (mode % 2) 1 && not (eqb mode 1)
 
 abbrev pub stride : ℕ → ℕ → ℕ
-stride step mode = pick (eqb (mode % 2) 1) 2 step
+stride step mode = cond (eqb (mode % 2) 1) 2 step
 
 abbrev pub pointer : ℕ → ℕ → ℕ → ℕ
-pointer r by mode = pick (ltb 3 mode) (minus r by) r
+pointer r by mode = cond (ltb 3 mode) (minus r by) r
 
 abbrev pub beyond : ℕ → ℕ → ℕ → ℕ
-beyond at by mode = pick (eqb (mode / 2) 1) (plus at by) at
+beyond at by mode = cond (eqb (mode / 2) 1) (plus at by) at
 
 abbrev through : Bool → ℕ → ℕ → ℕ → Work Place
 through true at k next = deferred at k next

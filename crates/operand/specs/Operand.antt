@@ -1,11 +1,11 @@
 -- Operands: the eight addressing modes of the manual's chapter 2, and what is read from and written to a place.
-use Prim.Native.Nat.{ℕ, _+_, _*_, _/_, _%_}
-use mathlib.Core.Bool.{Bool, true, false}
+use Prim.Native.Nat.{ℕ, _%_}
 use mathlib.Core.List.{List, [], _∷_}
+use mathlib.Core.Bool.{cond}
 use mathlib.Core.Path.{_≡_, refl, ap, _∙_}
 use lib.Dec.{eqb, ltb}
 use lib.ListN.{getD}
-use Rattle.word.specs.Ops.{withLow}
+use Rattle.arith.specs.Ops.{withLow}
 use Rattle.board.specs.Work.{Work, give, readAt, load, Size, word, byte}
 use Rattle.board.specs.Work as Work
 use Rattle.board.specs.Bind.{_>>=_, _>>_}
@@ -16,7 +16,8 @@ use Rattle.board.specs.declared.Word.the-variants as Word
 use Rattle.state.specs.declared.State.{State}
 use Rattle.state.specs.declared.Went.{Went}
 use Rattle.state.specs.declared.Went.the-variants as Went
-use Rattle.state.specs.State.{reg, withReg, plus, minus, pick}
+use Rattle.state.specs.State.{reg, withReg}
+use Rattle.word.specs.Address.{plus, minus}
 use Rattle.state.specs.Answer.{wentAs, went-none}
 use Rattle.operand.specs.declared.Place.{Place}
 use Rattle.operand.specs.declared.Place.the-variants.{Reg, Mem}
@@ -26,11 +27,11 @@ use Rattle.operand.specs.declared.Found.the-variants as Found
 -- An increment or decrement is 2, but 1 for a byte unless the register is SP or PC.
 abbrev pub incrementOf : Size → ℕ → ℕ
 incrementOf word k = 2
-incrementOf byte k = pick (ltb k 6) 1 2
+incrementOf byte k = cond (ltb k 6) 1 2
 
 -- With PC, modes 6 and 7 add the PC that stands after their offset.
 abbrev pub baseOf : ℕ → ℕ → ℕ → ℕ
-baseOf k r pc = pick (eqb k 7) (plus pc 2) r
+baseOf k r pc = cond (eqb k 7) (plus pc 2) r
 
 -- at an address stands the operand's; the register `which` moves to v
 unfoldable pub deferred : ℕ → ℕ → ℕ → Work Place

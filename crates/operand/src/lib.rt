@@ -4,9 +4,9 @@ use board::Kept;
 use board::Word;
 use state::State;
 use state::Went;
-use state::minus;
-use state::plus;
 use state::unwritten;
+use word::address::minus;
+use word::address::plus;
 ghost use mathlib.Core.Path.{_≡_};
 ghost use Prim.Native.Nat.{_%_, _<_};
 ghost use Rattle.board.specs.Work.{word, byte};
@@ -22,8 +22,16 @@ pub enum Place {
     Mem(u16, u16, u16),
 }
 
+pub mod destination;
+
 pub enum Found {
     At(Place),
+    Blank(u16),
+}
+
+// The state after decoding, the place of the operand, its value; or the address where nothing is fitted.
+pub enum Held {
+    At(State, Place, u16),
     Blank(u16),
 }
 
@@ -211,7 +219,7 @@ pub fn write_byte(
     ensures { λ r. ⌜ Works (now (map .entry)) (Spec.writeTo byte s k place v) (now (image .entry)) (now (log .entry)) r (now (image .exit)) (now (log .exit)) ⌝ }
 {
     match place {
-        Place::Reg => Went::Done(s.with_reg(k, word::byte::with_low(s.reg(k), low(v)))),
+        Place::Reg => Went::Done(s.with_reg(k, arith::on_bytes::with_low(s.reg(k), low(v)))),
         Place::Mem(a, _, _) => {
             let kept = board::store_byte(image, map, log, a, v);
             let Kept::Done = kept else {

@@ -1,7 +1,7 @@
 -- Reading back what was written: each piece of the guess undoes its piece of the line, whatever follows it.
 -- Assumes nothing.
 use mathlib.Core.Path.{_≡_, refl, ap, sym, _∙_, subst}
-use mathlib.Core.Bool.{Bool, true, false}
+use mathlib.Core.Bool.{Bool, true, false, cond}
 use mathlib.Core.Logic.{⊎-elim}
 use mathlib.Core.List.{List, _∷_, _++_}
 use Prim.Native.Nat.{ℕ, zero, suc, _+_, _*_, _/_, _%_, _≤_, _<_}
@@ -13,7 +13,6 @@ use borrow.Author.Tests.{eq-eqb, ne-eqb, lt-ltb, le-ltb}
 use lib.ListN.{length, getD}
 use Rattle.optext.specs.declared.rows.Kind.{Kind}
 use Rattle.optext.specs.declared.rows.Kind.the-variants.{None, Mask, Disp, Reg, Arg4, Arg6, Count, High, Dst, Addr, Src, Word}
-use Rattle.optext.specs.Pick.{pick}
 use Rattle.letters.specs.Digits.{digits, hexOf, hex4, hex2}
 use Rattle.optext.specs.Digits.{unHex, unHex4, unHex2}
 use Rattle.optext.specs.Line.{reservedFrom, registers, regA, regB, regText, upText, literalText, downText, offsetText, plainText, modeText, modeTakes, operandText, takes, fieldOf}
@@ -35,7 +34,7 @@ unfolding hexOf digits
 digit-high d h = ltb→lt (hexOf d) 71 (at (λ d. ltb (hexOf d) 71) 16 tt d h)
 
 noSign : ℕ → Bool
-noSign d = pick (eqb (hexOf d) 64) false true
+noSign d = cond (eqb (hexOf d) 64) false true
 
 pub digit-sign : (d : ℕ) → d < 16 → hexOf d ≡ 64 → ⊥
 unfolding noSign hexOf digits
@@ -66,7 +65,7 @@ reg-high r h = leb→le 71 (regA r) (at (λ r. leb 71 (regA r)) 8 tt r h)
 
 -- the four forms, and the operand's own word: x where the form shows it
 unfoldable pub plainWord : ℕ → ℕ → ℕ → ℕ
-plainWord p r x = pick (eqb p 3) x (pick (eqb p 1) (pick (eqb r 7) x 0) 0)
+plainWord p r x = cond (eqb p 3) x (cond (eqb p 1) (cond (eqb r 7) x 0) 0)
 
 pc-back : (x : ℕ) (t : List ℕ) → x < 65536 → unPlain (plainText 1 7 x ++ t) ≡ op 23 (plainWord 1 7 x) (length (plainText 1 7 x))
 unfolding plainText literalText unPlain plainWord hex4
@@ -188,13 +187,13 @@ op-same Src w x = mode-same (w / 64 % 64) x (omega arith)
 op-same Word w x = refl
 
 -- it is shown if and only if the operand takes it
-bits-taken : (a b c : Bool) (x : ℕ) → _≡_ {A = ℕ} (pick a 1 (pick b (pick c 1 0) 0)) 1 → pick a x (pick b (pick c x 0) 0) ≡ x
+bits-taken : (a b c : Bool) (x : ℕ) → _≡_ {A = ℕ} (cond a 1 (cond b (cond c 1 0) 0)) 1 → cond a x (cond b (cond c x 0) 0) ≡ x
 bits-taken true b c x e = refl
 bits-taken false true true x e = refl
 bits-taken false true false x e = absurd (omega arith)
 bits-taken false false c x e = absurd (omega arith)
 
-bits-none : (a b c : Bool) (x : ℕ) → _≡_ {A = ℕ} (pick a 1 (pick b (pick c 1 0) 0)) 0 → _≡_ {A = ℕ} (pick a x (pick b (pick c x 0) 0)) 0
+bits-none : (a b c : Bool) (x : ℕ) → _≡_ {A = ℕ} (cond a 1 (cond b (cond c 1 0) 0)) 0 → _≡_ {A = ℕ} (cond a x (cond b (cond c x 0) 0)) 0
 bits-none true b c x e = absurd (omega arith)
 bits-none false true true x e = absurd (omega arith)
 bits-none false true false x e = refl

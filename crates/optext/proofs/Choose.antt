@@ -1,14 +1,14 @@
 -- Laws of choices: two numbers compared, a test over all numbers below one, and the first place that passes a test.
 -- Assumes nothing.
 use mathlib.Core.Path.{_≡_, refl, ap, sym, _∙_, subst}
-use mathlib.Core.Bool.{Bool, true, false}
+use mathlib.Core.Bool.{Bool, true, false, cond}
 use mathlib.Core.Logic.{_⊎_, inl, inr, ⊎-elim}
 use Prim.Native.Nat.{ℕ, zero, suc, _+_, _-_, _≤_, _<_}
 use native.Mathlib.Numerals.{add-one}
 use native.Mathlib.Omega.{arith}
 use lib.Dec.{T, ltb, eqb}
 use borrow.Author.Tests.{eqb-true, eqb-false, ltb-true, ltb-false}
-use Rattle.optext.specs.Pick.{pick, firstFrom}
+use Rattle.optext.specs.First.{firstFrom}
 
 pub eq-cases : (a b : ℕ) → (a ≡ b) ⊎ (a ≡ b → ⊥)
 eq-cases a b = go (eqb a b) refl
@@ -26,7 +26,7 @@ lt-cases a b = go (ltb a b) refl
 
 pub no : true ≡ false → ⊥
 no e =
-    let z : _≡_ {A = ℕ} 0 1 = ap (λ (b : Bool). pick b 0 1) e in
+    let z : _≡_ {A = ℕ} 0 1 = ap (λ (b : Bool). cond b 0 1) e in
     omega arith
 
 pub bool-cases : (b : Bool) → (b ≡ false) ⊎ (b ≡ true)
@@ -67,7 +67,7 @@ pub first-le : (f : ℕ → Bool) (n i : ℕ) → firstFrom f n i ≤ i + n
 first-le f zero i = omega arith
 first-le f (suc n) i = go (f i) (first-le f n (suc i))
   where
-    go : (b : Bool) → firstFrom f n (suc i) ≤ suc i + n → pick b i (firstFrom f n (suc i)) ≤ i + suc n
+    go : (b : Bool) → firstFrom f n (suc i) ≤ suc i + n → cond b i (firstFrom f n (suc i)) ≤ i + suc n
     go true h = omega arith
     go false h = omega arith
 
@@ -75,8 +75,8 @@ pub first-hit : (f : ℕ → Bool) (n i : ℕ) → firstFrom f n i < i + n → f
 first-hit f zero i h = absurd (omega arith)
 first-hit f (suc n) i h = go (f i) refl (λ k. first-hit f n (suc i) k) h
   where
-    go : (b : Bool) → f i ≡ b → (firstFrom f n (suc i) < suc i + n → f (firstFrom f n (suc i)) ≡ true) → pick b i (firstFrom f n (suc i)) < i + suc n
-        → f (pick b i (firstFrom f n (suc i))) ≡ true
+    go : (b : Bool) → f i ≡ b → (firstFrom f n (suc i) < suc i + n → f (firstFrom f n (suc i)) ≡ true) → cond b i (firstFrom f n (suc i)) < i + suc n
+        → f (cond b i (firstFrom f n (suc i))) ≡ true
     go true e r h = e
     go false e r h = r (omega arith)
 
@@ -86,10 +86,10 @@ first-at f zero i k l h e = absurd (omega arith)
 first-at f (suc n) i k l h e =
     ⊎-elim (λ q. here (subst (λ (j : ℕ). f j ≡ true) (sym q) e)) (λ q. go (f i) (first-at f n (suc i) k (omega arith) (omega arith) e)) (eq-cases i k)
   where
-    here : f i ≡ true → pick (f i) i (firstFrom f n (suc i)) ≤ k
+    here : f i ≡ true → cond (f i) i (firstFrom f n (suc i)) ≤ k
     here p = rw p l
 
-    go : (b : Bool) → firstFrom f n (suc i) ≤ k → pick b i (firstFrom f n (suc i)) ≤ k
+    go : (b : Bool) → firstFrom f n (suc i) ≤ k → cond b i (firstFrom f n (suc i)) ≤ k
     go true r = l
     go false r = r
 

@@ -1,7 +1,7 @@
 -- Laws of the forms of operands: which form each is, and how long.
 -- Assumes nothing.
 use mathlib.Core.Path.{_≡_, refl}
-use mathlib.Core.Bool.{Bool, true, false}
+use mathlib.Core.Bool.{Bool, true, false, cond}
 use mathlib.Core.List.{List, [], _∷_}
 use Prim.Native.Nat.{ℕ, _/_, _%_, _≤_}
 use Prim.Native.Char.{code}
@@ -11,7 +11,6 @@ use borrow.Author.Tests.{ne-eqb}
 use lib.ListN.{length}
 use Rattle.optext.specs.declared.rows.Kind.{Kind}
 use Rattle.optext.specs.declared.rows.Kind.the-variants.{None, Mask, Disp, Reg, Arg4, Arg6, Count, High, Dst, Addr, Src, Word}
-use Rattle.optext.specs.Pick.{pick}
 use Rattle.letters.specs.Digits.{hex4, hex2}
 use Rattle.optext.specs.Line.{regText, upText, literalText, downText, offsetText, plainText, modeText, modeTakes, operandText, takes, isShown, sepText}
 
@@ -52,21 +51,21 @@ unfolding sepText
 sep-some s k w x h = rw h refl
 
 -- lengths
-pick-le : (b : Bool) (s t : List ℕ) (n : ℕ) → length s ≤ n → length t ≤ n → length (pick b s t) ≤ n
-pick-le true s t n h g = h
-pick-le false s t n h g = g
+cond-le : (b : Bool) (s t : List ℕ) (n : ℕ) → length s ≤ n → length t ≤ n → length (cond b s t) ≤ n
+cond-le true s t n h g = h
+cond-le false s t n h g = g
 
 pub plain-le : (p r x : ℕ) → length (plainText p r x) ≤ 8
 unfolding plainText regText upText literalText downText offsetText hex4
 plain-le p r x =
-    pick-le (eqb p 0) _ _ 8 (omega arith) (pick-le (eqb p 1) _ _ 8 (pick-le (eqb r 7) _ _ 8 (omega arith) (omega arith))
-    (pick-le (eqb p 2) _ _ 8 (omega arith) (omega arith)))
+    cond-le (eqb p 0) _ _ 8 (omega arith) (cond-le (eqb p 1) _ _ 8 (cond-le (eqb r 7) _ _ 8 (omega arith) (omega arith))
+    (cond-le (eqb p 2) _ _ 8 (omega arith) (omega arith)))
 
 pub mode-le : (f x : ℕ) → length (modeText f x) ≤ 9
 unfolding modeText
 mode-le f x =
     let h = plain-le (f / 16) (f % 8) x in
-    pick-le (eqb (f / 8 % 2) 0) _ _ 9 (omega arith) (omega arith)
+    cond-le (eqb (f / 8 % 2) 0) _ _ 9 (omega arith) (omega arith)
 
 pub operand-le : (k : Kind) (w x : ℕ) → length (operandText k w x) ≤ 9
 unfolding hex4 hex2 regText
@@ -87,16 +86,16 @@ pub sep-le : (s : ℕ) (k : Kind) (w x : ℕ) → length (sepText s k w x) ≤ 1
 unfolding sepText
 sep-le s k w x =
     let h = operand-le k w x in
-    pick-le (isShown k) _ _ 10 (omega arith) (omega arith)
+    cond-le (isShown k) _ _ 10 (omega arith) (omega arith)
 
 -- an operand takes at most one word
-pick-one : (b : Bool) (m n : ℕ) → m ≤ 1 → n ≤ 1 → pick b m n ≤ 1
-pick-one true m n h g = h
-pick-one false m n h g = g
+cond-one : (b : Bool) (m n : ℕ) → m ≤ 1 → n ≤ 1 → cond b m n ≤ 1
+cond-one true m n h g = h
+cond-one false m n h g = g
 
 pub mode-takes-le : (f : ℕ) → modeTakes f ≤ 1
 unfolding modeTakes
-mode-takes-le f = pick-one (eqb (f / 16) 3) _ _ (omega arith) (pick-one (eqb (f / 16) 1) _ _ (pick-one (eqb (f % 8) 7) _ _ (omega arith) (omega arith)) (omega arith))
+mode-takes-le f = cond-one (eqb (f / 16) 3) _ _ (omega arith) (cond-one (eqb (f / 16) 1) _ _ (cond-one (eqb (f % 8) 7) _ _ (omega arith) (omega arith)) (omega arith))
 
 pub takes-le : (k : Kind) (w : ℕ) → takes k w ≤ 1
 takes-le None w = omega arith

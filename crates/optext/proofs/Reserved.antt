@@ -1,7 +1,7 @@
 -- Which first words have no row of their own: the reserved op codes, and JSR and LEA with mode 0.
 -- Assumes nothing.
 use mathlib.Core.Path.{_≡_, refl, ap, sym, _∙_}
-use mathlib.Core.Bool.{Bool, true, false}
+use mathlib.Core.Bool.{Bool, true, false, cond}
 use mathlib.Core.Logic.{⊎-elim}
 use Prim.Native.Nat.{ℕ, _+_, _-_, _*_, _/_, _%_, _≤_, _<_}
 use native.Mathlib.Omega.{arith}
@@ -9,7 +9,6 @@ use lib.Dec.{T, ltb, leb, eqb, eqb→eq}
 use borrow.Author.Tests.{eq-eqb, ne-eqb, lt-ltb, le-ltb, le-leb, lt-leb}
 use Rattle.optext.specs.declared.rows.Kind.{Kind}
 use Rattle.optext.specs.declared.rows.Kind.the-variants.{None, Mask, Disp, Reg, Arg4, Arg6, Count, High, Dst, Addr, Src}
-use Rattle.optext.specs.Pick.{pick}
 use Rattle.optext.specs.Rows.{rows, theRow, baseOf, firstOf, secondOf, letterOf, kindAs}
 use Rattle.optext.specs.Line.{addressed, fieldOf, fitsRow, rowOf, isReserved, reservedFrom}
 use Rattle.optext.proofs.Choose.{no, bool-cases, lt-cases, at, allBelow, both, both-left, both-right, first-at}
@@ -21,7 +20,7 @@ rowIs k n a b = both (eqb (baseOf k) n) (both (eqb (letterOf (firstOf k)) (lette
 
 -- the rows from lo to hi
 abbrev family : ℕ → ℕ → (ℕ → ℕ) → Kind → Kind → ℕ → Bool
-family lo hi f a b k = pick (leb lo k) (pick (ltb k hi) (rowIs k (f k) a b) true) true
+family lo hi f a b k = cond (leb lo k) (cond (ltb k hi) (rowIs k (f k) a b) true) true
 
 same-kind : (a b : Kind) → letterOf a ≡ letterOf b → a ≡ b
 same-kind a b e = sym (kind-back a) ∙ ap kindAs e ∙ kind-back b

@@ -1,7 +1,7 @@
 -- Laws of the table of op codes: each is one test over its rows.
 -- Assumes nothing.
 use mathlib.Core.Path.{_≡_, refl, ap, sym, _∙_}
-use mathlib.Core.Bool.{Bool, true, false}
+use mathlib.Core.Bool.{Bool, true, false, cond}
 use mathlib.Core.Logic.{⊎-elim}
 use mathlib.Core.List.{List, [], _∷_, _++_}
 use Prim.Native.Nat.{ℕ, zero, suc, _+_, _*_, _≤_, _<_}
@@ -12,7 +12,6 @@ use lib.ListN.{length, getD, drop, List·getD-append, List·getD-eq-default}
 use lib.Seq.{getD-drop, drop-append-add}
 use Rattle.optext.specs.declared.rows.Kind.{Kind}
 use Rattle.optext.specs.declared.rows.Kind.the-variants.{None, Mask, Disp, Reg, Arg4, Arg6, Count, High, Dst, Addr, Src, Word}
-use Rattle.optext.specs.Pick.{pick}
 use Rattle.letters.specs.Digits.{hex4}
 use Rattle.optext.specs.Rows.{Row, rows, theRow, noRow, nameOf, baseOf, firstOf, secondOf, lineOf, flat, letterOf, kindAs}
 use Rattle.optext.specs.Line.{isShown}
@@ -88,7 +87,7 @@ name-le k h = leb→le (length (nameOf k)) 5 (at short 104 tt k h)
 
 noSpace : List ℕ → Bool
 noSpace [] = true
-noSpace (x ∷ l) = pick (eqb x 32) false (noSpace l)
+noSpace (x ∷ l) = cond (eqb x 32) false (noSpace l)
 
 no-space : (l : List ℕ) (i : ℕ) → T (noSpace l) → i < length l → getD l i 32 ≡ 32 → ⊥
 unfolding noSpace
@@ -96,7 +95,7 @@ no-space [] i t h e = omega arith
 no-space (x ∷ l) zero t h e = rw (eq-eqb x 32 e) at t
 no-space (x ∷ l) (suc i) t h e = go (eqb x 32) t (λ u. no-space l i u (omega arith) e)
   where
-    go : (b : Bool) → T (pick b false (noSpace l)) → (T (noSpace l) → ⊥) → ⊥
+    go : (b : Bool) → T (cond b false (noSpace l)) → (T (noSpace l) → ⊥) → ⊥
     go true t f = t
     go false t f = f t
 
@@ -123,18 +122,18 @@ base-lt k h = ltb→lt (baseOf k) 65536 (at (λ k. ltb (baseOf k) 65536) 104 tt 
 
 -- a row without a first operand has no second, and with a second the mnemonic has at most four letters
 noSecond : ℕ → Bool
-noSecond k = pick (isShown (firstOf k)) true (pick (isShown (secondOf k)) false true)
+noSecond k = cond (isShown (firstOf k)) true (cond (isShown (secondOf k)) false true)
 
 pub none-both : (k : ℕ) → k < 104 → isShown (firstOf k) ≡ false → isShown (secondOf k) ≡ false
 unfolding noSecond theRow rows
 none-both k h e = go (isShown (secondOf k)) (rw e at (at noSecond 104 tt k h))
   where
-    go : (b : Bool) → T (pick b false true) → b ≡ false
+    go : (b : Bool) → T (cond b false true) → b ≡ false
     go true t = absurd t
     go false t = refl
 
 shorter : ℕ → Bool
-shorter k = pick (isShown (secondOf k)) (leb (length (nameOf k)) 4) true
+shorter k = cond (isShown (secondOf k)) (leb (length (nameOf k)) 4) true
 
 pub two-le : (k : ℕ) → k < 104 → isShown (secondOf k) ≡ true → length (nameOf k) ≤ 4
 unfolding shorter theRow rows

@@ -1,5 +1,6 @@
 -- Theorems of the two public contracts: the round trip, no text of two op codes, and one answer only.
 -- Assumes nothing.
+use mathlib.Core.Bool.{cond}
 use mathlib.Core.Path.{_≡_, refl, ap, sym, _∙_, subst}
 use mathlib.Core.Logic.{inl, inr, ⊎-elim}
 use mathlib.Core.List.{List, [], _∷_, _++_}
@@ -13,7 +14,6 @@ use Rattle.optext.specs.declared.Written.the-variants.{Line, TextShort, 
 use Rattle.optext.specs.declared.ReadBack.{ReadBack}
 use Rattle.optext.specs.declared.ReadBack.the-variants.{Words, WordsShort, NotText}
 use lib.Seq.{take-append-seam}
-use Rattle.optext.specs.Pick.{pick}
 use Rattle.letters.specs.Over.{over}
 use Rattle.optext.specs.Rows.{firstOf, secondOf}
 use Rattle.optext.specs.Line.{rowOf, takes, lineText, taken, textOf}
@@ -86,7 +86,7 @@ abbrev writtenOf : Answer → Written
 writtenOf (found []) = NoWords
 writtenOf (found (n ∷ [])) = NoWords
 writtenOf (found (n ∷ m ∷ l)) = Line n m
-writtenOf (refusal r) = pick (eqb r 8) TextShort (pick (eqb r 7) WordMissing NoWords)
+writtenOf (refusal r) = cond (eqb r 8) TextShort (cond (eqb r 7) WordMissing NoWords)
 
 written-back : (r : Written) → writtenOf (writtenAs r) ≡ r
 written-back (Line n m) = refl
@@ -97,7 +97,7 @@ written-back WordMissing = refl
 abbrev readOf : Answer → ReadBack
 readOf (found []) = NotText
 readOf (found (n ∷ l)) = Words n
-readOf (refusal r) = pick (eqb r 10) WordsShort NotText
+readOf (refusal r) = cond (eqb r 10) WordsShort NotText
 
 read-back : (r : ReadBack) → readOf (readAs r) ≡ r
 read-back (Words n) = refl

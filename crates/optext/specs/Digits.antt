@@ -1,14 +1,14 @@
 -- Digits read back.
 -- Assumes nothing.
+use mathlib.Core.Bool.{cond}
 use mathlib.Core.List.{List}
 use Prim.Native.Nat.{ℕ, _+_, _-_, _*_}
 use lib.Dec.{ltb}
 use lib.ListN.{getD}
-use Rattle.optext.specs.Pick.{pick}
 
 -- the number of a digit, or 0
 unfoldable pub unHex : ℕ → ℕ
-unHex c = pick (ltb c 48) 0 (pick (ltb c 58) (c - 48) (pick (ltb c 65) 0 (pick (ltb c 71) (c - 55) 0)))
+unHex c = cond (ltb c 48) 0 (cond (ltb c 58) (c - 48) (cond (ltb c 65) 0 (cond (ltb c 71) (c - 55) 0)))
 
 unfoldable pub unHex4 : List ℕ → ℕ
 unHex4 t = unHex (getD t 0 0) * 4096 + unHex (getD t 1 0) * 256 + unHex (getD t 2 0) * 16 + unHex (getD t 3 0)

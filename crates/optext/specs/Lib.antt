@@ -1,4 +1,4 @@
-pub mod Pick
+pub mod First
 pub mod Digits
 pub mod Rows
 pub mod Line

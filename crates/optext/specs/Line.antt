@@ -1,6 +1,6 @@
 -- The writer's meaning: the line of an op code, and the words that it takes.
 -- Assumes nothing.
-use mathlib.Core.Bool.{Bool, true, false}
+use mathlib.Core.Bool.{Bool, true, false, cond}
 use mathlib.Core.List.{List, [], _∷_, _++_}
 use Prim.Native.Nat.{ℕ, _+_, _*_, _/_, _%_}
 use Prim.Native.Char.{code}
@@ -8,7 +8,7 @@ use lib.Dec.{ltb, leb, eqb}
 use lib.ListN.{getD}
 use Rattle.optext.specs.declared.rows.Kind.{Kind}
 use Rattle.optext.specs.declared.rows.Kind.the-variants.{None, Mask, Disp, Reg, Arg4, Arg6, Count, High, Dst, Addr, Src, Word}
-use Rattle.optext.specs.Pick.{pick, firstFrom}
+use Rattle.optext.specs.First.{firstFrom}
 use Rattle.letters.specs.Digits.{letters, hexOf, hex4, hex2}
 use Rattle.optext.specs.Rows.{wordRow, baseOf, firstOf, secondOf, nameOf}
 
@@ -41,17 +41,17 @@ offsetText r x = hex4 x ++ (code "(" ∷ regA r ∷ regB r ∷ code ")" ∷ [])
 -- the four forms without @, p = 0 to 3
 unfoldable pub plainText : ℕ → ℕ → ℕ → List ℕ
 plainText p r x =
-    pick (eqb p 0) (regText r)
-    (pick (eqb p 1) (pick (eqb r 7) (literalText x) (upText r))
-    (pick (eqb p 2) (downText r) (offsetText r x)))
+    cond (eqb p 0) (regText r)
+    (cond (eqb p 1) (cond (eqb r 7) (literalText x) (upText r))
+    (cond (eqb p 2) (downText r) (offsetText r x)))
 
 -- the operand of a mode and a register, f = 8 * mode + register, with its next word x: an odd mode is the one before it with @ in front
 unfoldable pub modeText : ℕ → ℕ → List ℕ
-modeText f x = pick (eqb (f / 8 % 2) 0) (plainText (f / 16) (f % 8) x) (code "@" ∷ plainText (f / 16) (f % 8) x)
+modeText f x = cond (eqb (f / 8 % 2) 0) (plainText (f / 16) (f % 8) x) (code "@" ∷ plainText (f / 16) (f % 8) x)
 
 -- the words that it takes beside the first
 unfoldable pub modeTakes : ℕ → ℕ
-modeTakes f = pick (eqb (f / 16) 3) 1 (pick (eqb (f / 16) 1) (pick (eqb (f % 8) 7) 1 0) 0)
+modeTakes f = cond (eqb (f / 16) 3) 1 (cond (eqb (f / 16) 1) (cond (eqb (f % 8) 7) 1 0) 0)
 
 -- the operand of a kind in the first word w, where x is the operand's own word
 abbrev pub operandText : Kind → ℕ → ℕ → List ℕ
@@ -84,19 +84,19 @@ takes Word w = 0
 
 -- a mode and register that JSR and LEA may have: f, or @R0 where the mode of f is 0
 unfoldable pub addressed : ℕ → ℕ
-addressed f = pick (ltb f 8) 8 f
+addressed f = cond (ltb f 8) 8 f
 
 -- reserved and illegal first words: formats 8 (0E, 0F) and 11 (F0 to FF), and JSR and LEA (70 to 73) with mode 0
 unfoldable pub isReserved : ℕ → Bool
-isReserved w = pick (eqb (w / 512) 7) true (pick (leb 240 (w / 256)) true (pick (eqb (w / 1024) 28) (eqb (w / 8 % 8) 0) false))
+isReserved w = cond (eqb (w / 512) 7) true (cond (leb 240 (w / 256)) true (cond (eqb (w / 1024) 28) (eqb (w / 8 % 8) 0) false))
 
 -- a word that .WORD may hold: x, or one that begins with as many of its digits as any does
 unfoldable pub reservedFrom : ℕ → ℕ
 reservedFrom x =
-    pick (isReserved x) x
-    (pick (eqb (x / 4096) 0) 0x0E00
-    (pick (eqb (x / 1024) 28) (pick (eqb (x / 16 % 4) 0) (x / 16 * 16) (x / 256 * 256))
-    (pick (eqb (x / 4096) 7) 0x7000 0xF000)))
+    cond (isReserved x) x
+    (cond (eqb (x / 4096) 0) 0x0E00
+    (cond (eqb (x / 1024) 28) (cond (eqb (x / 16 % 4) 0) (x / 16 * 16) (x / 256 * 256))
+    (cond (eqb (x / 4096) 7) 0x7000 0xF000)))
 
 -- the bits of the first word that the operand stands for; of JSR and LEA with mode 0 they are not what the word has
 abbrev pub fieldOf : Kind → ℕ → ℕ
@@ -136,7 +136,7 @@ isShown Src = true
 isShown Word = true
 
 unfoldable pub sepText : ℕ → Kind → ℕ → ℕ → List ℕ
-sepText s k w x = pick (isShown k) (s ∷ operandText k w x) []
+sepText s k w x = cond (isShown k) (s ∷ operandText k w x) []
 
 -- the line of the words w, x and y, where x and y are the first and the second operand's own words
 unfoldable pub lineText : ℕ → ℕ → ℕ → List ℕ

@@ -1,5 +1,6 @@
 -- The table of op codes: a row for each, with its mnemonic, its base op code and its operands, in the order of the manual's chapter 3.
 -- Assumes nothing.
+use mathlib.Core.Bool.{cond}
 use mathlib.Core.List.{List, [], _∷_, _++_}
 use Prim.Native.Nat.{ℕ}
 use Prim.Native.Char.{code}
@@ -8,7 +9,6 @@ use lib.Dec.{eqb}
 use lib.ListN.{getD}
 use Rattle.optext.specs.declared.rows.Kind.{Kind}
 use Rattle.optext.specs.declared.rows.Kind.the-variants.{None, Mask, Disp, Reg, Arg4, Arg6, Count, High, Dst, Addr, Src, Word}
-use Rattle.optext.specs.Pick.{pick}
 use Rattle.letters.specs.Digits.{letters, hex4}
 
 -- the operands are in the order of the manual's FORMAT
@@ -184,17 +184,17 @@ letterOf Word = code "W"
 
 unfoldable pub kindAs : ℕ → Kind
 kindAs c =
-    pick (eqb c (code "M")) Mask
-    (pick (eqb c (code "8")) Disp
-    (pick (eqb c (code "R")) Reg
-    (pick (eqb c (code "4")) Arg4
-    (pick (eqb c (code "6")) Arg6
-    (pick (eqb c (code "N")) Count
-    (pick (eqb c (code "H")) High
-    (pick (eqb c (code "D")) Dst
-    (pick (eqb c (code "J")) Addr
-    (pick (eqb c (code "S")) Src
-    (pick (eqb c (code "W")) Word
+    cond (eqb c (code "M")) Mask
+    (cond (eqb c (code "8")) Disp
+    (cond (eqb c (code "R")) Reg
+    (cond (eqb c (code "4")) Arg4
+    (cond (eqb c (code "6")) Arg6
+    (cond (eqb c (code "N")) Count
+    (cond (eqb c (code "H")) High
+    (cond (eqb c (code "D")) Dst
+    (cond (eqb c (code "J")) Addr
+    (cond (eqb c (code "S")) Src
+    (cond (eqb c (code "W")) Word
     None))))))))))
 
 abbrev pub lineOf : Row → List ℕ

@@ -1,12 +1,12 @@
 -- The words of one op code, and what the reader must answer to a text and leave in the words lent.
 -- Assumes nothing.
+use mathlib.Core.Bool.{cond}
 use mathlib.Core.Path.{_≡_}
 use mathlib.Core.Logic.{_⊎_}
 use mathlib.Core.List.{List, [], _∷_, _++_}
 use Prim.Native.Nat.{ℕ, _≤_, _<_}
 use lib.Dec.{eqb}
 use lib.ListN.{length, take, getD}
-use Rattle.optext.specs.Pick.{pick}
 use Rattle.optext.specs.Rows.{firstOf, secondOf}
 use Rattle.letters.specs.Over.{over}
 use Rattle.optext.specs.Line.{rowOf, takes, taken, textOf}
@@ -44,7 +44,7 @@ Reads (refusal r) t ws e = ((r ≡ 9) × RefusedText t ws e) ⊎ ((r ≡ 10) × 
 
 -- the words of the first word w and the operands' own words x and y
 unfoldable pub own : ℕ → ℕ → List ℕ
-own n x = pick (eqb n 1) (x ∷ []) []
+own n x = cond (eqb n 1) (x ∷ []) []
 
 unfoldable pub wordsOf : ℕ → ℕ → ℕ → List ℕ
 wordsOf w x y = w ∷ (own (takes (firstOf (rowOf w)) w) x ++ own (takes (secondOf (rowOf w)) w) y)

@@ -1,13 +1,11 @@
 // Runs the five programs of compare/programs.txt, and prints where each ends. Standard input has the runs of each, a line each.
 use libc::STDIN_FILENO;
 use libc::STDOUT_FILENO;
-use line::Place;
 use machine::Finished;
 use machine::First;
 use machine::Powered;
 use machine::Ran;
 use machine::Tally;
-use state::Mode;
 use state::State;
 ghost use Prim.Native.Nat.{_<_};
 
@@ -67,42 +65,10 @@ fn sum(image: &[u8]) -> u32 {
     total
 }
 
-// The page's digit of a mode.
-fn digit(mode: Mode) -> u8 {
-    match mode {
-        Mode::Running => 0,
-        Mode::Waiting => 1,
-        Mode::PowerHalt => 2,
-        Mode::SwitchHalt => 3,
-        Mode::Locked => 4,
-    }
-}
-
-fn place_of(first: First) -> Place {
-    match first {
-        First::At(place) => Place::At(place),
-        First::Never => Place::Nowhere,
-    }
-}
-
 // Bench's line of a run.
 fn print_line(ran: Ran) {
-    let s = ran.state;
-    let r = s.regs;
-    let mode = s.mode;
-    let tally = ran.tally;
-    let first = tally.first;
-    let regs = [r.r0, r.r1, r.r2, r.r3, r.r4, r.r5, r.sp, r.pc];
-    let ps = s.ps(state::hear(0), false);
     let mut text = [0u8; 56];
-    line::write_line(
-        &mut text,
-        regs,
-        ps,
-        digit(mode),
-        tally.blanks,
-        place_of(first),
-    );
+    report::write_end(&mut text, ran);
     io::write_all(STDOUT_FILENO, &text);
 }
 

@@ -1,16 +1,15 @@
 -- How often each of the moves writes, at most.
 use Prim.Native.Nat.{ℕ}
 use native.Mathlib.Omega.{arith}
-use mathlib.Core.Bool.{Bool, true, false}
+use mathlib.Core.Bool.{Bool, true, false, cond}
 use Rattle.board.specs.Work.{Work, word}
 use Rattle.board.specs.Bounded.{Bounded, gives, bounded-then, bounded-load, bounded-store}
 use Rattle.state.specs.declared.State.{State}
-use Rattle.state.specs.State.{pick}
-use Rattle.state.specs.Stack.{push, pushReg, pop, popReg, popStatus, fetch, fromLoc, pushBoth, trap}
+use Rattle.state.specs.Stack.{push, pushReg, pop, popReg, popStatus, fetch, fromLoc, pushBoth, trap, tabled}
 
-pub bounded-pick : {A : Type 0} {n : ℕ} (b : Bool) {x y : Work A} → Bounded n x → Bounded n y → Bounded n (pick b x y)
-bounded-pick true h k = h
-bounded-pick false h k = k
+pub bounded-cond : {A : Type 0} {n : ℕ} (b : Bool) {x y : Work A} → Bounded n x → Bounded n y → Bounded n (cond b x y)
+bounded-cond true h k = h
+bounded-cond false h k = k
 
 pub bounded-push : (s : State) (v : ℕ) → Bounded 1 (push s v)
 unfolding push
@@ -47,3 +46,7 @@ bounded-pushBoth s ps = bounded-then {k = 1} (omega arith) (bounded-push s ps) (
 pub bounded-trap : (s : State) (ps at : ℕ) → Bounded 2 (trap s ps at)
 unfolding trap
 bounded-trap s ps at = bounded-then {k = 0} (omega arith) (bounded-pushBoth s ps) (λ t. bounded-fromLoc _ at)
+
+pub bounded-tabled : (s : State) (at : ℕ) → Bounded 0 (tabled s at)
+unfolding tabled
+bounded-tabled s at = bounded-then {k = 0} (omega arith) (bounded-load {n = 0} word _) (λ offset. gives _)

@@ -1,3 +1,4 @@
+pub mod Registers
 pub mod State
 pub mod Answer
 pub mod Stack

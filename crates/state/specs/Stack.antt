@@ -5,8 +5,10 @@ use Rattle.board.specs.Work.{Work, give, load}
 use Rattle.board.specs.Work as Work
 use Rattle.board.specs.Bind.{_>>=_, _>>_}
 use Rattle.state.specs.declared.State.{State}
+use Rattle.state.specs.declared.Outside.{Outside}
 use Rattle.state.specs.declared.Mode.the-variants.{Running}
-use Rattle.state.specs.State.{reg, withReg, withSp, withPc, withI2, withMode, withStatus, plus, minus}
+use Rattle.state.specs.State.{reg, withReg, withSp, withPc, withI2, withMode, withStatus, psOf}
+use Rattle.word.specs.Address.{plus, minus}
 use Rattle.state.specs.Answer.{Taken, taken}
 
 -- ↓ SP, @SP ← v
@@ -62,3 +64,13 @@ unfoldable pub trap : State → ℕ → ℕ → Work State
 trap s ps at = do
   s ← pushBoth s ps
   fromLoc (withMode (withI2 s false) Running) at
+
+-- PC ← at; PC ← PC + @PC
+unfoldable pub tabled : State → ℕ → Work State
+tabled s at = do
+  offset ← load at
+  give (withPc s (plus at offset))
+
+-- the trap with the PS formed now
+abbrev pub trapNow : Outside → State → ℕ → Work State
+trapNow out s at = trap s (psOf out false s) at

@@ -2,11 +2,15 @@
 use board::Byte;
 use board::Kept;
 use board::Word;
+use word::Done;
 use word::Flags;
+use word::Pair;
+use word::address::minus;
+use word::address::plus;
 ghost use mathlib.Core.Path.{_≡_};
 ghost use Rattle.board.specs.Exec.{beside, Lent, Board, Saw};
 ghost use Rattle.state.specs.State as Spec;
-ghost use Rattle.state.specs.State.{modeNumber, withReg, withSp, withPc, withI2, withMode, withFlags, withStatus, psOf};
+ghost use Rattle.state.specs.State.{modeNumber, withReg, withSp, withPc, withI2, withMode, withFlags, withStatus, withDone, withPair, psOf};
 ghost use Rattle.state.specs.Stack as Stack;
 ghost use Rattle.state.specs.Answer as Answer;
 ghost use Rattle.state.specs.Answer.{Works, wentAs, tookAs};
@@ -57,19 +61,6 @@ pub enum Went {
 pub enum Took {
     Word(State, u16),
     Blank(u16),
-}
-
-// Sums and differences of addresses are taken modulo 65,536.
-pub fn plus(a: u16, b: u16) -> u16
-    ensures { λ r. ⌜ r ≡ Spec.plus a b ⌝ }
-{
-    std::num::wrapping_add_u16(a, b)
-}
-
-pub fn minus(a: u16, b: u16) -> u16
-    ensures { λ r. ⌜ r ≡ Spec.minus a b ⌝ }
-{
-    std::num::wrapping_sub_u16(a, b)
 }
 
 // The register after PC is R0.
@@ -171,17 +162,17 @@ impl State {
         }
     }
 
-    pub fn with_sp(mut self, v: u16) -> State
-        ensures { λ r. ⌜ r ≡ withSp self v ⌝ }
+    pub fn with_sp(mut self, sp: u16) -> State
+        ensures { λ r. ⌜ r ≡ withSp self sp ⌝ }
     {
-        self.regs.sp = v;
+        self.regs.sp = sp;
         self
     }
 
-    pub fn with_pc(mut self, v: u16) -> State
-        ensures { λ r. ⌜ r ≡ withPc self v ⌝ }
+    pub fn with_pc(mut self, pc: u16) -> State
+        ensures { λ r. ⌜ r ≡ withPc self pc ⌝ }
     {
-        self.regs.pc = v;
+        self.regs.pc = pc;
         self
     }
 
@@ -219,6 +210,22 @@ impl State {
         self.flags = word::status::flags_of(ps);
         self.i2 = word::status::enable_of(ps);
         self
+    }
+
+    // The register and the indicators, as an op code leaves them.
+    pub fn with_done(self, k: u16, d: Done) -> State
+        ensures { λ r. ⌜ r ≡ withDone self k d ⌝ }
+    {
+        self.with_reg(k, d.value).with_flags(d.flags)
+    }
+
+    // REG, REG+1 and the indicators; the register after PC is R0.
+    pub fn with_pair(self, k: u16, p: Pair) -> State
+        ensures { λ r. ⌜ r ≡ withPair self k p ⌝ }
+    {
+        self.with_reg(k, p.low)
+            .with_reg(next(k), p.high)
+            .with_flags(p.flags)
     }
 
     // The PS formed now; `bus` where a bus error pushes it.
@@ -316,6 +323,18 @@ impl State {
         Went::Done(self.with_pc(v))
     }
 
+    // PC ← at; PC ← PC + @PC
+    pub fn tabled(self, image: &[u8], map: &[u8], at: u16) -> Went
+        requires { ⌜ Lent (now map) (now image) ⌝ }
+        ensures { λ r. ⌜ Saw (now (map .entry)) (Stack.tabled self at) (now (image .entry)) (wentAs r) ⌝ }
+    {
+        let word = board::load(image, map, at);
+        let Word::Value(offset) = word else {
+            return unread(word);
+        };
+        Went::Done(self.with_pc(plus(at, offset)))
+    }
+
     // ↓ PS, ↓ PC
     pub fn push_both(self, image: &mut [u8], map: &[u8], log: &mut [u16; 32], ps: u16) -> Went
         requires { ⌜ Board (now map) (beside (now image) (now log)) ⌝ }
@@ -341,6 +360,21 @@ impl State {
         s.with_i2(false)
             .with_mode(Mode::Running)
             .from_loc(image, map, at)
+    }
+
+    // The trap with the PS formed now.
+    pub fn trap_now(
+        self,
+        image: &mut [u8],
+        map: &[u8],
+        log: &mut [u16; 32],
+        out: Outside,
+        at: u16,
+    ) -> Went
+        requires { ⌜ Board (now map) (beside (now image) (now log)) ⌝ }
+        ensures { λ r. ⌜ Works (now (map .entry)) (Stack.trapNow out self at) (now (image .entry)) (now (log .entry)) r (now (image .exit)) (now (log .exit)) ⌝ }
+    {
+        self.trap(image, map, log, self.ps(out, false), at)
     }
 }
 

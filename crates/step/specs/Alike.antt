@@ -10,7 +10,7 @@ use Rattle.state.specs.declared.State.{State}
 use Rattle.state.specs.declared.Outside.{Outside}
 use Rattle.state.specs.State.{cleared}
 use Rattle.state.specs.Stack.{fromLoc}
-use Rattle.step.specs.Step.{After, after, stepOf, errorOf, orElse, orLocked, powerUpOf, kindOf, workOf, busError, causeOf, errorCauseOf}
+use Rattle.step.specs.Step.{After, stepOf, errorOf, orElse, orLocked, powerUpOf, kindOf, workOf, busError, causeOf, errorCauseOf}
 
 -- ---- two images that agree on fitted bytes
 

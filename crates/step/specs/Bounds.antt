@@ -7,27 +7,30 @@ use Rattle.plate.specs.Plate.{formatOf}
 use Rattle.board.specs.Bounded.{Bounded, gives, bounded-then, bounded-more}
 use Rattle.state.specs.declared.State.{State}
 use Rattle.state.specs.declared.Outside.{Outside}
-use Rattle.state.specs.Bounds.{bounded-pick, bounded-popReg, bounded-pop, bounded-fetch, bounded-fromLoc, bounded-pushBoth, bounded-trap}
-use Rattle.control.specs.Bounds.{bounded-lowCodes, bounded-tabled}
-use Rattle.operate.specs.Bounds.{bounded-format7, bounded-format9, bounded-format10}
+use Rattle.state.specs.Bounds.{bounded-cond, bounded-popReg, bounded-pop, bounded-fetch, bounded-fromLoc, bounded-pushBoth, bounded-trap}
+use Rattle.control.specs.Bounds.{bounded-lowCodes}
+use Rattle.state.specs.Bounds.{bounded-tabled}
+use Rattle.format7.specs.Bounds.{bounded-format7}
+use Rattle.format9.specs.Bounds.{bounded-format9}
+use Rattle.format10.specs.Bounds.{bounded-format10}
 use Rattle.step.specs.declared.Kind.{Kind}
 use Rattle.step.specs.declared.Kind.the-variants.{OpCode, Restart, NonVectored, Vectored, Idle}
-use Rattle.step.specs.Execute.{further, byFormat, execute}
+use Rattle.step.specs.Execute.{further, byFormat}
 use Rattle.step.specs.Xct.{Begin, code, abort, beginXct, begun, trace, traced, carry, opWork}
 use Rattle.step.specs.Step.{vectored, workOf, busError}
 
 bounded-further : (out : Outside) (f : ℕ) (s : State) (op : ℕ) → Bounded 9 (further out f s op)
 unfolding further
 bounded-further out f s op =
-    bounded-pick (eqb f 9) (bounded-more (omega arith) (bounded-format9 out s op))
-    (bounded-pick (eqb f 1) (bounded-lowCodes out s op) (bounded-more (omega arith) (bounded-trap s _ _)))
+    bounded-cond (eqb f 9) (bounded-more (omega arith) (bounded-format9 out s op))
+    (bounded-cond (eqb f 1) (bounded-lowCodes out s op) (bounded-more (omega arith) (bounded-trap s _ _)))
 
 bounded-byFormat : (out : Outside) (f : ℕ) (s : State) (op : ℕ) → Bounded 9 (byFormat out f s op)
 unfolding byFormat
 bounded-byFormat out f s op =
-    bounded-pick (eqb f 10) (bounded-more (omega arith) (bounded-format10 s op))
-    (bounded-pick (eqb f 7) (bounded-more (omega arith) (bounded-format7 out s op))
-    (bounded-pick (eqb f 5) (gives _) (bounded-pick (eqb f 6) (gives _) (bounded-further out f s op))))
+    bounded-cond (eqb f 10) (bounded-more (omega arith) (bounded-format10 s op))
+    (bounded-cond (eqb f 7) (bounded-more (omega arith) (bounded-format7 out s op))
+    (bounded-cond (eqb f 5) (gives _) (bounded-cond (eqb f 6) (gives _) (bounded-further out f s op))))
 
 bounded-beginXct : (s : State) → Bounded 0 (beginXct s)
 unfolding beginXct
@@ -39,7 +42,7 @@ bounded-beginXct s =
 
 bounded-begun : (s : State) (op : ℕ) → Bounded 0 (begun s op)
 unfolding begun
-bounded-begun s op = bounded-pick (eqb op 5) (bounded-beginXct s) (gives _)
+bounded-begun s op = bounded-cond (eqb op 5) (bounded-beginXct s) (gives _)
 
 bounded-trace : (out : Outside) (s : State) → Bounded 2 (trace out s)
 unfolding trace
@@ -47,7 +50,7 @@ bounded-trace out s = bounded-then {k = 0} (omega arith) (bounded-pushBoth s _) 
 
 bounded-traced : (out : Outside) (b : Bool) (s : State) → Bounded 2 (traced out b s)
 unfolding traced
-bounded-traced out b s = bounded-pick b (bounded-trace out s) (gives s)
+bounded-traced out b s = bounded-cond b (bounded-trace out s) (gives s)
 
 bounded-carry : (out : Outside) (b : Begin) → Bounded 11 (carry out b)
 unfolding carry

@@ -1,21 +1,23 @@
 -- What the definitions of a step rule out.
 use Prim.Native.Nat.{ℕ, _≤_}
 use native.Mathlib.Omega.{arith}
-use mathlib.Core.Bool.{Bool, true, false}
+use mathlib.Core.Bool.{Bool, true, false, cond}
 use mathlib.Core.List.{List}
 use mathlib.Core.Path.{_≡_, refl, sym, ap, _∙_}
-use Rattle.board.specs.Work.{Came, value, blank, run, found, fitted, writable, withWord, word}
+use Rattle.board.specs.Work.{Came, value, blank, run, fitted, writable, withWord}
 use Rattle.board.specs.Bind.{_>>=_}
 use Rattle.board.specs.Alike.{found-value}
 use Rattle.state.specs.declared.State.{State}
 use Rattle.state.specs.declared.Outside.{Outside}
 use Rattle.state.specs.declared.Mode.{Mode}
 use Rattle.state.specs.declared.Mode.the-variants.{Running, Waiting, PowerHalt, SwitchHalt, Locked}
-use Rattle.state.specs.State.{withReg, setReg, withMode, withI2, minus, pick, psOf}
+use Rattle.state.specs.State.{withReg, withMode, withI2, psOf}
+use Rattle.state.specs.Registers.{setReg}
+use Rattle.word.specs.Address.{minus}
 use Rattle.state.specs.Stack.{push, pushBoth, fromLoc, trap}
 use Rattle.step.specs.declared.Kind.{Kind}
 use Rattle.step.specs.declared.Kind.the-variants.{OpCode, Restart, NonVectored, Vectored, Idle}
-use Rattle.step.specs.Step.{After, after, isBlank, asked, raised, kindOf, workOf, busError, causeOf, errorCauseOf, errorOf, stepOf, orElse, past}
+use Rattle.step.specs.Step.{After, after, isBlank, asked, kindOf, workOf, busError, causeOf, errorCauseOf, errorOf, stepOf, orElse, past}
 use Rattle.step.specs.Ends.{step-well, step-ill}
 
 -- A step from locked changes nothing.
@@ -27,21 +29,21 @@ locked-still map out s m e = sym (step-well map out s m {k = Idle 8} (sym (ap (�
 
 -- what holds of the causes 0 to 4 and 8 holds of the cause of every kind of step
 module _ (P : ℕ → Type 0) where
-  pick-cause : (b : Bool) (x y : Kind) → P (causeOf x) → P (causeOf y) → P (causeOf (pick b x y))
-  pick-cause true x y p q = p
-  pick-cause false x y p q = q
+  cond-cause : (b : Bool) (x y : Kind) → P (causeOf x) → P (causeOf y) → P (causeOf (cond b x y))
+  cond-cause true x y p q = p
+  cond-cause false x y p q = q
 
   asked-cause : (i2 : Bool) (out : Outside) (k : Kind) → P 1 → P 2 → P 3 → P (causeOf k) → P (causeOf (asked i2 out k))
   asked-cause i2 out k one two three h =
-      pick-cause (out .i3) (Restart 1) _ one
-      (pick-cause i2 _ k (pick-cause (out .i1) NonVectored _ two (pick-cause (out .i0) Vectored k three h)) h)
+      cond-cause (out .i3) (Restart 1) _ one
+      (cond-cause i2 _ k (cond-cause (out .i1) NonVectored _ two (cond-cause (out .i0) Vectored k three h)) h)
 
   kind-cause : P 0 → P 1 → P 2 → P 3 → P 4 → P 8 → (mode : Mode) (i2 : Bool) (out : Outside) → P (causeOf (kindOf mode i2 out))
   unfolding kindOf
   kind-cause zero one two three four eight Running i2 out = asked-cause i2 out OpCode one two three zero
   kind-cause zero one two three four eight Waiting i2 out = asked-cause i2 out (Idle 4) one two three four
-  kind-cause zero one two three four eight PowerHalt i2 out = pick-cause (out .fail) (Idle 4) (Restart 0) four zero
-  kind-cause zero one two three four eight SwitchHalt i2 out = pick-cause (out .i3) (Restart 1) (Idle 4) one four
+  kind-cause zero one two three four eight PowerHalt i2 out = cond-cause (out .fail) (Idle 4) (Restart 0) four zero
+  kind-cause zero one two three four eight SwitchHalt i2 out = cond-cause (out .i3) (Restart 1) (Idle 4) one four
   kind-cause zero one two three four eight Locked i2 out = eight
 
 module _ (map : List ℕ) (out : Outside) (s : State) (m : List ℕ) where

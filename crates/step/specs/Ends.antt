@@ -4,8 +4,8 @@ use mathlib.Core.List.{List}
 use mathlib.Core.Path.{_≡_, refl, sym, ap, _∙_}
 use native.Mathlib.Omega.{arith}
 use lib.ListN.{set, replicate}
-use Rattle.board.specs.Work.{Came, value, blank, run}
-use Rattle.board.specs.Exec.{Store, beside, Lent, Board, Saw}
+use Rattle.board.specs.Work.{value, blank, run}
+use Rattle.board.specs.Exec.{beside, Lent, Board, Saw}
 use Rattle.board.specs.Bounded.{Bounded, bounded-more}
 use Rattle.board.specs.Ended.{Fresh, ended-well, ended-blank}
 use Rattle.board.specs.Undo.{none-left, board-fresh, board-back, undone}

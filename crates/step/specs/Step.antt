@@ -1,19 +1,19 @@
 -- One step.
 use Prim.Native.Nat.{ℕ}
-use mathlib.Core.Bool.{Bool, true, false, _&&_}
+use mathlib.Core.Bool.{Bool, true, _&&_, cond}
 use lib.Dec.{leb}
 use mathlib.Core.List.{List}
 use mathlib.Core.Path.{_≡_}
-use Rattle.board.specs.Work.{Work, give, load, Came, value, blank, run}
+use Rattle.board.specs.Work.{Work, give, Came, value, blank, run}
 use Rattle.board.specs.Bind.{_>>=_, _>>_}
-use Rattle.board.specs.Exec.{Store, Lent, Board}
+use Rattle.board.specs.Exec.{Store, Board}
 use Rattle.state.specs.declared.State.{State}
 use Rattle.state.specs.declared.Outside.{Outside}
 use Rattle.state.specs.declared.Mode.{Mode}
 use Rattle.state.specs.declared.Mode.the-variants.{Running, Waiting, PowerHalt, SwitchHalt, Locked}
-use Rattle.state.specs.State.{withPc, withMode, psOf, plus, twice, pick, cleared}
-use Rattle.state.specs.Stack.{fromLoc, trap}
-use Rattle.control.specs.Format4.{tabled}
+use Rattle.state.specs.State.{withPc, withMode, psOf, cleared}
+use Rattle.word.specs.Address.{plus, twice}
+use Rattle.state.specs.Stack.{fromLoc, tabled, trap, trapNow}
 use Rattle.step.specs.Xct.{opWork}
 use Rattle.step.specs.declared.Turn.{Turn}
 use Rattle.step.specs.declared.Kind.{Kind}
@@ -23,30 +23,30 @@ use Rattle.step.specs.declared.Kind.the-variants.{OpCode, Restart, NonVe
 
 -- 2. I1 and I2. 3. I0 and I2. 4. what a waiting or a running processor does
 abbrev pub raised : Outside → Kind → Kind
-raised out other = pick (out .i1) NonVectored (pick (out .i0) Vectored other)
+raised out other = cond (out .i1) NonVectored (cond (out .i0) Vectored other)
 
 -- 1. I3
 abbrev pub asked : Bool → Outside → Kind → Kind
-asked i2 out other = pick (out .i3) (Restart 1) (pick i2 (raised out other) other)
+asked i2 out other = cond (out .i3) (Restart 1) (cond i2 (raised out other) other)
 
 -- Halted on power fail ends where power fail is clear, halted for the switch where I3 is set. Locked: nothing changes.
 unfoldable pub kindOf : Mode → Bool → Outside → Kind
 kindOf Running i2 out = asked i2 out OpCode
 kindOf Waiting i2 out = asked i2 out (Idle 4)
-kindOf PowerHalt i2 out = pick (out .fail) (Idle 4) (Restart 0)
-kindOf SwitchHalt i2 out = pick (out .i3) (Restart 1) (Idle 4)
+kindOf PowerHalt i2 out = cond (out .fail) (Idle 4) (Restart 0)
+kindOf SwitchHalt i2 out = cond (out .i3) (Restart 1) (Idle 4)
 kindOf Locked i2 out = Idle 8
 
 -- ---- the work of each kind
 
 -- I1: ↓ PS, ↓ PC, I2 reset, running, PC from 14 if power fail is set, else from 2A
 abbrev pub nonVectored : Outside → State → Work State
-nonVectored out s = trap s (psOf out false s) (pick (out .fail) 0x14 0x2a)
+nonVectored out s = trapNow out s (cond (out .fail) 0x14 0x2a)
 
 -- I0: ↓ PS, ↓ PC, I2 reset, running; T = word at 28 plus twice the device code; PC = T + word at T
 unfoldable pub vectored : Outside → State → Work State
 vectored out s = do
-  s ← trap s (psOf out false s) 0x28
+  s ← trapNow out s 0x28
   tabled s (plus (s .regs .pc) (twice (out .device)))
 
 -- I3 and the end of a halt: PC from 16, running

@@ -1,6 +1,6 @@
 -- An op code fetched and executed; XCT is one step.
 use Prim.Native.Nat.{ℕ, _/_, _%_}
-use mathlib.Core.Bool.{Bool, true, false, not}
+use mathlib.Core.Bool.{Bool, true, false, not, cond}
 use mathlib.Core.List.{List}
 use mathlib.Core.Path.{_≡_, refl, ap, _∙_}
 use lib.Dec.{eqb}
@@ -15,9 +15,9 @@ use Rattle.state.specs.declared.Took.{Took}
 use Rattle.state.specs.declared.Took.the-variants as Took
 use Rattle.state.specs.declared.Went.{Went}
 use Rattle.state.specs.declared.Went.the-variants as Went
-use Rattle.state.specs.State.{withFlags, psOf, pick}
+use Rattle.state.specs.State.{withFlags, psOf}
 use Rattle.state.specs.Stack.{popReg, pop, fetch, fromLoc, pushBoth}
-use Rattle.control.specs.Format1.{xctError}
+use Rattle.format1.specs.Format1.{xctError}
 use Rattle.step.specs.Execute.{execute}
 use Rattle.step.specs.declared.Begun.{Begun}
 use Rattle.step.specs.declared.Begun.the-variants as Begun
@@ -33,10 +33,10 @@ forbidden op = eqb (op / 4) 1
 
 -- Reserved: formats 8 and 11. Illegal: JSR and LEA, 7000 to 73FF, with mode 0. Their own trap ends an XCT.
 unfoldable pub trapsAlone : ℕ → ℕ → Bool
-trapsAlone f op = pick (eqb f 8) true (pick (eqb f 11) true (pick (eqb (op / 1024) 28) (eqb (op / 8 % 8) 0) false))
+trapsAlone f op = cond (eqb f 8) true (cond (eqb f 11) true (cond (eqb (op / 1024) 28) (eqb (op / 8 % 8) 0) false))
 
 abbrev pub chosen : State → ℕ → Begin
-chosen s op = pick (forbidden op) (abort s) (code s op (not (trapsAlone (formatOf (op / 256)) op)))
+chosen s op = cond (forbidden op) (abort s) (code s op (not (trapsAlone (formatOf (op / 256)) op)))
 
 -- XCT: PC ← @SP, SP ↑; PS ← @SP, SP ↑, but I2 is not altered; the op code is fetched
 unfoldable pub beginXct : State → Work Begin
@@ -48,7 +48,7 @@ beginXct s = do
 
 -- an op code is fetched; XCT is 0005
 unfoldable pub begun : State → ℕ → Work Begin
-begun s op = pick (eqb op 5) (beginXct s) (give (code s op false))
+begun s op = cond (eqb op 5) (beginXct s) (give (code s op false))
 
 -- ↓ PS, ↓ PC, PC ← (loc 20)
 unfoldable pub trace : Outside → State → Work State
@@ -57,7 +57,7 @@ trace out s = do
   fromLoc s 0x20
 
 unfoldable pub traced : Outside → Bool → State → Work State
-traced out b s = pick b (trace out s) (give s)
+traced out b s = cond b (trace out s) (give s)
 
 unfoldable pub carry : Outside → Begin → Work State
 carry out (code s op b) = do
@@ -76,7 +76,7 @@ opWork out s = do
 
 -- as the code has it
 abbrev pub chosenCode : State → ℕ → Begun
-chosenCode s op = pick (forbidden op) (Begun.Abort s) (Begun.Code s op (not (trapsAlone (formatOf (op / 256)) op)))
+chosenCode s op = cond (forbidden op) (Begun.Abort s) (Begun.Code s op (not (trapsAlone (formatOf (op / 256)) op)))
 
 abbrev pub begunAs : Begun → Store → Now Begin
 begunAs (Begun.Code s op b) st = good (code s op b) st
@@ -105,7 +105,7 @@ pub gives-chosen : {map : List ℕ} {st : Store} {r : Begun} (s : State) (op : �
 unfolding exec
 gives-chosen {st = st} s op e = record { came = ap (λ z. begunAs z st) e ∙ either (forbidden op) }
   where
-    either : (b : Bool) → begunAs (pick b (Begun.Abort s) (Begun.Code s op (not (trapsAlone (formatOf (op / 256)) op)))) st ≡ good (pick b (abort s) (code s op (not (trapsAlone (formatOf (op / 256)) op)))) st
+    either : (b : Bool) → begunAs (cond b (Begun.Abort s) (Begun.Code s op (not (trapsAlone (formatOf (op / 256)) op)))) st ≡ good (cond b (abort s) (code s op (not (trapsAlone (formatOf (op / 256)) op)))) st
     either true = refl
     either false = refl
 

@@ -8,14 +8,6 @@ ghost use Rattle.state.specs.Answer.{Works, wentAs};
 ghost use Rattle.plate.specs.Plate.{table};
 ghost use Rattle.step.specs.Execute as Spec;
 
-// Formats 8 and 11: their microms aren't fitted.
-fn reserved(s: State, image: &mut [u8], map: &[u8], log: &mut [u16; 32], out: Outside) -> Went
-    requires { ⌜ Board (now map) (beside (now image) (now log)) ⌝ }
-    ensures { λ r. ⌜ Works (now (map .entry)) (Spec.reserved out s) (now (image .entry)) (now (log .entry)) r (now (image .exit)) (now (log .exit)) ⌝ }
-{
-    s.trap(image, map, log, s.ps(out, false), 0x1a)
-}
-
 // Formats 9, 1 to 4, 8 and 11.
 fn further(
     s: State,
@@ -30,12 +22,16 @@ fn further(
     ensures { λ r. ⌜ Works (now (map .entry)) (Spec.further out f s op) (now (image .entry)) (now (log .entry)) r (now (image .exit)) (now (log .exit)) ⌝ }
 {
     if f == 9 {
-        return operate::format9::format9(s, image, map, log, out, op);
+        return format9::format9(s, image, map, log, out, op);
     }
     if f == 1 {
         return control::low_codes(s, image, map, log, out, op);
     }
-    reserved(s, image, map, log, out)
+    // Formats 8 and 11: their microms are not fitted. The trap stays out of line.
+    let t = s;
+    let o = out;
+    let m = map;
+    state::apart(t.trap_now(image, m, log, o, 0x1a))
 }
 
 fn by_format(
@@ -51,16 +47,16 @@ fn by_format(
     ensures { λ r. ⌜ Works (now (map .entry)) (Spec.byFormat out f s op) (now (image .entry)) (now (log .entry)) r (now (image .exit)) (now (log .exit)) ⌝ }
 {
     if f == 10 {
-        return operate::format10::format10(s, image, map, log, op);
+        return format10::format10(s, image, map, log, op);
     }
     if f == 7 {
-        return operate::format7::format7(s, image, map, log, out, op);
+        return format7::format7(s, image, map, log, out, op);
     }
     if f == 5 {
-        return Went::Done(operate::format5::branch(s, op));
+        return Went::Done(format6::format5::branch(s, op));
     }
     if f == 6 {
-        return Went::Done(operate::format6::format6(s, op));
+        return Went::Done(format6::format6(s, op));
     }
     further(s, image, map, log, out, f, op)
 }

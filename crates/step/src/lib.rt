@@ -3,13 +3,13 @@ use state::Mode;
 use state::Outside;
 use state::State;
 use state::Went;
-use state::plus;
+use word::address::plus;
 use xct::op_work;
+ghost use mathlib.Core.Bool.{cond};
 ghost use mathlib.Core.Path.{_≡_};
 ghost use Rattle.board.specs.Exec.{beside, Lent, Board, Saw};
 ghost use Rattle.state.specs.Answer.{Works, wentAs};
 ghost use Rattle.board.specs.Undo.{undone};
-ghost use Rattle.state.specs.State.{pick};
 ghost use Rattle.plate.specs.Plate.{table};
 ghost use Rattle.step.specs.Step as Spec;
 
@@ -65,7 +65,7 @@ fn asked(i2: bool, out: Outside, other: Kind) -> Kind
 }
 
 fn power_halted(out: Outside) -> Kind
-    ensures { λ r. ⌜ r ≡ pick (out .fail) (Kind.Idle 4) (Kind.Restart 0) ⌝ }
+    ensures { λ r. ⌜ r ≡ cond (out .fail) (Kind.Idle 4) (Kind.Restart 0) ⌝ }
 {
     if out.fail {
         Kind::Idle(4)
@@ -75,7 +75,7 @@ fn power_halted(out: Outside) -> Kind
 }
 
 fn switch_halted(out: Outside) -> Kind
-    ensures { λ r. ⌜ r ≡ pick (out .i3) (Kind.Restart 1) (Kind.Idle 4) ⌝ }
+    ensures { λ r. ⌜ r ≡ cond (out .i3) (Kind.Restart 1) (Kind.Idle 4) ⌝ }
 {
     if out.i3 {
         Kind::Restart(1)
@@ -97,18 +97,11 @@ fn kind_of(mode: Mode, i2: bool, out: Outside) -> Kind
     }
 }
 
+// Where I1 finds its PC: 14 if power fail is set, else 2A.
 fn vector(out: Outside) -> u16
-    ensures { λ r. ⌜ r ≡ pick (out .fail) 0x14 0x2a ⌝ }
+    ensures { λ r. ⌜ r ≡ cond (out .fail) 0x14 0x2a ⌝ }
 {
     if out.fail { 0x14 } else { 0x2a }
-}
-
-// I1: ↓ PS, ↓ PC, I2 reset, running, PC from 14 if power fail is set, else from 2A.
-fn non_vectored(s: State, image: &mut [u8], map: &[u8], log: &mut [u16; 32], out: Outside) -> Went
-    requires { ⌜ Board (now map) (beside (now image) (now log)) ⌝ }
-    ensures { λ r. ⌜ Works (now (map .entry)) (Spec.nonVectored out s) (now (image .entry)) (now (log .entry)) r (now (image .exit)) (now (log .exit)) ⌝ }
-{
-    s.trap(image, map, log, s.ps(out, false), vector(out))
 }
 
 // I0: ↓ PS, ↓ PC, I2 reset, running; T = word at 28 plus twice the device code; PC = T + word at T.
@@ -116,11 +109,11 @@ fn vectored(s: State, image: &mut [u8], map: &[u8], log: &mut [u16; 32], out: Ou
     requires { ⌜ Board (now map) (beside (now image) (now log)) ⌝ }
     ensures { λ r. ⌜ Works (now (map .entry)) (Spec.vectored out s) (now (image .entry)) (now (log .entry)) r (now (image .exit)) (now (log .exit)) ⌝ }
 {
-    let went = s.trap(image, map, log, s.ps(out, false), 0x28);
+    let went = s.trap_now(image, map, log, out, 0x28);
     let Went::Done(t) = went else {
         return went;
     };
-    control::format4::tabled(t, image, map, plus(t.regs.pc, plus(out.device, out.device)))
+    t.tabled(image, map, plus(t.regs.pc, plus(out.device, out.device)))
 }
 
 // I3 and the end of a halt: PC from 16, running.
@@ -146,8 +139,19 @@ fn work(
     match k {
         Kind::OpCode => op_work(s, image, map, log, out, sheet),
         Kind::Restart(_) => restart(s, image, map),
-        Kind::NonVectored => non_vectored(s, image, map, log, out),
-        Kind::Vectored => vectored(s, image, map, log, out),
+        // Interrupts are seldom: their work stays out of line.
+        Kind::NonVectored => {
+            let t = s;
+            let o = out;
+            let m = map;
+            state::apart(t.trap_now(image, m, log, o, vector(out)))
+        }
+        Kind::Vectored => {
+            let t = s;
+            let o = out;
+            let m = map;
+            state::apart(vectored(t, image, m, log, o))
+        }
         Kind::Idle(_) => Went::Done(s),
     }
 }

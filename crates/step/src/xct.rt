@@ -159,7 +159,7 @@ pub(crate) fn op_work(
         Begun::Abort(u) => {
             let o = out;
             let m = map;
-            state::apart(control::format1::xct_error(u, image, m, log, o))
+            state::apart(u.trap_now(image, m, log, o, 0x1e))
         }
         Begun::Blank(a) => Went::Blank(a),
     }

@@ -1,141 +1,83 @@
-// What a vector sets and looks at, by its name in the table.
-use super::text::Number;
+// What a vector sets and looks at: words of the image, and the bytes of a state as c/hitchbriar.h lays them out.
+use super::text::NO_NUMBER;
 use super::text::byte_at;
 use super::text::hex;
-use state::State;
+use libc::STDOUT_FILENO;
 
 pub enum Place {
-    // R0 to R5, SP, PC by number.
+    // A word of the image.
+    Memory(u16),
+    // R0 to R5, SP, PC: a word of the state.
     Register(u16),
-    // NZVC: the indicators, N the highest of four bits.
-    Indicators,
-    // I2.
-    Enable,
-    // An even address: the word there.
-    Word(u16),
-    // ONLY: the one page that is fitted. It can be set alone.
-    OnlyPage,
+    // NZVC, I2: a byte of the state.
+    Indicator(u16),
+    // Where a line word goes: the board is stepped.
+    Line,
     Nowhere,
 }
 
-// The number of a register's name, or 8.
-fn register(name: &[u8]) -> u16 {
-    if check::same(name, b"SP") {
-        return 6;
+// R0 to R5, SP, PC, I2.
+fn of_two_letters(first: u8, second: u8) -> Place {
+    if (first == b'R') & (b'0' <= second) & (second <= b'5') {
+        return Place::Register(second as u16 % 8 * 2);
     }
-    if check::same(name, b"PC") {
-        return 7;
+    if (first == b'S') & (second == b'P') {
+        return Place::Register(12);
     }
-    let k = byte_at(name, 1);
-    if (name.len() == 2) & (byte_at(name, 0) == b'R') & (b'0' <= k) & (k <= b'5') {
-        return k as u16 % 8;
+    if (first == b'P') & (second == b'C') {
+        return Place::Register(14);
     }
-    8
+    if (first == b'I') & (second == b'2') {
+        return Place::Indicator(17);
+    }
+    Place::Nowhere
 }
 
-fn address(name: &[u8]) -> Place {
-    match hex(name) {
-        Number::Value(at) => if at % 2 == 0 {
-            Place::Word(at)
-        } else {
-            Place::Nowhere
-        },
-        Number::Nothing => Place::Nowhere,
-    }
-}
-
-// The place of a name.
+// The place of a name. An address is even, and has one digit, three or four.
 pub(crate) fn named(name: &[u8]) -> Place {
+    if name.len() == 2 {
+        return of_two_letters(byte_at(name, 0), byte_at(name, 1));
+    }
     if check::same(name, b"NZVC") {
-        return Place::Indicators;
+        return Place::Indicator(16);
     }
-    if check::same(name, b"I2") {
-        return Place::Enable;
+    let at = hex(name);
+    if (at < NO_NUMBER) & (at % 2 == 0) {
+        return Place::Memory((at % 0x1_0000) as u16);
     }
-    if check::same(name, b"ONLY") {
-        return Place::OnlyPage;
-    }
-    let k = register(name);
-    if k < 8 {
-        return Place::Register(k);
-    }
-    address(name)
+    Place::Nowhere
 }
 
-// Whether a place can have a value.
-pub(crate) fn takes(place: Place, value: u16) -> bool {
-    match place {
-        Place::Register(_) => true,
-        Place::Indicators => value < 16,
-        Place::Enable => value < 2,
-        Place::Word(_) => true,
-        Place::OnlyPage => value < 256,
-        Place::Nowhere => false,
+// Says which byte stands where another is wanted.
+fn same(has: u8, wanted: u8) -> bool {
+    if has == wanted {
+        return true;
     }
+    io::print_hex(STDOUT_FILENO, has as u64, 2);
+    io::write_all(STDOUT_FILENO, b" is there: ");
+    false
 }
 
-// A byte past the end of the image is left alone, and is 0.
-fn put(image: &mut [u8], at: usize, byte: u8) {
-    if at < image.len() {
-        image[at] = byte;
+// Compares a byte where it is wanted, else puts it.
+fn byte(buffer: &mut [u8], at: usize, value: u8, wanted: bool) -> bool {
+    if wanted {
+        return same(byte_at(buffer, at), value);
     }
-}
-
-pub(crate) fn put_word(image: &mut [u8], at: u16, word: u16) {
-    put(image, at as usize, (word % 256) as u8);
-    put(image, at as usize + 1, (word / 256) as u8);
-}
-
-fn word_at(image: &[u8], at: u16) -> u16 {
-    let low = byte_at(image, at as usize);
-    let high = byte_at(image, at as usize + 1);
-    low as u16 + high as u16 * 256
-}
-
-// One page is fitted, and no other.
-fn fit_only(map: &mut [u8], page: u16) {
-    let mut k = 0;
-    while k < map.len() {
-        map[k] = (k == page as usize) as u8;
-        k += 1;
+    if at < buffer.len() {
+        buffer[at] = value;
     }
+    true
 }
 
-// Sets a place, of the image, the map or the state.
-pub(crate) fn with(s: State, image: &mut [u8], map: &mut [u8], place: Place, value: u16) -> State {
-    match place {
-        Place::Register(k) => s.with_reg(k, value),
-        Place::Indicators => s.with_flags(word::status::flags_of(value)),
-        Place::Enable => s.with_i2(value == 1),
-        Place::Word(at) => {
-            put_word(image, at, value);
-            s
-        }
-        Place::OnlyPage => {
-            fit_only(map, value);
-            s
-        }
-        Place::Nowhere => s,
-    }
+// The same of the low byte of a value and of its high byte.
+pub(crate) fn word(buffer: &mut [u8], at: u16, value: u16, wanted: bool) -> bool {
+    let low = byte(buffer, at as usize, (value % 256) as u8, wanted);
+    let high = byte(buffer, at as usize + 1, (value / 256) as u8, wanted);
+    low & high
 }
 
-// What a place has.
-pub(crate) fn found(s: State, image: &[u8], place: Place) -> u16 {
-    match place {
-        Place::Register(k) => s.reg(k),
-        Place::Indicators => s.ps(state::hear(0), false) % 16,
-        Place::Enable => s.i2 as u16,
-        Place::Word(at) => word_at(image, at),
-        Place::OnlyPage => 0,
-        Place::Nowhere => 0,
-    }
-}
-
-// Whether a place can be looked at.
-pub(crate) fn shows(place: Place) -> bool {
-    match place {
-        Place::OnlyPage => false,
-        Place::Nowhere => false,
-        _ => true,
-    }
+// A value of one byte.
+pub(crate) fn small(buffer: &mut [u8], at: u16, value: u16, wanted: bool) -> bool {
+    let low = byte(buffer, at as usize, (value % 256) as u8, wanted);
+    low & (value < 256)
 }

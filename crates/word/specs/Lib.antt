@@ -1,12 +1,4 @@
 pub mod Number
-pub mod Ops
-pub mod Shift
-pub mod Shifted
-pub mod Wide
+pub mod Address
 pub mod Status
-pub mod Unary
-pub mod Binary
-pub mod Immediate
-pub mod Branch
-pub mod Within
-pub mod Past
+pub mod Digit

@@ -1,6 +1,6 @@
 -- The processor status word, formed and loaded.
-use Prim.Native.Nat.{ℕ, _+_, _-_, _*_, _/_, _%_, _^_}
-use mathlib.Core.Bool.{Bool, true, false}
+use Prim.Native.Nat.{ℕ, _+_, _*_}
+use mathlib.Core.Bool.{Bool}
 use Rattle.word.specs.declared.Flags.{Flags}
 use Rattle.word.specs.Number.{bit, digit}
 

@@ -24,7 +24,7 @@ loop-again : tie.Need-loop-again Inv-loop μ-loop
 loop-again c = (omega arith, (ap length (c .before .before .put-word .ensures) ∙ size-put word _ _ _ ∙ c .before .before .before .before .before .before .before .loop .inv .1 .0, rw (c .before .before .put-word .ensures) (back-more _ _ _ (c .before .before .before .before .before .before .loop-test .taken) ∙ c .before .before .before .before .before .before .before .loop .inv .1 .1)))
 
 returns : tie.Need-returns Inv-loop μ-loop
-returns c = (sym (back-none _ _ _ (c .loop-test .left)) ∙ c .before .loop .inv .1 .1, refl)
+returns c = (sym (back-none _ _ _ (c .before .before .loop-test .left)) ∙ c .before .before .before .loop .inv .1 .1, c .clear .ensures)
 
 pub rollback-spec : {M : Type 1} → statement M
 rollback-spec =
@@ -47,6 +47,6 @@ rollback-spec =
     (λ c κs. search needs)
     (λ c. search needs)
     loop-again
-    (λ c. search needs)
+    (λ c κs. search needs)
     (λ c. search needs)
     returns)

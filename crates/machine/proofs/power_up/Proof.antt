@@ -1,7 +1,8 @@
 use mathlib.Core.Path.{sym, _∙_}
 use native.Mathlib.Omega.{arith}
 use lib.ListN.{length}
-use Rattle.machine.specs.Entry.{sound, power-refused, power-answered}
+use Rattle.refusal.specs.Refusal.{sound}
+use Rattle.machine.specs.Entry.{power-refused, power-answered}
 use borrow.Author.Needs.{needs}
 use Rattle.machine.proofs.power_up.Statement.{statement}
 use Rattle.machine.proofs.power_up.Tie as tie

@@ -1,7 +1,8 @@
 use mathlib.Core.Path.{sym, _∙_}
 use native.Mathlib.Omega.{arith}
 use lib.ListN.{length}
-use Rattle.machine.specs.Entry.{run-sound, run-refused, run-answered}
+use Rattle.refusal.specs.Refusal.{run-sound}
+use Rattle.machine.specs.Entry.{run-refused, run-answered}
 use borrow.Author.Needs.{needs}
 use Rattle.machine.proofs.run.Statement.{statement}
 use Rattle.machine.proofs.run.Tie as tie

@@ -2,7 +2,8 @@ use mathlib.Core.Path.{sym, _∙_}
 use native.Mathlib.Omega.{arith}
 use lib.ListN.{length}
 use Rattle.machine.specs.Run.{run-of-one}
-use Rattle.machine.specs.Entry.{step-sound, step-refused, step-answered}
+use Rattle.refusal.specs.Refusal.{step-sound}
+use Rattle.machine.specs.Entry.{step-refused, step-answered}
 use borrow.Author.Needs.{needs}
 use Rattle.machine.proofs.step.Statement.{statement}
 use Rattle.machine.proofs.step.Tie as tie

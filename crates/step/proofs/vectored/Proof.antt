@@ -6,39 +6,38 @@ use borrow.Author.Needs.{needs}
 use Rattle.step.proofs.vectored.Statement.{statement}
 use Rattle.step.proofs.vectored.Tie as tie
 
-trap-requires : tie.Need-trap-requires
-trap-requires c κs = c .before .before .before .before .before .pre
+trap-now-requires : tie.Need-trap-now-requires
+trap-now-requires c κs = c .before .before .before .before .pre
 
 same-length : tie.Need-same-length
-same-length c = c .before .before .before .before .trap .ensures .board .lent .size ∙ sym (c .before .before .before .before .before .before .before .before .before .before .pre .lent .size)
+same-length c = c .before .before .before .before .trap-now .ensures .board .lent .size ∙ sym (c .before .before .before .before .before .before .before .before .before .pre .lent .size)
 
 returns : tie.Need-returns
 unfolding vectored
 returns c =
-    did (went-store (c .before .before .before .before .trap .result)) (c .before .before .before .before .before .before .before .before .before .before .pre)
-    (got-gone _ ((rw (c .before .before .before .before .before .ps .ensures) at (c .before .before .before .before .trap .ensures)) .got) (went-none (c .enum-told .given .1)) (went-none (c .enum-told .given .1)))
+    did (went-store (c .before .before .before .before .trap-now .result)) (c .before .before .before .before .before .before .before .before .before .pre)
+    (got-gone _ (c .before .before .before .before .trap-now .ensures .got) (went-none (c .enum-told .given .1)) (went-none (c .enum-told .given .1)))
 
 tabled-requires : tie.Need-tabled-requires
-tabled-requires c κs = c .before .before .before .before .before .before .before .before .trap .ensures .board .lent
+tabled-requires c κs = c .before .before .before .before .before .before .before .before .trap-now .ensures .board .lent
 
 same-length-2 : tie.Need-same-length-2
-same-length-2 c = c .before .before .before .before .before .before .before .before .before .trap .ensures .board .lent .size ∙ sym (c .before .before .before .before .before .before .before .before .before .before .before .before .before .before .before .pre .lent .size)
+same-length-2 c = c .before .before .before .before .before .before .before .before .before .trap-now .ensures .board .lent .size ∙ sym (c .before .before .before .before .before .before .before .before .before .before .before .before .before .before .pre .lent .size)
 
 returns-2 : tie.Need-returns-2
 unfolding vectored
 returns-2 c =
     record {
-      got = got-then _ ((rw (c .before .before .before .before .before .before .before .before .before .before .ps .ensures) at (c .before .before .before .before .before .before .before .before .before .trap .ensures)) .got) (went-is (c .before .before .before .before .before .went .given .1))
+      got = got-then _ (c .before .before .before .before .before .before .before .before .before .trap-now .ensures .got) (went-is (c .before .before .before .before .before .went .given .1))
           ((rw (c .before .plus2 .ensures, c .before .before .plus .ensures) at (c .tabled .ensures)) .got);
-      board = c .before .before .before .before .before .before .before .before .before .trap .ensures .board;
+      board = c .before .before .before .before .before .before .before .before .before .trap-now .ensures .board;
     }
 
 pub vectored-spec : {M : Type 1} → statement M
 vectored-spec =
     tie.close
     (tie.spec
-    (λ c κs. search needs)
-    trap-requires
+    trap-now-requires
     (λ c. search needs)
     (λ c. search needs)
     same-length

@@ -11,8 +11,8 @@ op-work-requires c κs = c .before .before .before .before .before .before .pre
 restart-requires : tie.Need-restart-requires
 restart-requires c κs = c .before .before .before .before .before .pre .0 .lent
 
-non-vectored-requires : tie.Need-non-vectored-requires
-non-vectored-requires c κs = c .before .before .before .before .before .before .pre .0
+trap-now-requires : tie.Need-trap-now-requires
+trap-now-requires c κs = c .before .before .before .before .before .before .before .pre .0
 
 vectored-requires : tie.Need-vectored-requires
 vectored-requires c κs = c .before .before .before .before .before .before .pre .0
@@ -33,22 +33,22 @@ returns-2 c =
     (record { got = c .restart .ensures .got; board = c .before .before .before .before .before .before .pre .0 })
 
 same-length-3 : tie.Need-same-length-3
-same-length-3 c = c .before .before .non-vectored .ensures .board .lent .size ∙ sym (c .before .before .before .before .before .before .before .before .before .pre .0 .lent .size)
+same-length-3 c = c .before .before .before .trap-now .ensures .board .lent .size ∙ sym (c .before .before .before .before .before .before .before .before .before .before .before .pre .0 .lent .size)
 
 returns-3 : tie.Need-returns-3
 unfolding workOf
 returns-3 c =
-    rw (c .before .before .before .before .before .enum-told3 .given .1)
-    (record { got = c .before .before .non-vectored .ensures .got; board = c .before .before .non-vectored .ensures .board })
+    rw (c .before .before .before .before .before .before .before .enum-told3 .given .1, c .apart .ensures)
+    (record { got = (rw (c .before .before .before .before .vector .ensures) at (c .before .before .before .trap-now .ensures)) .got; board = c .before .before .before .trap-now .ensures .board })
 
 same-length-4 : tie.Need-same-length-4
-same-length-4 c = c .before .before .vectored .ensures .board .lent .size ∙ sym (c .before .before .before .before .before .before .before .before .before .pre .0 .lent .size)
+same-length-4 c = c .before .before .before .vectored .ensures .board .lent .size ∙ sym (c .before .before .before .before .before .before .before .before .before .before .pre .0 .lent .size)
 
 returns-4 : tie.Need-returns-4
 unfolding workOf
 returns-4 c =
-    rw (c .before .before .before .before .before .enum-told4 .given .1)
-    (record { got = c .before .before .vectored .ensures .got; board = c .before .before .vectored .ensures .board })
+    rw (c .before .before .before .before .before .before .enum-told4 .given .1, c .apart2 .ensures)
+    (record { got = c .before .before .before .vectored .ensures .got; board = c .before .before .before .vectored .ensures .board })
 
 returns-5 : tie.Need-returns-5
 unfolding workOf
@@ -66,9 +66,12 @@ work-spec =
     (λ c. search needs)
     restart-requires
     (λ c. search needs)
-    non-vectored-requires
+    (λ c κs. search needs)
+    trap-now-requires
+    (λ c κs. search needs)
     (λ c. search needs)
     vectored-requires
+    (λ c κs. search needs)
     (λ c. search needs)
     same-length
     returns

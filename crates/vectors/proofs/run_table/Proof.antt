@@ -6,10 +6,10 @@ use Rattle.vectors.proofs.run_table.Statement.{statement}
 use Rattle.vectors.proofs.run_table.Tie as tie
 
 abbrev Inv-loop : tie.InvT-loop
-Inv-loop table totals₀ from₀ totals from = Unit {0}
+Inv-loop table whole all₀ right₀ from₀ all right from = Unit {0}
 
 abbrev μ-loop : tie.MeasureT-loop
-μ-loop table totals₀ from₀ totals from = length table - from
+μ-loop table whole all₀ right₀ from₀ all right from = length table - from
 
 pub run-table-spec : {M : Type 1} → statement M
 run-table-spec =
@@ -22,8 +22,14 @@ run-table-spec =
     (λ c. search needs)
     (λ c. search needs)
     (λ c. search needs)
+    (λ c. search needs)
+    (λ c κs. search needs)
+    (λ c κs. search needs)
+    (λ c κs. search needs)
     (λ c κs. search needs)
     (λ c. search needs)
     (λ c. search needs)
     (λ c. search needs)
+    (λ c. search needs)
+    (λ c κs. search needs)
     (λ c. search needs))

@@ -1,6 +1,6 @@
 use mathlib.Core.Path.{refl, sym, _∙_}
 use Rattle.board.specs.Laws.{got-give, did}
-use Rattle.word.specs.Past.{at-least}
+use Rattle.codes.specs.Past.{at-least}
 use Prim.Native.Nat.{_/_, _+_, _%_}
 use Rattle.control.specs.Format2.{format2, format2-last}
 use borrow.Author.Needs.{needs}

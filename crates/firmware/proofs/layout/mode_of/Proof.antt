@@ -1,5 +1,5 @@
 use Rattle.state.specs.declared.Mode.the-variants.{Locked}
-use Rattle.word.specs.Past.{past}
+use Rattle.codes.specs.Past.{past}
 use Rattle.firmware.specs.Layout.{modes}
 use borrow.Author.Needs.{needs}
 use Rattle.firmware.proofs.layout.mode_of.Statement.{statement}

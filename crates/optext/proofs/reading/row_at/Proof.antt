@@ -6,7 +6,7 @@ use borrow.Author.Tests.{eq-eqb, ne-eqb}
 use borrow.Author.Needs.{needs}
 use Rattle.optext.specs.Guess.{namedRow, rowAt}
 use Rattle.optext.proofs.Choose.{first-found, first-next, first-end}
-use Rattle.optext.specs.Pick.{firstFrom}
+use Rattle.optext.specs.First.{firstFrom}
 use Rattle.optext.specs.Rows.{rows, flat}
 use Rattle.letters.specs.Digits.{digits, hexOf, hex4}
 use Rattle.optext.proofs.Table.{flat-length}

@@ -4,7 +4,7 @@ use native.Mathlib.Omega.{arith}
 use lib.ListN.{length}
 use Rattle.optext.specs.Line.{fitsRow, rowOf, taken}
 use Rattle.optext.proofs.Choose.{first-found, first-next, first-end}
-use Rattle.optext.specs.Pick.{firstFrom}
+use Rattle.optext.specs.First.{firstFrom}
 use Rattle.optext.specs.Rows.{rows, flat}
 use Rattle.letters.specs.Digits.{digits, hexOf, hex4}
 use Rattle.optext.proofs.Table.{flat-length}

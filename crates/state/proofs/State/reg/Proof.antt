@@ -1,6 +1,7 @@
-use Rattle.word.specs.Past.{at-least}
+use Rattle.codes.specs.Past.{at-least}
 use borrow.Author.Needs.{needs}
-use Rattle.state.specs.State.{reg-pc, reg, regOf}
+use Rattle.state.specs.Registers.{reg-pc, regOf}
+use Rattle.state.specs.State.{reg}
 use mathlib.Core.Path.{sym}
 use Rattle.state.proofs.State.reg.Statement.{statement}
 use Rattle.state.proofs.State.reg.Tie as tie
@@ -35,7 +36,7 @@ returns-7 c = search needs
 
 returns-8 : tie.Need-returns-8
 unfolding reg regOf
-returns-8 c = sym (reg-pc (c .before .args .self) (c .before .args .k) (at-least 7 (c .before .args .k) (c .match .rest)))
+returns-8 c = sym (reg-pc (c .before .args .self .regs) (c .before .args .k) (at-least 7 (c .before .args .k) (c .match .rest)))
 
 pub reg-spec : {M : Type 1} → statement M
 reg-spec =

@@ -1,5 +1,6 @@
 use mathlib.Core.Path.{refl}
-use Rattle.state.specs.State.{withReg, setReg}
+use Rattle.state.specs.Registers.{setReg}
+use Rattle.state.specs.State.{withReg}
 use Rattle.state.proofs.State.with_pc.Statement.{statement}
 use Rattle.state.proofs.State.with_pc.Tie as tie
 

@@ -1,5 +1,6 @@
 use mathlib.Core.Path.{sym, _∙_}
 use borrow.Author.Tests.{eq-eqb, ne-eqb}
+use borrow.Author.Needs.{needs}
 use Rattle.step.specs.Execute.{further}
 use Rattle.step.proofs.execute.further.Statement.{statement}
 use Rattle.step.proofs.execute.further.Tie as tie
@@ -28,17 +29,17 @@ returns-2 c =
     rw (ne-eqb _ _ (c .before .before .before .before .before .before .if1 .left), eq-eqb _ _ (c .before .before .before .before .before .if2 .taken))
     (record { got = c .before .before .low-codes .ensures .got; board = c .before .before .low-codes .ensures .board })
 
-reserved-requires : tie.Need-reserved-requires
-reserved-requires c κs = c .before .before .before .before .before .before .pre
+trap-now-requires : tie.Need-trap-now-requires
+trap-now-requires c κs = c .before .before .before .before .before .before .pre
 
 same-length-3 : tie.Need-same-length-3
-same-length-3 c = c .before .before .reserved .ensures .board .lent .size ∙ sym (c .before .before .before .before .before .before .before .before .before .pre .lent .size)
+same-length-3 c = c .before .before .before .trap-now .ensures .board .lent .size ∙ sym (c .before .before .before .before .before .before .before .before .before .before .pre .lent .size)
 
 returns-3 : tie.Need-returns-3
 unfolding further
 returns-3 c =
-    rw (ne-eqb _ _ (c .before .before .before .before .before .before .if1 .left), ne-eqb _ _ (c .before .before .before .before .before .if2 .left))
-    (record { got = c .before .before .reserved .ensures .got; board = c .before .before .reserved .ensures .board })
+    rw (ne-eqb _ _ (c .before .before .before .before .before .before .before .if1 .left), ne-eqb _ _ (c .before .before .before .before .before .before .if2 .left), c .apart .ensures)
+    (record { got = c .before .before .before .trap-now .ensures .got; board = c .before .before .before .trap-now .ensures .board })
 
 pub further-spec : {M : Type 1} → statement M
 further-spec =
@@ -50,6 +51,7 @@ further-spec =
     low-codes-requires
     same-length-2
     returns-2
-    reserved-requires
+    trap-now-requires
+    (λ c κs. search needs)
     same-length-3
     returns-3)

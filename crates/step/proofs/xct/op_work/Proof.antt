@@ -25,8 +25,8 @@ returns-3 c =
     rw (c .apart .ensures)
     (record {
       got = got-then _ (c .before .before .before .before .before .before .before .before .before .before .before .before .before .before .fetch .ensures .got) (took-is (c .before .before .before .before .before .before .before .before .before .before .before .before .took .given .1))
-          (got-then _ (c .before .before .before .before .before .before .before .before .before .begun .ensures .got) (begun-abort (c .before .before .before .before .before .before .before .u2 .given .1)) (c .before .before .before .xct-error .ensures .got));
-      board = c .before .before .before .xct-error .ensures .board;
+          (got-then _ (c .before .before .before .before .before .before .before .before .before .begun .ensures .got) (begun-abort (c .before .before .before .before .before .before .before .u2 .given .1)) (c .before .before .before .trap-now .ensures .got));
+      board = c .before .before .before .trap-now .ensures .board;
     })
 
 returns-4 : tie.Need-returns-4

@@ -1,12 +1,12 @@
 -- `vectors::text::hex` is safe and ends. The measure is what is left of the word. Assumes nothing.
 use borrow.Author.Needs.{needs}
-use Prim.Native.Nat.{_≤_, _-_}
+use Prim.Native.Nat.{_-_}
 use lib.ListN.{length}
 use Rattle.vectors.proofs.text.hex.Statement.{statement}
 use Rattle.vectors.proofs.text.hex.Tie as tie
 
 abbrev Inv-loop : tie.InvT-loop
-Inv-loop word value₀ at₀ value at = at ≤ length word
+Inv-loop word value₀ at₀ value at = Unit {0}
 
 abbrev μ-loop : tie.MeasureT-loop
 μ-loop word value₀ at₀ value at = length word - at
@@ -21,7 +21,6 @@ hex-spec =
     (λ c. search needs)
     (λ c. search needs)
     (λ c κs. search needs)
-    (λ c. search needs)
     (λ c κs. search needs)
     (λ c. search needs)
     (λ c. search needs)

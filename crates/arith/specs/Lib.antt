@@ -1,0 +1,6 @@
+pub mod Ops
+pub mod Wide
+pub mod Binary
+pub mod Immediate
+pub mod Branch
+pub mod Within

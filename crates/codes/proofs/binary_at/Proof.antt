@@ -1,0 +1,23 @@
+use borrow.Author.Needs.{needs}
+use Rattle.codes.specs.declared.Binary.the-variants.{Mov}
+use Rattle.codes.specs.Codes.{binaries}
+use Rattle.codes.specs.Past.{past}
+use Rattle.codes.proofs.binary_at.Statement.{statement}
+use Rattle.codes.proofs.binary_at.Tie as tie
+
+returns-9 : tie.Need-returns-9
+returns-9 c = past binaries Mov (c .before .args .k) (c .match .rest)
+
+pub binary-at-spec : {M : Type 1} → statement M
+binary-at-spec =
+    tie.close
+    (tie.spec
+    (λ c. search needs)
+    (λ c. search needs)
+    (λ c. search needs)
+    (λ c. search needs)
+    (λ c. search needs)
+    (λ c. search needs)
+    (λ c. search needs)
+    (λ c. search needs)
+    returns-9)

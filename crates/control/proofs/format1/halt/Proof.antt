@@ -1,9 +1,0 @@
-use borrow.Author.Needs.{needs}
-use Rattle.control.proofs.format1.halt.Statement.{statement}
-use Rattle.control.proofs.format1.halt.Tie as tie
-
-returns : tie.Need-returns
-returns c = rw (c .with-mode .ensures, c .before .halted .ensures, c .before .before .with-i2 .ensures)
-
-pub halt-spec : {M : Type 1} → statement M
-halt-spec = tie.close (tie.spec (λ c κs. search needs) (λ c κs. search needs) (λ c κs. search needs) returns)

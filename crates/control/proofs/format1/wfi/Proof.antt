@@ -1,9 +1,0 @@
-use borrow.Author.Needs.{needs}
-use Rattle.control.proofs.format1.wfi.Statement.{statement}
-use Rattle.control.proofs.format1.wfi.Tie as tie
-
-returns : tie.Need-returns
-returns c = rw (c .with-mode .ensures, c .before .with-i2 .ensures)
-
-pub wfi-spec : {M : Type 1} → statement M
-wfi-spec = tie.close (tie.spec (λ c κs. search needs) (λ c κs. search needs) returns)

@@ -1,0 +1,48 @@
+use mathlib.Core.Path.{sym, _∙_}
+use Rattle.board.specs.Laws.{got-then, got-gone, did}
+use Rattle.state.specs.Answer.{went-is, went-none, went-store}
+use Rattle.format1.specs.Format1.{bpt}
+use borrow.Author.Needs.{needs}
+use Rattle.format1.proofs.bpt.Statement.{statement}
+use Rattle.format1.proofs.bpt.Tie as tie
+
+push-both-requires : tie.Need-push-both-requires
+push-both-requires c κs = c .before .before .before .before .before .pre
+
+same-length : tie.Need-same-length
+same-length c = c .before .before .before .before .push-both .ensures .board .lent .size ∙ sym (c .before .before .before .before .before .before .before .before .before .before .pre .lent .size)
+
+returns : tie.Need-returns
+unfolding bpt
+returns c =
+    did (went-store (c .before .before .before .before .push-both .result)) (c .before .before .before .before .before .before .before .before .before .before .pre)
+    (got-gone _ ((rw (c .before .before .before .before .before .ps .ensures) at (c .before .before .before .before .push-both .ensures)) .got) (went-none (c .enum-told .given .1)) (went-none (c .enum-told .given .1)))
+
+from-loc-requires : tie.Need-from-loc-requires
+from-loc-requires c κs = c .before .before .before .before .before .before .push-both .ensures .board .lent
+
+same-length-2 : tie.Need-same-length-2
+same-length-2 c = c .before .before .before .before .before .before .before .push-both .ensures .board .lent .size ∙ sym (c .before .before .before .before .before .before .before .before .before .before .before .before .before .pre .lent .size)
+
+returns-2 : tie.Need-returns-2
+unfolding bpt
+returns-2 c =
+    record {
+      got = got-then _ ((rw (c .before .before .before .before .before .before .before .before .ps .ensures) at (c .before .before .before .before .before .before .before .push-both .ensures)) .got) (went-is (c .before .before .before .pushed .given .1))
+          (c .from-loc .ensures .got);
+      board = c .before .before .before .before .before .before .before .push-both .ensures .board;
+    }
+
+pub bpt-spec : {M : Type 1} → statement M
+bpt-spec =
+    tie.close
+    (tie.spec
+    (λ c κs. search needs)
+    push-both-requires
+    (λ c. search needs)
+    (λ c. search needs)
+    same-length
+    returns
+    from-loc-requires
+    same-length-2
+    returns-2)

@@ -1,0 +1,29 @@
+use Rattle.board.specs.Laws.{got-then, got-gone}
+use Rattle.state.specs.Answer.{went-is, went-none}
+use Rattle.format1.specs.Format1.{rrtn}
+use borrow.Author.Needs.{needs}
+use Rattle.format1.proofs.rrtn.Statement.{statement}
+use Rattle.format1.proofs.rrtn.Tie as tie
+
+rest-requires : tie.Need-rest-requires
+rest-requires c κs = c .before .before .pre
+
+returns : tie.Need-returns
+unfolding rrtn
+returns c =
+    record { got = got-gone _ (c .before .before .rest .ensures .got) (went-none (c .enum-told .given .1)) (went-none (c .enum-told .given .1)) }
+
+pop-reg-requires : tie.Need-pop-reg-requires
+pop-reg-requires c κs = c .before .before .before .before .before .before .pre
+
+returns-2 : tie.Need-returns-2
+unfolding rrtn
+returns-2 c =
+    record {
+      got = got-then _ (c .before .before .before .before .rest .ensures .got) (went-is (c .before .before .went .given .1))
+          (c .pop-reg .ensures .got);
+    }
+
+pub rrtn-spec : {M : Type 1} → statement M
+rrtn-spec =
+    tie.close (tie.spec rest-requires (λ c. search needs) (λ c. search needs) returns pop-reg-requires returns-2)

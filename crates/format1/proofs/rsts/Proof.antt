@@ -1,0 +1,65 @@
+use mathlib.Core.Path.{sym, _∙_}
+use Rattle.board.specs.Laws.{got-then, got-gone, did, kept-is, kept-none}
+use Rattle.state.specs.Answer.{went-store, took-is, took-none, took-lost, kept-lost}
+use Rattle.format1.specs.Format1.{rsts}
+use borrow.Author.Needs.{needs}
+use Rattle.format1.proofs.rsts.Statement.{statement}
+use Rattle.format1.proofs.rsts.Tie as tie
+
+pop-requires : tie.Need-pop-requires
+pop-requires c κs = c .before .before .before .pre .lent
+
+returns : tie.Need-returns
+unfolding rsts
+returns c =
+    did (went-store (c .untaken .result)) (c .before .before .before .before .before .before .before .pre)
+    (got-gone _ (c .before .before .before .pop .ensures .got) (took-none (c .before .enum-told .given .1)) (took-lost (c .untaken .ensures) (c .before .enum-told .given .1)))
+
+store-requires : tie.Need-store-requires
+store-requires c κs = c .before .before .before .before .before .before .before .before .before .pre
+
+same-length-2 : tie.Need-same-length-2
+same-length-2 c = c .before .before .before .before .before .store .ensures .board .lent .size ∙ sym (c .before .before .before .before .before .before .before .before .before .before .before .before .before .before .before .pre .lent .size)
+
+returns-2 : tie.Need-returns-2
+unfolding rsts
+returns-2 c =
+    did (went-store (c .unwritten .result)) (c .before .before .before .before .before .before .before .before .before .before .before .before .before .before .before .pre)
+    (got-then _ (c .before .before .before .before .before .before .before .before .before .before .before .pop .ensures .got) (took-is (c .before .before .before .before .before .before .before .before .before .took .given .1))
+    (got-gone _ (c .before .before .before .before .before .store .ensures .got) (kept-none (c .before .enum-told3 .given .1)) (kept-lost (c .unwritten .ensures) (c .before .enum-told3 .given .1))))
+
+rrtt-requires : tie.Need-rrtt-requires
+rrtt-requires c κs = c .before .before .before .before .before .store .ensures .board .lent
+
+same-length-3 : tie.Need-same-length-3
+same-length-3 c = c .before .before .before .before .before .before .store .ensures .board .lent .size ∙ sym (c .before .before .before .before .before .before .before .before .before .before .before .before .before .before .before .before .pre .lent .size)
+
+returns-3 : tie.Need-returns-3
+unfolding rsts
+returns-3 c =
+    record {
+      got = got-then _ (c .before .before .before .before .before .before .before .before .before .before .before .before .pop .ensures .got) (took-is (c .before .before .before .before .before .before .before .before .before .before .took .given .1))
+          (got-then _ (c .before .before .before .before .before .before .store .ensures .got) (kept-is (c .before .before .enum-told2 .given .1))
+          (c .rrtt .ensures .got));
+      board = c .before .before .before .before .before .before .store .ensures .board;
+    }
+
+pub rsts-spec : {M : Type 1} → statement M
+rsts-spec =
+    tie.close
+    (tie.spec
+    pop-requires
+    (λ c. search needs)
+    (λ c. search needs)
+    (λ c κs. search needs)
+    (λ c. search needs)
+    returns
+    store-requires
+    (λ c. search needs)
+    (λ c. search needs)
+    (λ c κs. search needs)
+    same-length-2
+    returns-2
+    rrtt-requires
+    same-length-3
+    returns-3)

@@ -1,0 +1,30 @@
+use Rattle.board.specs.Laws.{got-then, got-gone}
+use Rattle.state.specs.Answer.{went-is, went-none}
+use Rattle.format1.specs.Format1.{rtt}
+use borrow.Author.Needs.{needs}
+use Rattle.format1.proofs.rtt.Statement.{statement}
+use Rattle.format1.proofs.rtt.Tie as tie
+
+pop-reg-requires : tie.Need-pop-reg-requires
+pop-reg-requires c κs = c .before .before .pre
+
+returns : tie.Need-returns
+unfolding rtt
+returns c =
+    record { got = got-gone _ (c .before .before .pop-reg .ensures .got) (went-none (c .enum-told .given .1)) (went-none (c .enum-told .given .1)) }
+
+pop-status-requires : tie.Need-pop-status-requires
+pop-status-requires c κs = c .before .before .before .before .before .before .pre
+
+returns-2 : tie.Need-returns-2
+unfolding rtt
+returns-2 c =
+    record {
+      got = got-then _ (c .before .before .before .before .pop-reg .ensures .got) (went-is (c .before .before .went .given .1))
+          (c .pop-status .ensures .got);
+    }
+
+pub rtt-spec : {M : Type 1} → statement M
+rtt-spec =
+    tie.close
+    (tie.spec pop-reg-requires (λ c. search needs) (λ c. search needs) returns pop-status-requires returns-2)

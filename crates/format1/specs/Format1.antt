@@ -1,0 +1,135 @@
+-- Format 1, 0000 to 000F: one word, no arguments (SAVS has its mask in the next word).
+use Prim.Native.Nat.{ℕ, _≤_}
+use mathlib.Core.Bool.{true, false, cond}
+use mathlib.Core.List.{List, [], _∷_}
+use mathlib.Core.Path.{_≡_}
+use lib.Bits.{bitOr}
+use lib.ListN.{getD, List·getD-eq-default}
+use Rattle.board.specs.Work.{Work, give, load}
+use Rattle.board.specs.Work as Work
+use Rattle.board.specs.Bind.{_>>=_, _>>_}
+use Rattle.state.specs.declared.State.{State}
+use Rattle.state.specs.declared.Outside.{Outside}
+use Rattle.state.specs.declared.Mode.the-variants.{Waiting, PowerHalt, SwitchHalt}
+use Rattle.state.specs.State.{withSp, withI2, withMode, psOf}
+use Rattle.word.specs.Address.{plus}
+use Rattle.state.specs.Stack.{push, pushReg, pop, popReg, popStatus, fetch, fromLoc, pushBoth, trapNow}
+
+-- NOP: no operations are performed. RESET: a pulse is transmitted; here nothing hears it
+abbrev pub nop : State → State
+nop s = s
+
+-- IEN: I2 is set, at once
+abbrev pub ien : State → State
+ien s = withI2 s true
+
+-- IDS: I2 is reset
+abbrev pub ids : State → State
+ids s = withI2 s false
+
+-- HALT: I2 is reset; the mode tells whether the end of power fail or the halt switch ends it
+abbrev pub halt : Outside → State → State
+halt out s = withMode (withI2 s false) (cond (out .fail) PowerHalt SwitchHalt)
+
+-- XCT's error: HALT, XCT, BPT or WFI was to be executed. I2 is reset
+abbrev pub xctError : Outside → State → Work State
+xctError out s = trapNow out s 0x1e
+
+-- BPT: ↓ PS, ↓ PC, PC ← (loc 2C); I2 is kept
+unfoldable pub bpt : Outside → State → Work State
+bpt out s = do
+  s ← pushBoth s (psOf out false s)
+  fromLoc s 0x2c
+
+-- WFI: I2 is set; nothing more happens until an interrupt
+abbrev pub wfi : State → State
+wfi s = withMode (withI2 s true) Waiting
+
+-- SAVE: R5 to R0 are pushed
+unfoldable pub save : State → Work State
+save s = do
+  s ← pushReg s 5
+  s ← pushReg s 4
+  s ← pushReg s 3
+  s ← pushReg s 2
+  s ← pushReg s 1
+  pushReg s 0
+
+-- SAVS: SAVE; ↓ SP, @SP ← (loc 2E); (loc 2E) ← (loc 2E) or MASK; IEN
+unfoldable pub savs : State → Work State
+savs s = do
+  mask ← fetch s
+  s ← save (mask .state)
+  old ← load 0x2e
+  s ← push s old
+  Work.store 0x2e (bitOr old (mask .word))
+  give (withI2 s true)
+
+-- REST: R0 to R5 are popped
+unfoldable pub rest : State → Work State
+rest s = do
+  s ← popReg s 0
+  s ← popReg s 1
+  s ← popReg s 2
+  s ← popReg s 3
+  s ← popReg s 4
+  popReg s 5
+
+-- RTT: PC ← @SP, SP ↑; PS ← @SP, SP ↑
+unfoldable pub rtt : State → Work State
+rtt s = do
+  s ← popReg s 7
+  popStatus s
+
+-- RRTN: REST; PC ← @SP, SP ↑
+unfoldable pub rrtn : State → Work State
+rrtn s = do
+  s ← rest s
+  popReg s 7
+
+-- RRTT: REST; RTT
+unfoldable pub rrtt : State → Work State
+rrtt s = do
+  s ← rest s
+  rtt s
+
+-- RSTS: (loc 2E) ← @SP, SP ↑; REST; RTT
+unfoldable pub rsts : State → Work State
+rsts s = do
+  mask ← pop s
+  Work.store 0x2e (mask .word)
+  rrtt (mask .state)
+
+-- RSVC: REST; SP ↑, the saved SP is bypassed; RTT
+unfoldable pub rsvc : State → Work State
+rsvc s = do
+  s ← rest s
+  rtt (withSp s (plus (s .regs .sp) 2))
+
+-- 0000 to 000F: NOP, RESET, IEN, IDS, HALT, XCT, BPT, WFI, RSVC, RRTT, SAVE, SAVS, REST, RRTN, RSTS, RTT.
+-- XCT itself is begun before an op code is executed (see Xct); it comes here only where an XCT was to execute it.
+abbrev codes1 : Outside → State → List (Work State)
+codes1 out s =
+    give (nop s)
+    ∷ give (nop s)
+    ∷ give (ien s)
+    ∷ give (ids s)
+    ∷ give (halt out s)
+    ∷ xctError out s
+    ∷ bpt out s
+    ∷ give (wfi s)
+    ∷ rsvc s
+    ∷ rrtt s
+    ∷ save s
+    ∷ savs s
+    ∷ rest s
+    ∷ rrtn s
+    ∷ rsts s
+    ∷ []
+
+unfoldable pub format1 : Outside → State → ℕ → Work State
+format1 out s op = getD (codes1 out s) op (rtt s)
+
+pub format1-last : (out : Outside) (s : State) (op : ℕ) → 15 ≤ op → format1 out s op ≡ rtt s
+unfolding format1
+format1-last out s op h = List·getD-eq-default (codes1 out s) (rtt s) h

@@ -1,0 +1,263 @@
+// Format 1, 0000 to 000F.
+use board::Kept;
+use board::Word;
+use state::Mode;
+use state::Outside;
+use state::State;
+use state::Took;
+use state::Went;
+use state::unread;
+use state::untaken;
+use state::unwritten;
+use word::address::plus;
+ghost use mathlib.Core.Bool.{cond};
+ghost use mathlib.Core.Path.{_≡_};
+ghost use Rattle.board.specs.Exec.{beside, Lent, Board, Saw};
+ghost use Rattle.state.specs.Answer.{Works, wentAs};
+ghost use Rattle.format1.specs.Format1 as Spec;
+
+fn halted(out: Outside) -> Mode
+    ensures { λ r. ⌜ r ≡ cond (out .fail) Mode.PowerHalt Mode.SwitchHalt ⌝ }
+{
+    if out.fail {
+        Mode::PowerHalt
+    } else {
+        Mode::SwitchHalt
+    }
+}
+
+// HALT: I2 is reset; the mode tells whether the end of power fail or the halt switch ends it.
+fn halt(s: State, out: Outside) -> State
+    ensures { λ r. ⌜ r ≡ Spec.halt out s ⌝ }
+{
+    s.with_i2(false).with_mode(halted(out))
+}
+
+// WFI: I2 is set; nothing more happens until an interrupt.
+fn wfi(s: State) -> State
+    ensures { λ r. ⌜ r ≡ Spec.wfi s ⌝ }
+{
+    s.with_i2(true).with_mode(Mode::Waiting)
+}
+
+// BPT: ↓ PS, ↓ PC, PC ← (loc 2C); I2 is kept.
+fn bpt(s: State, image: &mut [u8], map: &[u8], log: &mut [u16; 32], out: Outside) -> Went
+    requires { ⌜ Board (now map) (beside (now image) (now log)) ⌝ }
+    ensures { λ r. ⌜ Works (now (map .entry)) (Spec.bpt out s) (now (image .entry)) (now (log .entry)) r (now (image .exit)) (now (log .exit)) ⌝ }
+{
+    let pushed = s.push_both(image, map, log, s.ps(out, false));
+    let Went::Done(t) = pushed else {
+        return pushed;
+    };
+    t.from_loc(image, map, 0x2c)
+}
+
+// SAVE: R5 to R0 are pushed.
+pub fn save(s: State, image: &mut [u8], map: &[u8], log: &mut [u16; 32]) -> Went
+    requires { ⌜ Board (now map) (beside (now image) (now log)) ⌝ }
+    ensures { λ r. ⌜ Works (now (map .entry)) (Spec.save s) (now (image .entry)) (now (log .entry)) r (now (image .exit)) (now (log .exit)) ⌝ }
+{
+    let went5 = s.push_reg(image, map, log, 5);
+    let Went::Done(s5) = went5 else {
+        return went5;
+    };
+    let went4 = s5.push_reg(image, map, log, 4);
+    let Went::Done(s4) = went4 else {
+        return went4;
+    };
+    let went3 = s4.push_reg(image, map, log, 3);
+    let Went::Done(s3) = went3 else {
+        return went3;
+    };
+    let went2 = s3.push_reg(image, map, log, 2);
+    let Went::Done(s2) = went2 else {
+        return went2;
+    };
+    let went1 = s2.push_reg(image, map, log, 1);
+    let Went::Done(s1) = went1 else {
+        return went1;
+    };
+    s1.push_reg(image, map, log, 0)
+}
+
+// SAVS: SAVE; ↓ SP, @SP ← (loc 2E); (loc 2E) ← (loc 2E) or MASK; IEN.
+fn savs(s: State, image: &mut [u8], map: &[u8], log: &mut [u16; 32]) -> Went
+    requires { ⌜ Board (now map) (beside (now image) (now log)) ⌝ }
+    ensures { λ r. ⌜ Works (now (map .entry)) (Spec.savs s) (now (image .entry)) (now (log .entry)) r (now (image .exit)) (now (log .exit)) ⌝ }
+{
+    let took = s.fetch(image, map);
+    let Took::Word(fetched, mask) = took else {
+        return untaken(took);
+    };
+    let went = save(fetched, image, map, log);
+    let Went::Done(saved) = went else {
+        return went;
+    };
+    let word = board::load(image, map, 0x2e);
+    let Word::Value(old) = word else {
+        return unread(word);
+    };
+    let went = saved.push(image, map, log, old);
+    let Went::Done(pushed) = went else {
+        return went;
+    };
+    let kept = board::store(image, map, log, 0x2e, old | mask);
+    let Kept::Done = kept else {
+        return unwritten(kept);
+    };
+    Went::Done(pushed.with_i2(true))
+}
+
+// REST: R0 to R5 are popped.
+fn rest(s: State, image: &[u8], map: &[u8]) -> Went
+    requires { ⌜ Lent (now map) (now image) ⌝ }
+    ensures { λ r. ⌜ Saw (now (map .entry)) (Spec.rest s) (now (image .entry)) (wentAs r) ⌝ }
+{
+    let went0 = s.pop_reg(image, map, 0);
+    let Went::Done(s0) = went0 else {
+        return went0;
+    };
+    let went1 = s0.pop_reg(image, map, 1);
+    let Went::Done(s1) = went1 else {
+        return went1;
+    };
+    let went2 = s1.pop_reg(image, map, 2);
+    let Went::Done(s2) = went2 else {
+        return went2;
+    };
+    let went3 = s2.pop_reg(image, map, 3);
+    let Went::Done(s3) = went3 else {
+        return went3;
+    };
+    let went4 = s3.pop_reg(image, map, 4);
+    let Went::Done(s4) = went4 else {
+        return went4;
+    };
+    s4.pop_reg(image, map, 5)
+}
+
+// RTT: PC ← @SP, SP ↑; PS ← @SP, SP ↑.
+fn rtt(s: State, image: &[u8], map: &[u8]) -> Went
+    requires { ⌜ Lent (now map) (now image) ⌝ }
+    ensures { λ r. ⌜ Saw (now (map .entry)) (Spec.rtt s) (now (image .entry)) (wentAs r) ⌝ }
+{
+    let went = s.pop_reg(image, map, 7);
+    let Went::Done(t) = went else {
+        return went;
+    };
+    t.pop_status(image, map)
+}
+
+// RRTN: REST; PC ← @SP, SP ↑.
+fn rrtn(s: State, image: &[u8], map: &[u8]) -> Went
+    requires { ⌜ Lent (now map) (now image) ⌝ }
+    ensures { λ r. ⌜ Saw (now (map .entry)) (Spec.rrtn s) (now (image .entry)) (wentAs r) ⌝ }
+{
+    let went = rest(s, image, map);
+    let Went::Done(t) = went else {
+        return went;
+    };
+    t.pop_reg(image, map, 7)
+}
+
+// RRTT: REST; RTT.
+fn rrtt(s: State, image: &[u8], map: &[u8]) -> Went
+    requires { ⌜ Lent (now map) (now image) ⌝ }
+    ensures { λ r. ⌜ Saw (now (map .entry)) (Spec.rrtt s) (now (image .entry)) (wentAs r) ⌝ }
+{
+    let went = rest(s, image, map);
+    let Went::Done(t) = went else {
+        return went;
+    };
+    rtt(t, image, map)
+}
+
+// RSTS: (loc 2E) ← @SP, SP ↑; REST; RTT.
+fn rsts(s: State, image: &mut [u8], map: &[u8], log: &mut [u16; 32]) -> Went
+    requires { ⌜ Board (now map) (beside (now image) (now log)) ⌝ }
+    ensures { λ r. ⌜ Works (now (map .entry)) (Spec.rsts s) (now (image .entry)) (now (log .entry)) r (now (image .exit)) (now (log .exit)) ⌝ }
+{
+    let took = s.pop(image, map);
+    let Took::Word(t, mask) = took else {
+        return untaken(took);
+    };
+    let kept = board::store(image, map, log, 0x2e, mask);
+    let Kept::Done = kept else {
+        return unwritten(kept);
+    };
+    rrtt(t, image, map)
+}
+
+// RSVC: REST; SP ↑, the saved SP is bypassed; RTT.
+fn rsvc(s: State, image: &[u8], map: &[u8]) -> Went
+    requires { ⌜ Lent (now map) (now image) ⌝ }
+    ensures { λ r. ⌜ Saw (now (map .entry)) (Spec.rsvc s) (now (image .entry)) (wentAs r) ⌝ }
+{
+    let went = rest(s, image, map);
+    let Went::Done(t) = went else {
+        return went;
+    };
+    rtt(t.with_sp(plus(t.regs.sp, 2)), image, map)
+}
+
+// Format 1 by its number.
+fn by_number(
+    s: State,
+    image: &mut [u8],
+    map: &[u8],
+    log: &mut [u16; 32],
+    out: Outside,
+    op: u16,
+) -> Went
+    requires { ⌜ Board (now map) (beside (now image) (now log)) ⌝ }
+    ensures { λ r. ⌜ Works (now (map .entry)) (Spec.format1 out s op) (now (image .entry)) (now (log .entry)) r (now (image .exit)) (now (log .exit)) ⌝ }
+{
+    match op {
+        0 => Went::Done(s),
+        1 => Went::Done(s),
+        2 => Went::Done(s.with_i2(true)),
+        3 => Went::Done(s.with_i2(false)),
+        4 => Went::Done(halt(s, out)),
+        5 => s.trap_now(image, map, log, out, 0x1e),
+        6 => bpt(s, image, map, log, out),
+        7 => Went::Done(wfi(s)),
+        8 => rsvc(s, image, map),
+        9 => rrtt(s, image, map),
+        10 => save(s, image, map, log),
+        11 => savs(s, image, map, log),
+        12 => rest(s, image, map),
+        13 => rrtn(s, image, map),
+        14 => rsts(s, image, map, log),
+        _ => rtt(s, image, map),
+    }
+}
+
+// SAVE, REST and RTT are told first. The rest is called from two places, which keeps it out of line.
+pub fn format1(
+    s: State,
+    image: &mut [u8],
+    map: &[u8],
+    log: &mut [u16; 32],
+    out: Outside,
+    op: u16,
+) -> Went
+    requires { ⌜ Board (now map) (beside (now image) (now log)) ⌝ }
+    ensures { λ r. ⌜ Works (now (map .entry)) (Spec.format1 out s op) (now (image .entry)) (now (log .entry)) r (now (image .exit)) (now (log .exit)) ⌝ }
+{
+    if op == 10 {
+        let t = s;
+        return state::apart(save(t, image, map, log));
+    }
+    if op == 12 {
+        return rest(s, image, map);
+    }
+    if op == 15 {
+        return rtt(s, image, map);
+    }
+    let t = s;
+    let o = out;
+    if op < 8 {
+        return state::apart(by_number(t, image, map, log, o, op));
+    }
+    state::apart(by_number(t, image, map, log, o, op))
+}

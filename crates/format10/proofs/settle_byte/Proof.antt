@@ -1,0 +1,52 @@
+use mathlib.Core.Path.{refl, sym, _∙_}
+use Rattle.board.specs.Laws.{got-give, did}
+use Rattle.format10.specs.Format10.{settleByte}
+use borrow.Author.Needs.{needs}
+use Rattle.format10.proofs.settle_byte.Statement.{statement}
+use Rattle.format10.proofs.settle_byte.Tie as tie
+
+move-byte-requires : tie.Need-move-byte-requires
+move-byte-requires c κs = c .before .before .before .before .before .before .pre
+
+write-byte-requires : tie.Need-write-byte-requires
+write-byte-requires c κs = c .before .before .before .before .before .before .pre
+
+returns : tie.Need-returns
+unfolding settleByte
+returns c =
+    rw (c .enum-told .given .1)
+    (did refl (c .before .before .before .before .pre)
+    (got-give refl))
+
+same-length : tie.Need-same-length
+same-length c = c .before .before .move-byte .ensures .board .lent .size ∙ sym (c .before .before .before .before .before .before .before .before .before .pre .lent .size)
+
+returns-2 : tie.Need-returns-2
+unfolding settleByte
+returns-2 c =
+    rw (c .before .before .before .before .before .enum-told2 .given .1)
+    (record { got = c .before .before .move-byte .ensures .got; board = c .before .before .move-byte .ensures .board })
+
+same-length-2 : tie.Need-same-length-2
+same-length-2 c = c .before .before .write-byte .ensures .board .lent .size ∙ sym (c .before .before .before .before .before .before .before .before .before .pre .lent .size)
+
+returns-3 : tie.Need-returns-3
+unfolding settleByte
+returns-3 c =
+    rw (c .before .before .before .before .before .enum-told3 .given .1)
+    (record { got = c .before .before .write-byte .ensures .got; board = c .before .before .write-byte .ensures .board })
+
+pub settle-byte-spec : {M : Type 1} → statement M
+settle-byte-spec =
+    tie.close
+    (tie.spec
+    (λ c. search needs)
+    (λ c. search needs)
+    move-byte-requires
+    (λ c. search needs)
+    write-byte-requires
+    returns
+    same-length
+    returns-2
+    same-length-2
+    returns-3)

@@ -1,0 +1,2 @@
+pub mod Format10
+pub mod Bounds

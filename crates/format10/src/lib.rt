@@ -1,0 +1,213 @@
+// Format 10: two operands.
+use board::Byte;
+use board::Word;
+use codes::Binary;
+use codes::ByteBinary;
+use operand::Found;
+use operand::Place;
+use operand::byte_step;
+use operand::locate;
+use operand::moved;
+use operand::read_byte;
+use operand::read_word;
+use operand::unfound;
+use state::State;
+use state::Went;
+use state::unread;
+use state::unread_byte;
+use word::address::minus;
+ghost use mathlib.Core.Path.{_≡_};
+ghost use Rattle.board.specs.Work.{word, byte};
+ghost use Rattle.board.specs.Exec.{beside, Lent, Board, Saw};
+ghost use Rattle.state.specs.Answer.{Works, wentAs};
+ghost use Prim.Native.Nat.{_%_};
+ghost use Rattle.format10.specs.Format10 as Spec;
+
+// The place of a word op code: ADD to XOR, CMP, BIT, MOV.
+fn binary_number(op: u16) -> u16
+    ensures { λ r. ⌜ r ≡ Spec.binaryNumber op ⌝ }
+{
+    if op < 0x8000 {
+        minus(op / 4096, 1)
+    } else {
+        minus(op / 4096, 3)
+    }
+}
+
+// CMP and BIT alter neither operand.
+fn stores(b: Binary) -> bool
+    ensures { λ r. ⌜ r ≡ Spec.stores b ⌝ }
+{
+    match b {
+        Binary::Add => true,
+        Binary::Sub => true,
+        Binary::And => true,
+        Binary::Bic => true,
+        Binary::Bis => true,
+        Binary::Xor => true,
+        Binary::Cmp => false,
+        Binary::Bit => false,
+        Binary::Mov => true,
+    }
+}
+
+fn settle(
+    s: State,
+    image: &mut [u8],
+    map: &[u8],
+    log: &mut [u16; 32],
+    b: Binary,
+    k: u16,
+    place: Place,
+    v: u16,
+) -> Went
+    requires { ⌜ Board (now map) (beside (now image) (now log)) ⌝ }
+    ensures { λ r. ⌜ Works (now (map .entry)) (Spec.settle b s k place v) (now (image .entry)) (now (log .entry)) r (now (image .exit)) (now (log .exit)) ⌝ }
+{
+    if stores(b) {
+        return operand::write_word(s, image, map, log, k, place, v);
+    }
+    Went::Done(s)
+}
+
+// The op code b on words.
+fn on_words(s: State, image: &mut [u8], map: &[u8], log: &mut [u16; 32], b: Binary, op: u16) -> Went
+    requires { ⌜ Board (now map) (beside (now image) (now log)) ⌝ }
+    ensures { λ r. ⌜ Works (now (map .entry)) (Spec.onWords b s op) (now (image .entry)) (now (log .entry)) r (now (image .exit)) (now (log .exit)) ⌝ }
+{
+    let from = op / 64 % 8;
+    let found = locate(image, map, 2, from, s.reg(from), s.regs.pc, op / 512 % 8);
+    let Found::At(source) = found else {
+        return unfound(found);
+    };
+    let t = moved(s, source);
+    let word = read_word(image, map, source, t.reg(from));
+    let Word::Value(x) = word else {
+        return unread(word);
+    };
+    let to = op % 8;
+    let found = locate(image, map, 2, to, t.reg(to), t.regs.pc, op / 8 % 8);
+    let Found::At(place) = found else {
+        return unfound(found);
+    };
+    let u = moved(t, place);
+    let word = read_word(image, map, place, u.reg(to));
+    let Word::Value(y) = word else {
+        return unread(word);
+    };
+    let done = arith::binary::binary(b, x, y, u.flags);
+    settle(
+        u.with_flags(done.flags),
+        image,
+        map,
+        log,
+        b,
+        to,
+        place,
+        done.value,
+    )
+}
+
+fn low(v: u16) -> u8
+    ensures { λ r. ⌜ r ≡ v % 256 ⌝ }
+{
+    (v % 256) as u8
+}
+
+// MOVB to a register extends the sign through bit 15.
+fn move_byte(
+    s: State,
+    image: &mut [u8],
+    map: &[u8],
+    log: &mut [u16; 32],
+    k: u16,
+    place: Place,
+    v: u16,
+) -> Went
+    requires { ⌜ Board (now map) (beside (now image) (now log)) ⌝ }
+    ensures { λ r. ⌜ Works (now (map .entry)) (Spec.moveByte s k place v) (now (image .entry)) (now (log .entry)) r (now (image .exit)) (now (log .exit)) ⌝ }
+{
+    match place {
+        Place::Reg => Went::Done(s.with_reg(k, arith::on_bytes::extend(low(v)))),
+        Place::Mem(_, _, _) => operand::write_byte(s, image, map, log, k, place, v),
+    }
+}
+
+fn settle_byte(
+    s: State,
+    image: &mut [u8],
+    map: &[u8],
+    log: &mut [u16; 32],
+    b: ByteBinary,
+    k: u16,
+    place: Place,
+    v: u16,
+) -> Went
+    requires { ⌜ Board (now map) (beside (now image) (now log)) ⌝ }
+    ensures { λ r. ⌜ Works (now (map .entry)) (Spec.settleByte b s k place v) (now (image .entry)) (now (log .entry)) r (now (image .exit)) (now (log .exit)) ⌝ }
+{
+    match b {
+        ByteBinary::Cmpb => Went::Done(s),
+        ByteBinary::Movb => move_byte(s, image, map, log, k, place, v),
+        ByteBinary::Bisb => operand::write_byte(s, image, map, log, k, place, v),
+    }
+}
+
+// The op code b on bytes.
+fn on_bytes(
+    s: State,
+    image: &mut [u8],
+    map: &[u8],
+    log: &mut [u16; 32],
+    b: ByteBinary,
+    op: u16,
+) -> Went
+    requires { ⌜ Board (now map) (beside (now image) (now log)) ⌝ }
+    ensures { λ r. ⌜ Works (now (map .entry)) (Spec.onBytes b s op) (now (image .entry)) (now (log .entry)) r (now (image .exit)) (now (log .exit)) ⌝ }
+{
+    let from = op / 64 % 8;
+    let step = byte_step(from);
+    let mode = op / 512 % 8;
+    let found = locate(image, map, step, from, s.reg(from), s.regs.pc, mode);
+    let Found::At(source) = found else {
+        return unfound(found);
+    };
+    let t = moved(s, source);
+    let byte = read_byte(image, map, source, t.reg(from));
+    let Byte::Value(x) = byte else {
+        return unread_byte(byte);
+    };
+    let to = op % 8;
+    let step = byte_step(to);
+    let mode = op / 8 % 8;
+    let found = locate(image, map, step, to, t.reg(to), t.regs.pc, mode);
+    let Found::At(place) = found else {
+        return unfound(found);
+    };
+    let u = moved(t, place);
+    let byte = read_byte(image, map, place, u.reg(to));
+    let Byte::Value(y) = byte else {
+        return unread_byte(byte);
+    };
+    let done = arith::binary::byte_binary(b, x, y, u.flags);
+    let w = u.with_flags(done.flags);
+    settle_byte(w, image, map, log, b, to, place, done.value)
+}
+
+// CMPB C000, MOVB D000, BISB E000 on bytes, the others on words.
+pub fn format10(s: State, image: &mut [u8], map: &[u8], log: &mut [u16; 32], op: u16) -> Went
+    requires { ⌜ Board (now map) (beside (now image) (now log)) ⌝ }
+    ensures { λ r. ⌜ Works (now (map .entry)) (Spec.format10 s op) (now (image .entry)) (now (log .entry)) r (now (image .exit)) (now (log .exit)) ⌝ }
+{
+    if op < 0xc000 {
+        return on_words(s, image, map, log, codes::binary_at(binary_number(op)), op);
+    }
+    on_bytes(
+        s,
+        image,
+        map,
+        log,
+        codes::byte_binary_at(minus(op / 4096, 12)),
+        op,
+    )
+}

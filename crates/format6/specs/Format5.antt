@@ -1,0 +1,21 @@
+-- Format 5, 0100 to 07FF and 8000 to 87FF: the branches.
+use mathlib.Core.Bool.{cond}
+use Prim.Native.Nat.{ℕ, _+_, _*_, _/_, _%_}
+use lib.Dec.{ltb}
+use Rattle.arith.specs.Branch.{condition}
+use Rattle.codes.specs.Codes.{branchAt}
+use Rattle.state.specs.declared.State.{State}
+use Rattle.state.specs.State.{withPc}
+use Rattle.word.specs.Address.{plus}
+
+-- DISP * 2: the displacement is a signed byte
+abbrev pub displacement : ℕ → ℕ
+displacement op = cond (ltb (op % 256) 128) (op % 256 * 2) (op % 256 * 2 + 65024)
+
+-- BR to BLE are 1 to 7, BPL to BCS 8 to 15
+abbrev pub branchNumber : ℕ → ℕ
+branchNumber op = op / 256 % 8 + op / 32768 * 8
+
+-- IF the condition holds, PC ← PC + (DISP * 2)
+unfoldable pub branch : State → ℕ → State
+branch s op = cond (condition (branchAt (branchNumber op)) (s .flags)) (withPc s (plus (s .regs .pc) (displacement op))) s

@@ -1,0 +1,2 @@
+pub mod Format5
+pub mod Format6

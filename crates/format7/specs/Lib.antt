@@ -1,0 +1,2 @@
+pub mod Format7
+pub mod Bounds

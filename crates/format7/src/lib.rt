@@ -1,0 +1,303 @@
+// Format 7: one operand.
+use board::Byte;
+use board::Word;
+use operand::Found;
+use operand::Held;
+use operand::Place;
+use operand::byte_step;
+use operand::destination::destination_word;
+use operand::destination::unheld;
+use operand::locate;
+use operand::moved;
+use operand::read_byte;
+use operand::read_word;
+use operand::unfound;
+use state::Outside;
+use state::State;
+use state::Went;
+use state::unread;
+use state::unread_byte;
+use word::Done;
+use word::Flags;
+use word::address::plus;
+ghost use mathlib.Core.Path.{_≡_};
+ghost use Rattle.board.specs.Work.{word, byte};
+ghost use Rattle.board.specs.Exec.{beside, Lent, Board, Saw};
+ghost use Rattle.state.specs.Answer.{Works, wentAs};
+ghost use Rattle.format7.specs.Format7 as Spec;
+
+// The place of an op code among the 16 from 0A00, and among those from 8A00.
+fn place_of(op: u16) -> u16
+    ensures { λ r. ⌜ r ≡ Spec.placeOf op ⌝ }
+{
+    (op / 64 + 24) % 64
+}
+
+// IW2, SXT, ADC, SBC.
+fn further_word(op: u16, at: u16, d: u16, f: Flags) -> Done
+    ensures { λ r. ⌜ r ≡ Spec.furtherOf op at d f ⌝ }
+{
+    if op < 0x8000 {
+        if at == 12 {
+            unary::on_words::iw2(d)
+        } else {
+            unary::on_words::sxt(f)
+        }
+    } else {
+        if at == 14 {
+            unary::on_words::adc(d, f)
+        } else {
+            unary::on_words::sbc(d, f)
+        }
+    }
+}
+
+fn word_result(op: u16, at: u16, d: u16, f: Flags) -> Done
+    ensures { λ r. ⌜ r ≡ Spec.wordOf op at d f ⌝ }
+{
+    if at < 12 {
+        return unary::by_code::unary16(codes::unary_at(at), op / 8 % 8 == 0, d, f);
+    }
+    further_word(op, at, d, f)
+}
+
+fn byte_result(op: u16, at: u16, d: u8, f: Flags) -> Done
+    ensures { λ r. ⌜ r ≡ Spec.byteOf op at d f ⌝ }
+{
+    unary::by_code::unary8(codes::unary_at(at), op / 8 % 8 == 0, d, f)
+}
+
+fn stored_word(
+    s: State,
+    image: &mut [u8],
+    map: &[u8],
+    log: &mut [u16; 32],
+    op: u16,
+    at: u16,
+    place: Place,
+    v: u16,
+) -> Went
+    requires { ⌜ Board (now map) (beside (now image) (now log)) ⌝ }
+    ensures { λ r. ⌜ Works (now (map .entry)) (Spec.stored word op at s place v) (now (image .entry)) (now (log .entry)) r (now (image .exit)) (now (log .exit)) ⌝ }
+{
+    if at == 2 {
+        return Went::Done(s);
+    }
+    operand::write_word(s, image, map, log, op % 8, place, v)
+}
+
+fn stored_byte(
+    s: State,
+    image: &mut [u8],
+    map: &[u8],
+    log: &mut [u16; 32],
+    op: u16,
+    at: u16,
+    place: Place,
+    v: u16,
+) -> Went
+    requires { ⌜ Board (now map) (beside (now image) (now log)) ⌝ }
+    ensures { λ r. ⌜ Works (now (map .entry)) (Spec.stored byte op at s place v) (now (image .entry)) (now (log .entry)) r (now (image .exit)) (now (log .exit)) ⌝ }
+{
+    if at == 2 {
+        return Went::Done(s);
+    }
+    operand::write_byte(s, image, map, log, op % 8, place, v)
+}
+
+// ROR to DEC, IW2, SXT, ADC, SBC.
+fn modify_word(
+    s: State,
+    image: &mut [u8],
+    map: &[u8],
+    log: &mut [u16; 32],
+    op: u16,
+    at: u16,
+) -> Went
+    requires { ⌜ Board (now map) (beside (now image) (now log)) ⌝ }
+    ensures { λ r. ⌜ Works (now (map .entry)) (Spec.modify word s op at) (now (image .entry)) (now (log .entry)) r (now (image .exit)) (now (log .exit)) ⌝ }
+{
+    let k = op % 8;
+    let found = locate(image, map, 2, k, s.reg(k), s.regs.pc, op / 8 % 8);
+    let Found::At(place) = found else {
+        return unfound(found);
+    };
+    let t = moved(s, place);
+    let got = read_word(image, map, place, t.reg(k));
+    let Word::Value(d) = got else {
+        return unread(got);
+    };
+    let done = word_result(op, at, d, t.flags);
+    stored_word(
+        t.with_flags(done.flags),
+        image,
+        map,
+        log,
+        op,
+        at,
+        place,
+        done.value,
+    )
+}
+
+// RORB to DECB, SWAD.
+fn modify_byte(
+    s: State,
+    image: &mut [u8],
+    map: &[u8],
+    log: &mut [u16; 32],
+    op: u16,
+    at: u16,
+) -> Went
+    requires { ⌜ Board (now map) (beside (now image) (now log)) ⌝ }
+    ensures { λ r. ⌜ Works (now (map .entry)) (Spec.modify byte s op at) (now (image .entry)) (now (log .entry)) r (now (image .exit)) (now (log .exit)) ⌝ }
+{
+    let k = op % 8;
+    let found = locate(image, map, byte_step(k), k, s.reg(k), s.regs.pc, op / 8 % 8);
+    let Found::At(place) = found else {
+        return unfound(found);
+    };
+    let t = moved(s, place);
+    let got = read_byte(image, map, place, t.reg(k));
+    let Byte::Value(d) = got else {
+        return unread_byte(got);
+    };
+    let done = byte_result(op, at, d, t.flags);
+    stored_byte(
+        t.with_flags(done.flags),
+        image,
+        map,
+        log,
+        op,
+        at,
+        place,
+        done.value,
+    )
+}
+
+// TCALL: ↓ SP, @SP ← PC; PC ← PC + (DST); PC ← PC + @PC.
+fn tcall(s: State, image: &mut [u8], map: &[u8], log: &mut [u16; 32], op: u16) -> Went
+    requires { ⌜ Board (now map) (beside (now image) (now log)) ⌝ }
+    ensures { λ r. ⌜ Works (now (map .entry)) (Spec.tcall s op) (now (image .entry)) (now (log .entry)) r (now (image .exit)) (now (log .exit)) ⌝ }
+{
+    let held = destination_word(s, image, map, op);
+    let Held::At(t, _, d) = held else {
+        return unheld(held);
+    };
+    let went = t.push(image, map, log, t.regs.pc);
+    let Went::Done(u) = went else {
+        return went;
+    };
+    u.tabled(image, map, plus(u.regs.pc, d))
+}
+
+// TJMP: PC ← PC + (DST); PC ← PC + @PC.
+fn tjmp(s: State, image: &[u8], map: &[u8], op: u16) -> Went
+    requires { ⌜ Lent (now map) (now image) ⌝ }
+    ensures { λ r. ⌜ Saw (now (map .entry)) (Spec.tjmp s op) (now (image .entry)) (wentAs r) ⌝ }
+{
+    let held = destination_word(s, image, map, op);
+    let Held::At(t, _, d) = held else {
+        return unheld(held);
+    };
+    t.tabled(image, map, plus(t.regs.pc, d))
+}
+
+// LSTS: the indicators and I2 are loaded from (DST).
+fn lsts(s: State, image: &[u8], map: &[u8], op: u16) -> Went
+    requires { ⌜ Lent (now map) (now image) ⌝ }
+    ensures { λ r. ⌜ Saw (now (map .entry)) (Spec.lsts s op) (now (image .entry)) (wentAs r) ⌝ }
+{
+    let held = destination_word(s, image, map, op);
+    let Held::At(t, _, d) = held else {
+        return unheld(held);
+    };
+    Went::Done(t.with_status(d))
+}
+
+// SSTS: the PS is formed and stored in (DST).
+fn ssts(s: State, image: &mut [u8], map: &[u8], log: &mut [u16; 32], out: Outside, op: u16) -> Went
+    requires { ⌜ Board (now map) (beside (now image) (now log)) ⌝ }
+    ensures { λ r. ⌜ Works (now (map .entry)) (Spec.ssts out s op) (now (image .entry)) (now (log .entry)) r (now (image .exit)) (now (log .exit)) ⌝ }
+{
+    let held = destination_word(s, image, map, op);
+    let Held::At(t, place, _) = held else {
+        return unheld(held);
+    };
+    operand::write_word(t, image, map, log, op % 8, place, t.ps(out, false))
+}
+
+// 0A00 to 0D7F, and 8D80, 8DC0.
+fn on_word(op: u16, at: u16) -> bool
+    ensures { λ r. ⌜ r ≡ Spec.onWord op at ⌝ }
+{
+    if op < 0x8000 { at < 14 } else { 13 < at }
+}
+
+// 8D00 LSTS, 8D40 SSTS.
+fn status_code(
+    s: State,
+    image: &mut [u8],
+    map: &[u8],
+    log: &mut [u16; 32],
+    out: Outside,
+    op: u16,
+    at: u16,
+) -> Went
+    requires { ⌜ Board (now map) (beside (now image) (now log)) ⌝ }
+    ensures { λ r. ⌜ Works (now (map .entry)) (Spec.statusCode out s op at) (now (image .entry)) (now (log .entry)) r (now (image .exit)) (now (log .exit)) ⌝ }
+{
+    if at == 12 {
+        return lsts(s, image, map, op);
+    }
+    ssts(s, image, map, log, out, op)
+}
+
+// TCALL, TJMP, LSTS, SSTS.
+fn no_result(
+    s: State,
+    image: &mut [u8],
+    map: &[u8],
+    log: &mut [u16; 32],
+    out: Outside,
+    op: u16,
+    at: u16,
+) -> Went
+    requires { ⌜ Board (now map) (beside (now image) (now log)) ⌝ }
+    ensures { λ r. ⌜ Works (now (map .entry)) (Spec.noResult out s op at) (now (image .entry)) (now (log .entry)) r (now (image .exit)) (now (log .exit)) ⌝ }
+{
+    if op >= 0x8000 {
+        return status_code(s, image, map, log, out, op, at);
+    }
+    if at == 14 {
+        return tcall(s, image, map, log, op);
+    }
+    tjmp(s, image, map, op)
+}
+
+// What modifies its operand is told first. The rest is called from two places, which keeps it out of line.
+pub fn format7(
+    s: State,
+    image: &mut [u8],
+    map: &[u8],
+    log: &mut [u16; 32],
+    out: Outside,
+    op: u16,
+) -> Went
+    requires { ⌜ Board (now map) (beside (now image) (now log)) ⌝ }
+    ensures { λ r. ⌜ Works (now (map .entry)) (Spec.format7 out s op) (now (image .entry)) (now (log .entry)) r (now (image .exit)) (now (log .exit)) ⌝ }
+{
+    let at = place_of(op);
+    if on_word(op, at) {
+        return modify_word(s, image, map, log, op, at);
+    }
+    if at < 12 {
+        return modify_byte(s, image, map, log, op, at);
+    }
+    let t = s;
+    let o = out;
+    if op < 0x8000 {
+        return state::apart(no_result(t, image, map, log, o, op, at));
+    }
+    state::apart(no_result(t, image, map, log, o, op, at))
+}

@@ -1,0 +1,2 @@
+pub mod Format9
+pub mod Bounds

@@ -1,0 +1,70 @@
+// A decoded operand and its value, for the op codes that read one.
+use super::Found;
+use super::Held;
+use super::byte_step;
+use super::locate;
+use super::moved;
+use super::read_byte;
+use super::read_word;
+use board::Byte;
+use board::Word;
+use state::State;
+use state::Went;
+ghost use mathlib.Core.Path.{_≡_};
+ghost use Rattle.board.specs.Work.{word, byte};
+ghost use Rattle.board.specs.Exec.{beside, Lent, Board, Saw};
+ghost use Rattle.state.specs.Answer.{Works, wentAs};
+ghost use Rattle.operand.specs.Destination as Spec;
+ghost use Rattle.operand.specs.Destination.{heldAs};
+
+pub fn unheld(held: Held) -> Went
+    ensures { λ r. ⌜ r ≡ Spec.unheld held ⌝ }
+{
+    match held {
+        Held::At(_, _, _) => Went::Blank(0),
+        Held::Blank(a) => Went::Blank(a),
+    }
+}
+
+fn nowhere(found: Found) -> Held
+    ensures { λ r. ⌜ r ≡ Spec.nowhere found ⌝ }
+{
+    match found {
+        Found::At(_) => Held::Blank(0),
+        Found::Blank(a) => Held::Blank(a),
+    }
+}
+
+// DST of a word op code, decoded and read.
+pub fn destination_word(s: State, image: &[u8], map: &[u8], op: u16) -> Held
+    requires { ⌜ Lent (now map) (now image) ⌝ }
+    ensures { λ r. ⌜ Saw (now (map .entry)) (Spec.destination word s op) (now (image .entry)) (heldAs r) ⌝ }
+{
+    let k = op % 8;
+    let found = locate(image, map, 2, k, s.reg(k), s.regs.pc, op / 8 % 8);
+    let Found::At(to) = found else {
+        return nowhere(found);
+    };
+    let t = moved(s, to);
+    match read_word(image, map, to, t.reg(k)) {
+        Word::Value(v) => Held::At(t, to, v),
+        Word::Blank(a) => Held::Blank(a),
+    }
+}
+
+// DST of a byte op code, decoded and read.
+pub fn destination_byte(s: State, image: &[u8], map: &[u8], op: u16) -> Held
+    requires { ⌜ Lent (now map) (now image) ⌝ }
+    ensures { λ r. ⌜ Saw (now (map .entry)) (Spec.destination byte s op) (now (image .entry)) (heldAs r) ⌝ }
+{
+    let k = op % 8;
+    let found = locate(image, map, byte_step(k), k, s.reg(k), s.regs.pc, op / 8 % 8);
+    let Found::At(to) = found else {
+        return nowhere(found);
+    };
+    let t = moved(s, to);
+    match read_byte(image, map, to, t.reg(k)) {
+        Byte::Value(v) => Held::At(t, to, v as u16),
+        Byte::Blank(a) => Held::Blank(a),
+    }
+}

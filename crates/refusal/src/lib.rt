@@ -1,0 +1,93 @@
+// The refusals 1 to 5 of what the processor is lent, and 0 for none.
+ghost use mathlib.Core.Path.{_≡_};
+ghost use lib.ListN.{length};
+ghost use Rattle.refusal.specs.Refusal as Spec;
+
+fn flat(b: u8) -> bool
+    ensures { λ r. ⌜ r ≡ Spec.flat b ⌝ }
+{
+    b < 2
+}
+
+// Bits 2, 4 to 6 and 12 to 15 of a line word are not used.
+pub fn plain(line: u16) -> bool
+    ensures { λ r. ⌜ r ≡ Spec.plain line ⌝ }
+{
+    line / 4 % 2 + line / 16 % 8 + line / 4096 == 0
+}
+
+fn all_flat(map: &[u8]) -> bool
+    ensures { λ r. ⌜ r ≡ Spec.allOf Spec.flat (now (map .entry)) ⌝ }
+{
+    let mut i: usize = 0;
+    while i < map.len() {
+        if flat(map[i]) {
+            i += 1;
+        } else {
+            return false;
+        }
+    }
+    true
+}
+
+fn all_plain(lines: &[u16]) -> bool
+    ensures { λ r. ⌜ r ≡ Spec.allOf Spec.plain (now (lines .entry)) ⌝ }
+{
+    let mut i: usize = 0;
+    while i < lines.len() {
+        if plain(lines[i]) {
+            i += 1;
+        } else {
+            return false;
+        }
+    }
+    true
+}
+
+// 1, 2 or 3.
+pub fn board_refusal(size: usize, map: &[u8]) -> u8
+    ensures { λ r. ⌜ r ≡ Spec.boardRefusal size (now (map .entry)) ⌝ }
+{
+    if size != 65536 {
+        return 1;
+    }
+    if map.len() != 256 {
+        return 2;
+    }
+    if !all_flat(map) {
+        return 3;
+    }
+    0
+}
+
+fn lines_refusal(lines: &[u16]) -> u8
+    ensures { λ r. ⌜ r ≡ Spec.linesRefusal (now (lines .entry)) ⌝ }
+{
+    if 4096 < lines.len() {
+        return 4;
+    }
+    if !all_plain(lines) {
+        return 5;
+    }
+    0
+}
+
+pub fn step_refusal(size: usize, map: &[u8], line: u16) -> u8
+    ensures { λ r. ⌜ r ≡ Spec.stepRefusal size (now (map .entry)) line ⌝ }
+{
+    let why = board_refusal(size, map);
+    if why != 0 {
+        return why;
+    }
+    if plain(line) { 0 } else { 5 }
+}
+
+pub fn run_refusal(size: usize, map: &[u8], lines: &[u16]) -> u8
+    ensures { λ r. ⌜ r ≡ Spec.runRefusal size (now (map .entry)) (now (lines .entry)) ⌝ }
+{
+    let why = board_refusal(size, map);
+    if why != 0 {
+        return why;
+    }
+    lines_refusal(lines)
+}

@@ -1,3 +1,0 @@
-pub mod Digit
-pub mod Turns
-pub mod Product
