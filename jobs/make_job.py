@@ -1,31 +1,53 @@
 #!/usr/bin/env python3
-"""Makes a job's bytes from readable text: make_job.py [TEXT] > JOB   (without TEXT, from standard input)
+"""Makes a job's bytes from readable text: make_job.py [TEXT] > JOB   (without TEXT, or with -, from standard input)
 
-Lines of the text, all numbers hex but a count after x:
+Lines of the text, all numbers hex but a count after x or cut:
     pages 00 04 10-1F     fitted pages; a range stands for each page of it
     0080 = 09BF B7C0      words at 0080, 0082, ..
     lines 0000 x12 0008   line words; x12 repeats the one before, so that there are 12
     bytes 00 FF           bytes after the last section, for a job that is to be refused
     cut 3                 leaves out the last 3 bytes, for the same
 A # starts a comment. Sections are written in the order of the format, entries in the order of the text.
-Nothing is checked that the job reader checks: a text can say what is to be refused.
+Nothing is checked that the job reader checks: a text can say what is to be refused. A repeat is of 4,096 at most, and a
+section has 65,535 entries at most, since its count has two bytes.
+
+Status: 0 made; 1 the text is refused, in words, with its line, and nothing is written; 2 wrong use.
 """
+import os
+import re
 import sys
+
+MOST_REPEATED = 4096
+MOST_ENTRIES = 0xFFFF
 
 
 class TextError(Exception):
-    """A line that is no line of a job's text."""
+    """A text that is no job's text."""
 
 
 def number(word, most):
     """A hex number of at most `most`."""
-    try:
-        value = int(word, 16)
-    except ValueError:
-        raise TextError(f"{word!r} is not a hex number") from None
-    if not 0 <= value <= most:
+    if not re.fullmatch("[0-9A-Fa-f]+", word):
+        raise TextError(f"{word!r} is not a hex number")
+    value = int(word, 16)
+    if value > most:
         raise TextError(f"{word!r} is over {most:X}")
     return value
+
+
+def count(word):
+    """A decimal count; one of more digits than any job's length has is over all that is asked for."""
+    if not re.fullmatch("[0-9]+", word):
+        raise TextError(f"{word!r} is not a count")
+    digits = word.lstrip("0") or "0"
+    return int(digits) if len(digits) < 10 else sys.maxsize
+
+
+def counted(entries):
+    """The entries of a section, which are not more than its count can say."""
+    if len(entries) > MOST_ENTRIES:
+        raise TextError(f"more than {MOST_ENTRIES} entries in a section")
+    return entries
 
 
 def pages_of(words):
@@ -33,8 +55,13 @@ def pages_of(words):
     pages = []
     for word in words:
         first, dash, last = word.partition("-")
+        if dash and not (first and last):
+            raise TextError(f"{word!r} is no range")
         start = number(first, 0xFF)
-        pages.extend(range(start, (number(last, 0xFF) if dash else start) + 1))
+        end = number(last, 0xFF) if dash else start
+        if end < start:
+            raise TextError(f"{word!r} is a falling range")
+        pages.extend(range(start, end + 1))
     return pages
 
 
@@ -42,70 +69,145 @@ def lines_of(words):
     """Line words, with repeats written out."""
     lines = []
     for word in words:
-        if word[0] == "x":
-            if not lines or not word[1:].isdecimal() or int(word[1:]) < 1:
-                raise TextError(f"{word!r} repeats nothing")
-            lines.extend(lines[-1:] * (int(word[1:]) - 1))
-        else:
+        if word[0] != "x":
             lines.append(number(word, 0xFFFF))
+            continue
+        times = count(word[1:])
+        if not lines or times < 1:
+            raise TextError(f"{word!r} repeats nothing")
+        if times > MOST_REPEATED:
+            raise TextError(f"{word!r} repeats more than {MOST_REPEATED} times")
+        lines.extend(lines[-1:] * (times - 1))
+        counted(lines)
     return lines
 
 
-def entries_of(left, words):
+def entries_of(words):
     """Addresses and words of a line ADDRESS = WORD WORD .."""
-    if len(left) != 1 or not words:
+    if words[1] != "=" or len(words) < 3:
         raise TextError("one address, =, and words")
-    start = number(left[0], 0xFFFF)
-    return [((start + 2 * k) % 0x10000, number(word, 0xFFFF)) for k, word in enumerate(words)]
+    start = number(words[0], 0xFFFF)
+    return [((start + 2 * k) % 0x10000, number(word, 0xFFFF)) for k, word in enumerate(words[2:])]
 
 
 def two(value):
     """Two bytes, low first."""
-    return (value % 0x10000).to_bytes(2, "little")
+    return value.to_bytes(2, "little")
+
+
+class Job:
+    """What the lines of a text come to."""
+
+    def __init__(self):
+        self.pages, self.entries, self.lines, self.rest, self.cuts = [], [], [], b"", []
+
+    def take(self, at, words):
+        """Adds what one line says."""
+        if words[0] == "pages":
+            self.pages = counted(self.pages + pages_of(words[1:]))
+        elif words[0] == "lines":
+            self.lines = counted(self.lines + lines_of(words[1:]))
+        elif words[0] == "bytes":
+            self.rest += bytes(number(word, 0xFF) for word in words[1:])
+        elif words[0] == "cut":
+            if len(words) != 2:
+                raise TextError("cut, and one count")
+            self.cuts.append((at, count(words[1])))
+        elif "=" in words[1:]:
+            self.entries = counted(self.entries + entries_of(words))
+        else:
+            raise TextError(f"no line begins {words[0]!r}")
+
+    def whole(self):
+        """The job's bytes before a cut."""
+        job = two(len(self.pages)) + bytes(self.pages)
+        job += two(len(self.entries)) + b"".join(two(address) + two(word) for address, word in self.entries)
+        return job + two(len(self.lines)) + b"".join(two(word) for word in self.lines) + self.rest
+
+    def bytes(self):
+        """The job's bytes."""
+        job = self.whole()
+        for at, less in self.cuts:
+            if less > len(job):
+                raise TextError(f"line {at}: a cut past the end: {len(job)} bytes are left")
+            job = job[: len(job) - less]
+        return job
+
+
+def text_of(source):
+    """The text of a file's bytes."""
+    try:
+        text = source.decode("utf-8-sig")
+    except UnicodeDecodeError as why:
+        at = len(lines_in(source[: why.start].decode("utf-8-sig")))
+        raise TextError(f"line {at}: no text: byte {source[why.start]:02X} is not UTF-8") from None
+    if "\0" in text:
+        raise TextError(f"line {len(lines_in(text.partition(chr(0))[0]))}: no text: a byte is 00")
+    return text
+
+
+def lines_in(text):
+    """The lines of a text, as editors count them."""
+    return re.split("\r\n|\r|\n", text)
 
 
 def job_of(text):
     """The job's bytes."""
-    pages, entries, lines, rest, cut = [], [], [], b"", 0
-    for at, line in enumerate(text.splitlines(), 1):
-        words = line.partition("#")[0].replace("=", " = ").split()
-        if not words:
-            continue
+    job = Job()
+    for at, line in enumerate(lines_in(text), 1):
+        words = re.findall("[^ \t\f\v]+", line.partition("#")[0].replace("=", " = "))
         try:
-            if words[0] == "pages":
-                pages += pages_of(words[1:])
-            elif words[0] == "lines":
-                lines += lines_of(words[1:])
-            elif words[0] == "bytes":
-                rest += bytes(number(word, 0xFF) for word in words[1:])
-            elif words[0] == "cut" and len(words) == 2 and words[1].isdecimal():
-                cut += int(words[1])
-            elif "=" in words:
-                sign = words.index("=")
-                entries += entries_of(words[:sign], words[sign + 1 :])
-            else:
-                raise TextError(f"no line begins {words[0]!r}")
+            if words:
+                job.take(at, words)
         except TextError as why:
             raise TextError(f"line {at}: {why}") from None
-    job = two(len(pages)) + bytes(pages)
-    job += two(len(entries)) + b"".join(two(address) + two(word) for address, word in entries)
-    job += two(len(lines)) + b"".join(two(word) for word in lines) + rest
-    return job[: len(job) - cut] if cut else job
+    return job.bytes()
+
+
+def stop(status, message):
+    """Ends with a message."""
+    print(f"make_job.py: {message}", file=sys.stderr)
+    sys.exit(status)
+
+
+def named(arguments):
+    """The name of the text, or - for standard input."""
+    options = arguments[: arguments.index("--")] if "--" in arguments else arguments
+    if "-h" in options or "--help" in options:
+        print(__doc__, end="")
+        sys.exit(0)
+    for word in options:
+        if word.startswith("-") and word != "-":
+            stop(2, f"there is no option {word}; make_job.py --help tells more")
+    names = options + arguments[len(options) + 1 :]
+    if len(names) > 1:
+        stop(2, "one text at a time; make_job.py --help tells more")
+    return names[0] if names else "-"
+
+
+def read(name):
+    """The bytes of a file, or of standard input."""
+    if name == "-":
+        return sys.stdin.buffer.read()
+    with open(name, "rb") as source:
+        return source.read()
 
 
 def main(arguments):
     """Text in, bytes out."""
-    if len(arguments) > 1:
-        sys.exit(__doc__)
+    name = named(arguments)
     try:
-        if arguments:
-            with open(arguments[0], encoding="utf-8") as source:
-                text = source.read()
-        else:
-            text = sys.stdin.read()
-        sys.stdout.buffer.write(job_of(text))
-    except (OSError, TextError) as why:
-        sys.exit(f"make_job.py: {why}")
+        job = job_of(text_of(read(name)))
+    except OSError as why:
+        stop(2, why)
+    except TextError as why:
+        stop(1, why if name == "-" else f"{name}, {why}")
+    try:
+        sys.stdout.buffer.write(job)
+        sys.stdout.flush()
+    except BrokenPipeError:
+        # Who reads the job has seen enough of it to refuse it.
+        os.dup2(os.open(os.devnull, os.O_WRONLY), sys.stdout.fileno())
 
 
 if __name__ == "__main__":

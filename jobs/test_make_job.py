@@ -3,11 +3,13 @@
 import pathlib
 import subprocess
 import sys
+import tempfile
 import unittest
 
 HERE = pathlib.Path(__file__).resolve().parent
 sys.path.insert(0, str(HERE))
-from make_job import TextError, job_of  # noqa: E402
+import make_job  # noqa: E402
+from make_job import TextError, job_of, text_of  # noqa: E402
 
 
 class Bytes(unittest.TestCase):
@@ -39,14 +41,134 @@ class Bytes(unittest.TestCase):
     def test_addresses_go_round(self):
         self.assertEqual(job_of("FFFE = 1 2"), bytes.fromhex("0000 0200 FEFF0100 00000200 0000"))
 
-    def test_what_is_no_text(self):
-        for text in ("pages 100", "page 00", "lines x3", "lines 0000 x0", "0080 =", "= 1", "1 2 = 3", "10000 = 0", "lines G"):
-            with self.subTest(text), self.assertRaisesRegex(TextError, "line 1: "):
-                job_of(text)
+    def test_line_ends_of_other_machines(self):
+        for end in ("\n", "\r\n", "\r"):
+            self.assertEqual(job_of(end.join(("pages 07", "lines 1", ""))), bytes.fromhex("0100 07 0000 0100 0100"))
 
-    def test_as_a_command(self):
-        run = subprocess.run([sys.executable, HERE / "make_job.py"], input=b"pages 07\n", capture_output=True, check=True)
-        self.assertEqual(run.stdout, bytes.fromhex("0100 07 0000 0000"))
+    def test_a_mark_of_byte_order_is_no_word(self):
+        self.assertEqual(text_of(b"\xef\xbb\xbfpages 07"), "pages 07")
+
+    def test_as_many_as_a_count_can_say(self):
+        self.assertEqual(job_of("lines 0000 x4096")[4:], bytes.fromhex("0010") + bytes(2 * 4096))
+        most = job_of("lines 0000 x4096\n" * 15 + "lines 0000 x4095\n")
+        self.assertEqual(most[4:], bytes.fromhex("FFFF") + bytes(2 * 65535))
+
+    def test_all_can_be_cut(self):
+        self.assertEqual(job_of("pages 07\ncut 7"), b"")
+        self.assertEqual(job_of("cut 2\ncut 3\npages 07"), bytes.fromhex("0100"))
+
+
+class Refused(unittest.TestCase):
+    """What is no text of a job: the line, and the words that it is refused with."""
+
+    def refused(self, text, words):
+        with self.subTest(text[:40]), self.assertRaises(TextError) as why:
+            job_of(text)
+        self.assertEqual(str(why.exception), words)
+
+    def test_no_line_of_a_job(self):
+        self.refused("page 00", "line 1: no line begins 'page'")
+        self.refused("# a comment\n\npages 00 # more\n\tpage 00", "line 4: no line begins 'page'")
+        for text in ("0080 =", "1 2 = 3", "1 2 = 3 = 4"):
+            self.refused(text, "line 1: one address, =, and words")
+        self.refused("= 1", "line 1: no line begins '='")
+
+    def test_numbers(self):
+        self.refused("pages 100", "line 1: '100' is over FF")
+        self.refused("10000 = 0", "line 1: '10000' is over FFFF")
+        for word in ("G", "+1", "-1", "1_0", "0x10", "\u0661", "\uff11", "1\xa02", "\xb2"):
+            for line in ("lines {}", "{} = 1", "1 = {}", "bytes {}"):
+                self.refused(line.format(word), f"line 1: {word!r} is not a hex number")
+        for word in ("+1", "1_0", "\u0661", "\uff11"):
+            self.refused(f"pages {word}", f"line 1: {word!r} is not a hex number")
+
+    def test_ranges(self):
+        self.refused("pages 00\npages 1F-10", "line 2: '1F-10' is a falling range")
+        self.refused("pages 10-100", "line 1: '100' is over FF")
+        for word in ("10-", "-10", "-"):
+            self.refused(f"pages {word}", f"line 1: {word!r} is no range")
+        self.refused("pages 10--1F", "line 1: '-1F' is not a hex number")
+
+    def test_repeats(self):
+        for word in ("x0", "x00"):
+            self.refused(f"lines 0000 {word}", f"line 1: {word!r} repeats nothing")
+        self.refused("lines 0000\nlines x3", "line 2: 'x3' repeats nothing")
+        for word in ("x4097", "x65536", "x" + "9" * 5000):
+            self.refused(f"lines 0000 {word}", f"line 1: {word!r} repeats more than 4096 times")
+        for word in ("", "+1", "-1", "1_0", "\u0661", "\uff11", "\xb2", "0A"):
+            self.refused(f"lines 0000 x{word}", f"line 1: {word!r} is not a count")
+
+    def test_counts_that_wrap(self):
+        words = "line 17: more than 65535 entries in a section"
+        self.refused("lines 0000 x4096\n" * 17, words.replace("17", "16"))
+        self.refused("lines 0000 x4096\n" * 15 + "lines 0000 x4095\nlines 0000", words)
+        self.refused("lines 0000" + " x4096" * 17, words.replace("17", "1"))
+        self.refused("pages 00-FF\n" * 257, words.replace("17", "256"))
+        self.refused(("0000 =" + " 1" * 4096 + "\n") * 16, words.replace("17", "16"))
+
+    def test_cuts(self):
+        self.refused("cut 7", "line 1: a cut past the end: 6 bytes are left")
+        self.refused("cut 4\ncut 3\n", "line 2: a cut past the end: 2 bytes are left")
+        self.refused("cut " + "9" * 5000, "line 1: a cut past the end: 6 bytes are left")
+        for line in ("cut", "cut 1 2"):
+            self.refused(line, "line 1: cut, and one count")
+        for word in ("-1", "+1", "1_0", "A", "\u0661", "\xb2"):
+            self.refused(f"cut {word}", f"line 1: {word!r} is not a count")
+
+    def test_bytes_that_are_no_text(self):
+        for source, words in (
+            (b"pages 00\n# \xe9t\xe9\n", "line 2: no text: byte E9 is not UTF-8"),
+            (b"\xff\xfep\0", "line 1: no text: byte FF is not UTF-8"),
+            (b"pages 00\r\n\r\n# \xc3", "line 3: no text: byte C3 is not UTF-8"),
+            (b"\x01\0\x07\0\0\0\0", "line 1: no text: a byte is 00"),
+        ):
+            with self.subTest(source), self.assertRaises(TextError) as why:
+                text_of(source)
+            self.assertEqual(str(why.exception), words)
+
+
+class Command(unittest.TestCase):
+    """The script itself: what it writes, what it says, and its status."""
+
+    def ends(self, words, text, status, wrote, said):
+        run = subprocess.run([sys.executable, HERE / "make_job.py", *words], input=text, capture_output=True, check=False)
+        with self.subTest((words, text[:40])):
+            self.assertEqual((run.returncode, run.stdout, run.stderr.decode()), (status, wrote, said))
+
+    def test_a_text_at_standard_input(self):
+        for words in ([], ["-"], ["--"], ["--", "-"]):
+            self.ends(words, b"pages 07\n", 0, bytes.fromhex("0100 07 0000 0000"), "")
+
+    def test_a_refused_text(self):
+        self.ends([], b"pages 00\ncut x\n", 1, b"", "make_job.py: line 2: 'x' is not a count\n")
+        self.ends([], b"\xe9", 1, b"", "make_job.py: line 1: no text: byte E9 is not UTF-8\n")
+        with tempfile.NamedTemporaryFile(suffix=".txt") as text:
+            text.write(b"page\n")
+            text.flush()
+            self.ends([text.name], b"", 1, b"", f"make_job.py: {text.name}, line 1: no line begins 'page'\n")
+
+    def test_wrong_use(self):
+        more = "make_job.py --help tells more\n"
+        for word in ("-x", "--raw", "--help=1"):
+            self.ends([word], b"", 2, b"", f"make_job.py: there is no option {word}; {more}")
+        self.ends(["a", "b"], b"", 2, b"", f"make_job.py: one text at a time; {more}")
+        missing = "make_job.py: [Errno 2] No such file or directory: '{}'\n"
+        self.ends(["no/such.txt"], b"", 2, b"", missing.format("no/such.txt"))
+        self.ends(["--", "-x"], b"", 2, b"", missing.format("-x"))
+
+    def test_help(self):
+        for word in ("-h", "--help"):
+            self.ends([word], b"", 0, make_job.__doc__.encode(), "")
+
+    def test_a_reader_that_has_seen_enough(self):
+        text = b"lines 0000 x4096\n" * 15
+        with subprocess.Popen(
+            [sys.executable, HERE / "make_job.py"], stdin=subprocess.PIPE, stdout=subprocess.PIPE, stderr=subprocess.PIPE
+        ) as run:
+            run.stdout.close()
+            run.stdin.write(text)
+            run.stdin.close()
+            self.assertEqual((run.stderr.read(), run.wait()), (b"", 0))
 
 
 class Samples(unittest.TestCase):
