@@ -5,7 +5,7 @@
 # bench that rt check bench proves and links.
 set -euo pipefail
 cd "$(dirname "$0")/.."
-bench=${BENCH:-jobs/run_bench.sh}
+bench=${BENCH:-jobs/run_program.sh target/bin/bench}
 made=$(mktemp -d)
 trap 'rm -rf "$made"' EXIT
 wrong=0
