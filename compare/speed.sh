@@ -15,7 +15,7 @@ native_program() {
     module . speed "$work/module.bc"
     "$clang" --target=x86_64-unknown-linux-gnu -march=x86-64 --no-default-config -fPIE -O3 -Xclang -fmerge-functions \
         -mllvm -mergefunc-use-aliases -S -emit-llvm -x ir "$work/module.bc" -o "$work/ours.ll"
-    for_this_machine "$work/ours.ll" "$work/here.ll"
+    for_machine "$work/ours.ll" "$work/here.ll"
     "$clang" --no-default-config -fPIE -O3 -Xclang -disable-llvm-passes -c -x ir "$work/here.ll" -o "$work/ours.o"
     cc -pie "$work/ours.o" -o "$work/ours"
 }

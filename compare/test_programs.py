@@ -38,6 +38,7 @@ def tabled():
     return [(name.lower(), tables[name + "_PAGES"], tables[name]) for name in names]
 
 
-if listed() != tabled():
-    sys.exit("crates/speed/src/programs.rt is not what compare/programs.txt has")
-print("the tables of crates/speed are the programs of compare/programs.txt")
+if __name__ == "__main__":
+    if listed() != tabled():
+        sys.exit("crates/speed/src/programs.rt is not what compare/programs.txt has")
+    print("the tables of crates/speed are the programs of compare/programs.txt")

@@ -38,7 +38,7 @@ module() ( # REPOSITORY PROGRAM MODULE
 # A program for x86-64, linked as rt links it, of that object. Nothing is proved by it.
 unproved_program() ( # REPOSITORY PROGRAM OUT
     module "$1" "$2" "$3.bc" &&
-        "$kit/on/$(uname -m)/bin/rattle-link" --target x86_64-unknown-linux-gnu --toolchain "$tools" -o "$3" "$3.bc.o" >&2
+        "$kit/on/$(uname -m)/bin/rattle-link" --target x86_64-unknown-linux-gnu --toolchain "$tools" -o "$3" "$3.bc.o" >/dev/null
 )
 
 # A module's text.
@@ -50,15 +50,17 @@ module_text() { # MODULE
 object() ( # TEXT OBJECT FLAGS
     text=$1 made=$2
     shift 2
-    for_this_machine "$text" "$text.here"
+    for_machine "$text" "$text.here"
     "$clang" --no-default-config -fPIE "$@" -c -x ir "$text.here" -o "$made"
 )
 
-# The text of a module with the names of another machine taken out, for this machine.
-for_this_machine() { # TEXT OUT
-    echo 'int x;' | "$clang" --no-default-config -S -emit-llvm -x c - -o - | grep '^target' >"$2"
-    sed -e '/^target /d' -e 's/"\(target-cpu\|target-features\|tune-cpu\)"="[^"]*"//g' "$1" >>"$2"
-}
+# The text of a module with the names of another machine taken out, for this machine or for the one that clang's flags name.
+for_machine() ( # TEXT OUT FLAGS
+    text=$1 made=$2
+    shift 2
+    echo 'int x;' | "$clang" --no-default-config "$@" -S -emit-llvm -x c - -o - | grep '^target' >"$made"
+    sed -e '/^target /d' -e 's/"\(target-cpu\|target-features\|tune-cpu\|frame-pointer\)"="[^"]*"//g' "$text" >>"$made"
+)
 
 # A C compiler for x86-64; installed where it is missing.
 x86_64_cc() {
