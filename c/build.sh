@@ -15,39 +15,21 @@ flags="-std=c11 -O2 -g -Wall -Wextra -Werror"
 rm -rf "$out"
 mkdir -p "$out"
 
-# A program that reaches the three functions, over links to our crates.
+# A program that reaches the functions for C, over links to our crates. c/exports.py makes it, and what else is made of their list.
 reaching() { # FOLDER
-    local crate
+    local crate needed
     mkdir -p "$1/crates/reach/src"
     for crate in crates/*; do ln -s "$PWD/$crate" "$1/crates/"; done
-    { cat crates.txt; echo 'reach: firmware'; } >"$1/crates.txt"
-    cat >"$1/crates/reach/src/main.rt" <<'R'
-fn main() {
-    let mut state = [0u8; 20];
-    let mut tally = [0u8; 4];
-    let mut image = [0u8; 2];
-    let map = [0u8; 2];
-    let lines = [0u16; 1];
-    firmware::wd16_power_up(&mut state, &image, &map);
-    firmware::wd16_step(&mut state, &mut image, &map, 0);
-    firmware::wd16_run(&mut state, &mut tally, &mut image, &map, &lines);
-}
-R
-}
-
-# The module's text, with the three functions to be linked under names of their own, and without a main.
-inner() { # MODULE TEXT
-    module_text "$1" |
-        sed -e 's/^define internal \(.*\)@"firmware::wd16_\(\w*\)"(/define \1@inner_\2(/' -e 's/@"firmware::wd16_\(\w*\)"(/@inner_\1(/' \
-            -e 's/^define i32 @main(/define i32 @inner_main(/' >"$2"
+    needed=$(python3 c/exports.py "$out")
+    { cat crates.txt; echo "reach: $needed"; } >"$1/crates.txt"
+    cp "$out/reach.rt" "$1/crates/reach/src/main.rt"
 }
 
 unproved_library() {
-    reaching "$out/reaching"
     module "$out/reaching" reach "$PWD/$out/module.bc"
-    inner "$out/module.bc" "$out/module.ll"
+    module_text "$out/module.bc" | sed -f "$out/names.sed" >"$out/module.ll"
     object "$out/module.ll" "$out/module.o" -O3
-    cc $flags -c c/exports.c -o "$out/exports.o"
+    cc $flags -Ic -Wmissing-prototypes -c "$out/exports.c" -o "$out/exports.o"
     "$tools/bin/llvm-ar" rcs "$out/libfirmware.a" "$out/module.o" "$out/exports.o"
 }
 
@@ -60,17 +42,18 @@ sanitized_module() {
 sanitized() { # FILES
     local name
     for name in example serve; do
-        cc $flags -fsanitize=address -fno-sanitize-recover "c/$name.c" "$@" -o "$out/$name-asan"
+        cc $flags -Ic -I"$out" -fsanitize=address -fno-sanitize-recover "c/$name.c" "$@" -o "$out/$name-asan"
     done
 }
 
+reaching "$out/reaching"
 if [ $# -eq 0 ]; then
     unproved_library
     sanitized_module
-    sanitized c/exports.c "$out/sanitized.o"
-    for name in example serve; do cc $flags "c/$name.c" "$out/libfirmware.a" -o "$out/$name"; done
+    sanitized "$out/exports.c" "$out/sanitized.o"
+    for name in example serve; do cc $flags -Ic -I"$out" "c/$name.c" "$out/libfirmware.a" -o "$out/$name"; done
 else
-    for name in example serve; do x86_64_cc $flags "c/$name.c" "$1" -o "$out/$name"; done
+    for name in example serve; do x86_64_cc $flags -Ic -I"$out" "c/$name.c" "$1" -o "$out/$name"; done
     [ "$(uname -m)" != x86_64 ] || sanitized "$1"
 fi
 module . bench "$PWD/$out/bench.bc"

@@ -1,69 +1,85 @@
-/* Serves calls of the processor: each request on standard input is answered on standard output, until the input ends.
-   A request: the call (0 power-up, 1 step, 2 run), five lengths (state, tally, image, map, lines; four bytes each, low byte
-   first), then the elements of the five in the same order; a line word is two bytes, low byte first. A step takes the first line word.
-   An answer: the number that was returned, then the five buffers as they are after the call. */
+/* Serves calls of the functions for C: each request on standard input is answered on standard output, until the input ends.
+   A request: a byte with the length of a function's name, the name, then its arguments in order. A buffer is its length in
+   elements (four bytes, low byte first) and its elements, a number is four bytes; words have their low byte first.
+   An answer: the number that was returned, then every buffer as it is after the call, in order.
+   calls.h has the functions; c/exports.py makes it. */
 #include "hitchbriar.h"
 
 #include <stdio.h>
 #include <stdlib.h>
+#include <string.h>
 
-enum { STATE, TALLY, IMAGE, MAP, LINES, BUFFERS };
+enum { MOST_ARGUMENTS = 12, MOST_NAME = 255 };
 
-static uint8_t *buffer[BUFFERS];
-static size_t length[BUFFERS];
+/* A buffer, or a number. */
+struct argument {
+    uint8_t *bytes;
+    size_t length;
+    uint32_t number;
+};
 
-static size_t size_of(int which)
+/* A function: how many bytes an element of each argument has, 0 for a number. */
+struct call {
+    const char *name;
+    int arguments;
+    size_t element[MOST_ARGUMENTS];
+    uint8_t (*made)(const struct argument *argument);
+};
+
+#include "calls.h"
+
+static struct argument argument[MOST_ARGUMENTS];
+
+static void take(void *to, size_t size)
 {
-    return which == LINES ? 2 * length[which] : length[which];
+    if (fread(to, 1, size, stdin) != size)
+        exit(1);
+}
+
+static uint32_t number(void)
+{
+    uint8_t n[4];
+    take(n, sizeof n);
+    return n[0] | (uint32_t)n[1] << 8 | (uint32_t)n[2] << 16 | (uint32_t)n[3] << 24;
 }
 
 /* Each buffer is allotted at its own size, so that a sanitizer sees an access past its end. */
-static void take(int which)
+static void take_argument(struct argument *one, size_t element)
 {
-    free(buffer[which]);
-    buffer[which] = malloc(size_of(which) + (size_of(which) == 0));
-    if (buffer[which] == NULL || fread(buffer[which], 1, size_of(which), stdin) != size_of(which))
+    one->number = number();
+    if (element == 0)
+        return;
+    one->length = one->number;
+    free(one->bytes);
+    one->bytes = malloc(one->length * element + (one->length == 0));
+    if (one->bytes == NULL)
         exit(1);
+    take(one->bytes, one->length * element);
 }
 
-static int request(uint8_t *call)
+static const struct call *named(const char *name)
 {
-    uint8_t numbers[4 * BUFFERS];
-    if (fread(call, 1, 1, stdin) != 1)
-        return 0;
-    if (fread(numbers, 1, sizeof numbers, stdin) != sizeof numbers)
-        exit(1);
-    for (int which = 0; which < BUFFERS; which++) {
-        const uint8_t *n = numbers + 4 * which;
-        length[which] = n[0] | (size_t)n[1] << 8 | (size_t)n[2] << 16 | (size_t)n[3] << 24;
-        take(which);
-    }
-    return 1;
-}
-
-static uint8_t answer(uint8_t call)
-{
-    uint8_t *const *b = buffer;
-    const size_t *n = length;
-    const uint16_t *lines = (const uint16_t *)b[LINES];
-    switch (call) {
-    case 0:
-        return wd16_power_up(b[STATE], n[STATE], b[IMAGE], n[IMAGE], b[MAP], n[MAP]);
-    case 1:
-        return wd16_step(b[STATE], n[STATE], b[IMAGE], n[IMAGE], b[MAP], n[MAP], lines[0]);
-    default:
-        return wd16_run(b[STATE], n[STATE], b[TALLY], n[TALLY], b[IMAGE], n[IMAGE], b[MAP], n[MAP], lines, n[LINES]);
-    }
+    for (size_t at = 0; at < sizeof calls / sizeof *calls; at++)
+        if (strcmp(calls[at].name, name) == 0)
+            return &calls[at];
+    fprintf(stderr, "serve: no function %s\n", name);
+    exit(1);
 }
 
 int main(void)
 {
-    uint8_t call;
-    while (request(&call)) {
-        uint8_t number = answer(call);
-        fwrite(&number, 1, 1, stdout);
-        for (int which = 0; which < BUFFERS; which++)
-            fwrite(buffer[which], 1, size_of(which), stdout);
+    uint8_t length;
+    while (fread(&length, 1, 1, stdin) == 1) {
+        char name[MOST_NAME + 1] = { 0 };
+        take(name, length);
+        const struct call *call = named(name);
+        for (int at = 0; at < call->arguments; at++)
+            take_argument(&argument[at], call->element[at]);
+        uint8_t answer = call->made(argument);
+        fwrite(&answer, 1, 1, stdout);
+        for (int at = 0; at < call->arguments; at++)
+            if (call->element[at] != 0)
+                fwrite(argument[at].bytes, call->element[at], argument[at].length, stdout);
         fflush(stdout);
     }
     return 0;

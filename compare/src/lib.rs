@@ -15,6 +15,7 @@ pub mod job;
 pub mod machine;
 mod operand;
 pub mod programs;
+pub mod served;
 pub mod state;
 pub mod table;
 pub mod text;

@@ -9,9 +9,8 @@
 //! After each step state, cause and the whole image must be the same. The first
 //! difference is printed, and the answer is then 1.
 
-use std::cell::RefCell;
-use std::io::{Read, Write};
-use std::process::{Child, Command, ExitCode, Stdio};
+use std::io::Write;
+use std::process::ExitCode;
 
 use wd16::abi;
 use wd16::bench::bench;
@@ -19,6 +18,8 @@ use wd16::board::{IMAGE, PAGES};
 use wd16::coverage::{Ahead, Coverage};
 use wd16::gen::{self, Random};
 use wd16::machine::MOST_LINES;
+use wd16::served::Argument::{Number, Read, Words, Written};
+use wd16::served::{started, Served};
 use wd16::text::write_text;
 use wd16::{Cause, PC};
 
@@ -63,89 +64,16 @@ impl Processor for Plain {
     }
 }
 
-/// A program, with its input and output as pipes.
-fn started(command: &str) -> std::io::Result<Child> {
-    let mut words = command.split_whitespace();
-    Command::new(words.next().unwrap_or_default())
-        .args(words)
-        .stdin(Stdio::piped())
-        .stdout(Stdio::piped())
-        .spawn()
-}
-
-/// A program that serves the calls on its standard input and output (c/serve.c).
-struct Served {
-    child: RefCell<Child>,
-}
-
-/// What a call is lent, in the order of the request.
-struct Lent<'a> {
-    bytes: [&'a [u8]; 4],
-    lines: &'a [u16],
-}
-
-impl Served {
-    fn start(command: &str) -> std::io::Result<Served> {
-        let child = RefCell::new(started(command)?);
-        Ok(Served { child })
-    }
-
-    fn exchange(&self, request: &[u8], answer: &mut [u8]) -> std::io::Result<()> {
-        let mut child = self.child.borrow_mut();
-        let input = child.stdin.as_mut().expect("a pipe");
-        input.write_all(request)?;
-        input.flush()?;
-        child.stdout.as_mut().expect("a pipe").read_exact(answer)
-    }
-
-    /// The number that is answered, and state, tally and image after the call.
-    fn call(&self, kind: u8, lent: Lent) -> (u8, [Vec<u8>; 3]) {
-        let lines: Vec<u8> = lent.lines.iter().flat_map(|l| l.to_le_bytes()).collect();
-        let mut request = vec![kind];
-        for length in lent
-            .bytes
-            .map(<[u8]>::len)
-            .into_iter()
-            .chain([lent.lines.len()])
-        {
-            request.extend((length as u32).to_le_bytes());
-        }
-        let elements = [&lent.bytes.concat()[..], &lines].concat();
-        request.extend(&elements);
-        let mut answer = vec![0; 1 + elements.len()];
-        self.exchange(&request, &mut answer)
-            .expect("the server answers each call");
-        let (number, mut rest) = (answer[0], &answer[1..]);
-        let mut after = |length: usize| {
-            let (front, back) = rest.split_at(length);
-            rest = back;
-            front.to_vec()
-        };
-        let changed = [0, 1, 2].map(|buffer| after(lent.bytes[buffer].len()));
-        assert!(
-            rest == [lent.bytes[3], &lines].concat(),
-            "a call changed the map or the lines"
-        );
-        (number, changed)
-    }
-}
-
 impl Processor for Served {
     fn power_up(&self, state: &mut [u8], image: &[u8], map: &[u8]) -> u8 {
-        let bytes = [&*state, &[], image, map];
-        let (number, [s, _, i]) = self.call(0, Lent { bytes, lines: &[] });
-        assert!(i == image, "a power-up changed the image");
-        state.copy_from_slice(&s);
-        number
+        let mut lent = [Written(state), Read(image), Read(map)];
+        self.call("wd16_power_up", &mut lent)
     }
 
     fn step(&self, state: &mut [u8], image: &mut [u8], map: &[u8], line: u16) -> u8 {
-        let bytes = [&*state, &[], &*image, map];
-        let lines = &[line];
-        let (number, [s, _, i]) = self.call(1, Lent { bytes, lines });
-        state.copy_from_slice(&s);
-        image.copy_from_slice(&i);
-        number
+        let line = Number(line.into());
+        let mut lent = [Written(state), Written(image), Read(map), line];
+        self.call("wd16_step", &mut lent)
     }
 
     fn run(
@@ -156,12 +84,9 @@ impl Processor for Served {
         map: &[u8],
         lines: &[u16],
     ) -> u8 {
-        let bytes = [&*state, &*tally, &*image, map];
-        let (number, [s, t, i]) = self.call(2, Lent { bytes, lines });
-        state.copy_from_slice(&s);
-        tally.copy_from_slice(&t);
-        image.copy_from_slice(&i);
-        number
+        let (state, tally, image) = (Written(state), Written(tally), Written(image));
+        let mut lent = [state, tally, image, Read(map), Words(lines)];
+        self.call("wd16_run", &mut lent)
     }
 }
 
