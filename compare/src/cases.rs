@@ -1,5 +1,6 @@
 //! Case lines (shared/vectors/README.md) and their answers, whoever gives them.
 
+use crate::assembler::assemble;
 use crate::bench::four;
 use crate::level::{Level, Settings, Setup, Wish};
 use crate::machine::{Ran, Stepped};
@@ -529,6 +530,10 @@ impl Answers for Plain {
 
     fn read_bytes(&mut self, level: Level, text: &[u8], words: &mut [u8]) -> Answer<usize> {
         Some(text::read_text_to_bytes(level, text, words))
+    }
+
+    fn assemble(&mut self, level: Level, source: &[u8], section: &mut [u8]) -> Answer<usize> {
+        Some(assemble(level, source, section))
     }
 
     fn trace(&mut self, level: Level, job: &[u8], trace: &[u8]) -> Answer<Verdict> {

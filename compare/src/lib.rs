@@ -6,6 +6,7 @@
 
 pub mod abi;
 pub mod alu;
+pub mod assembler;
 pub mod bench;
 pub mod board;
 pub mod cases;

@@ -126,7 +126,7 @@ pub fn write_text(level: Level, words: &[u16], text: &mut [u8]) -> Result<(usize
 // ---- the reader ----
 
 /// The digits as a number, if there are exactly `digits` and all are upper case hex.
-fn hex(text: &str, digits: usize) -> Option<u16> {
+pub(crate) fn hex(text: &str, digits: usize) -> Option<u16> {
     let good = |b: u8| b.is_ascii_digit() || (b'A'..=b'F').contains(&b);
     if text.len() != digits || !text.bytes().all(good) {
         return None;
