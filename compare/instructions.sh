@@ -23,7 +23,7 @@ plain_for_x86_64() { # PROGRAM
     text=$(echo "$work"/plain/release/deps/wd16-*.ll)
     for_machine "$text" "$work/plain.ll" $x86_64
     "$clang" $x86_64 -fPIE -O3 -ffunction-sections -c -x ir "$work/plain.ll" -o "$work/plain.o"
-    x86_64_cc -O2 -DPOWER_UP="$(symbol "$text" power_up)" -DRUN="$(symbol "$text" run)" compare/lent.c "$work/plain.o" \
+    x86_64_cc -O2 -DENDED="$(symbol "$text" ended)" compare/lent.c "$work/plain.o" \
         -Wl,--gc-sections -Wl,--unresolved-symbols=ignore-all -o "$1"
 }
 

@@ -5,9 +5,14 @@ pub const IMAGE: usize = 65_536;
 /// The pages of a map.
 pub const PAGES: usize = 256;
 
-/// An access found nothing fitted.
+/// A map's byte for a page that is fitted and can be written.
+pub const WRITABLE: u8 = 1;
+/// A map's byte for a page that is fitted and can only be read (wish 5).
+pub const READ_ONLY: u8 = 2;
+
+/// An access found nothing fitted, or nothing to write to: its address, bit 0 as formed.
 #[derive(Clone, Copy, PartialEq, Eq, Debug)]
-pub struct Blank;
+pub struct Blank(pub u16);
 
 /// More than any step writes: XCT of SVCB writes 11 words.
 const ROOM: usize = 16;
@@ -33,9 +38,18 @@ impl<'a> Board<'a> {
     #[inline]
     fn fitted(&self, address: u16) -> Result<(), Blank> {
         if self.map[usize::from(address >> 8)] == 0 {
-            Err(Blank)
+            Err(Blank(address))
         } else {
             Ok(())
+        }
+    }
+
+    #[inline]
+    fn writable(&self, address: u16) -> Result<(), Blank> {
+        if self.map[usize::from(address >> 8)] == WRITABLE {
+            Ok(())
+        } else {
+            Err(Blank(address))
         }
     }
 
@@ -75,7 +89,7 @@ impl<'a> Board<'a> {
 
     #[inline]
     pub fn write_word(&mut self, address: u16, value: u16) -> Result<(), Blank> {
-        self.fitted(address)?;
+        self.writable(address)?;
         self.note(address);
         self.set_word(address, value);
         Ok(())
@@ -83,7 +97,7 @@ impl<'a> Board<'a> {
 
     #[inline]
     pub fn write_byte(&mut self, address: u16, value: u8) -> Result<(), Blank> {
-        self.fitted(address)?;
+        self.writable(address)?;
         self.note(address);
         self.image[usize::from(address)] = value;
         Ok(())

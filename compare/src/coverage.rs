@@ -1,12 +1,12 @@
 //! What random cases have reached.
 
-use crate::abi;
 use crate::board::{IMAGE, PAGES};
+use crate::level::Level;
 use crate::state::{Mode, State, PC, SP};
 use crate::table::{row_of, Operands, ROWS};
 
-/// The rows of the op code table, then format 8 and format 11.
-const KINDS: usize = ROWS.len() + 2;
+/// The rows of the op code table, then format 11.
+const KINDS: usize = ROWS.len() + 1;
 
 /// Counts of steps.
 pub struct Coverage {
@@ -30,17 +30,13 @@ pub struct Coverage {
 }
 
 fn kind_of(op: u16) -> usize {
-    match ROWS.iter().position(|row| row.covers(op)) {
-        Some(place) => place,
-        None if op < 0x8000 => ROWS.len(),
-        None => ROWS.len() + 1,
-    }
+    let place = ROWS.iter().position(|row| row.covers(op));
+    place.unwrap_or(ROWS.len())
 }
 
 fn kind_name(kind: usize) -> &'static str {
     match ROWS.get(kind) {
         Some(row) => row.name,
-        None if kind == ROWS.len() => "format 8",
         None => "format 11",
     }
 }
@@ -94,7 +90,7 @@ impl Coverage {
     }
 
     /// Counts a step by what was ahead and the state's bytes after it.
-    pub fn count(&mut self, ahead: Ahead, after: &[u8; abi::STATE]) {
+    pub fn count(&mut self, ahead: Ahead, after: &[u8]) {
         let cause = after[19];
         self.causes[ahead.mode as usize][usize::from(cause)] += 1;
         let Some(op) = ahead.op.filter(|_| ahead.mode == Mode::Running) else {
@@ -128,7 +124,9 @@ impl Coverage {
     }
 
     fn count_operands(&mut self, op: u16) {
-        let Some(row) = row_of(op) else { return };
+        let Some(row) = row_of(Level::ALL, op) else {
+            return;
+        };
         let byte =
             usize::from(matches!(op >> 8, 0x8A..=0x8C | 0xC0..=0xEF | 0x74 | 0x75 | 0x7A | 0x7B));
         match row.operands {

@@ -8,6 +8,11 @@ use crate::state::{Flags, Mode, PC, SP};
 
 /// Fixed locations of page 0.
 pub(crate) mod location {
+    /// R0 to R5, SP, PC and PS, of the power-up and halt options.
+    pub fn saved() -> impl Iterator<Item = u16> {
+        (0x00..0x12).step_by(2)
+    }
+
     pub const BUS_ERROR: u16 = 0x12;
     pub const POWER_FAIL: u16 = 0x14;
     pub const RESTART: u16 = 0x16;
@@ -27,14 +32,14 @@ pub(crate) mod location {
 /// Why an op code was not executed to its end.
 #[derive(Clone, Copy, PartialEq, Eq, Debug)]
 pub(crate) enum Stop {
-    Blank,
+    Blank(Blank),
     /// Reserved or illegal: the location that its trap goes through.
     Trap(u16),
 }
 
 impl From<Blank> for Stop {
-    fn from(_: Blank) -> Stop {
-        Stop::Blank
+    fn from(blank: Blank) -> Stop {
+        Stop::Blank(blank)
     }
 }
 
@@ -58,10 +63,12 @@ enum Class {
     SingleWord,
     SingleByte,
     Format9,
+    /// Format 8, reserved where its microm isn't fitted.
+    BlockMove,
     /// Format 10.
     DoubleWord,
     DoubleByte,
-    /// Formats 8 and 11, whose microms aren't fitted.
+    /// Format 11, whose microm isn't fitted.
     Reserved,
 }
 
@@ -74,6 +81,7 @@ const fn class(high: usize) -> Class {
         0x8E | 0x8F => Class::DoubleShift,
         0x0A..=0x0D | 0x8D => Class::SingleWord,
         0x8A..=0x8C => Class::SingleByte,
+        0x0E | 0x0F => Class::BlockMove,
         0x70..=0x7F => Class::Format9,
         0x10..=0x6F | 0x90..=0xBF => Class::DoubleWord,
         0xC0..=0xEF => Class::DoubleByte,
@@ -105,7 +113,7 @@ impl Cpu<'_> {
 
     /// The PS as it is formed now.
     pub(crate) fn ps(&self) -> u16 {
-        self.s.quiet_ps() | u16::from(self.line.power_fail()) << 15
+        self.s.quiet_ps(self.jumpers) | u16::from(self.line.power_fail()) << 15
     }
 
     #[inline]
@@ -158,6 +166,7 @@ impl Cpu<'_> {
     #[inline]
     pub(crate) fn op_code(&mut self) -> Result<(), Blank> {
         let mut op = self.fetch()?;
+        self.s.mark = false;
         let traced = op == XCT;
         if traced {
             op = self.fetch_traced()?;
@@ -171,7 +180,7 @@ impl Cpu<'_> {
                 self.pc_from(location::XCT_TRACE)
             }
             Ok(()) => Ok(()),
-            Err(Stop::Blank) => Err(Blank),
+            Err(Stop::Blank(blank)) => Err(blank),
             Err(Stop::Trap(location)) => self.trap(location),
         }
     }
@@ -195,9 +204,10 @@ impl Cpu<'_> {
             Class::SingleWord => self.single_word(op)?,
             Class::SingleByte => self.single_byte(op)?,
             Class::Format9 => self.format_9(op)?,
+            Class::BlockMove if self.settings.microm => self.block_move(op)?,
             Class::DoubleWord => self.double_word(op)?,
             Class::DoubleByte => self.double_byte(op)?,
-            Class::Reserved => return Err(Stop::Trap(location::RESERVED)),
+            Class::BlockMove | Class::Reserved => return Err(Stop::Trap(location::RESERVED)),
         }
         Ok(())
     }
@@ -240,7 +250,7 @@ impl Cpu<'_> {
             0x0 | 0x1 => Ok(()),
             // IEN
             0x2 => {
-                self.s.i2 = true;
+                self.ien();
                 Ok(())
             }
             // IDS
@@ -315,8 +325,14 @@ impl Cpu<'_> {
         self.board.write_word(self.s.r[SP], old)?;
         let old = self.board.read_word(location::MASK)?;
         self.board.write_word(location::MASK, old | mask)?;
-        self.s.i2 = true;
+        self.ien();
         Ok(())
+    }
+
+    /// I2 set; where it was clear, the next op code is the last that is not interrupted.
+    fn ien(&mut self) {
+        self.s.mark = self.late_ien && !self.s.i2;
+        self.s.i2 = true;
     }
 
     /// R0 to R5 popped.
@@ -519,6 +535,41 @@ impl Cpu<'_> {
         };
         self.s.flags = flags;
         self.store_byte(place, y)
+    }
+
+    // ---- format 8 ----
+
+    /// One element of a block move. PC is the op code's address again unless it was the last.
+    #[inline(never)]
+    fn block_move(&mut self, op: u16) -> Result<(), Blank> {
+        let op_code_at = self.s.r[PC].wrapping_sub(2);
+        let (from, to) = (usize::from(op >> 3 & 7), usize::from(op & 7));
+        // MBWU, MBWD, MBBU, MBBD, MBWA, MBBA, MABW, MABB
+        let (bytes, source_by, destination_by) = match op >> 6 & 7 {
+            0 => (2, 2, 2),
+            1 => (2, -2, -2),
+            2 => (1, 1, 1),
+            3 => (1, -1, -1),
+            4 => (2, 2, 0),
+            5 => (1, 1, 0),
+            6 => (2, 0, 2),
+            _ => (1, 0, 1),
+        };
+        let (source, destination) = (self.s.r[from], self.s.r[to]);
+        if bytes == 2 {
+            let word = self.board.read_word(source)?;
+            self.board.write_word(destination, word)?;
+        } else {
+            let byte = self.board.read_byte(source)?;
+            self.board.write_byte(destination, byte)?;
+        }
+        self.s.r[from] = self.s.r[from].wrapping_add_signed(source_by);
+        self.s.r[to] = self.s.r[to].wrapping_add_signed(destination_by);
+        self.s.r[0] = self.s.r[0].wrapping_sub(1);
+        if self.s.r[0] != 0 {
+            self.s.r[PC] = op_code_at;
+        }
+        Ok(())
     }
 
     // ---- format 9 ----

@@ -108,11 +108,10 @@ fn value(random: &mut Random, map: &[u8; PAGES]) -> u16 {
 
 /// An op code, reserved ones among them.
 pub fn op_code(random: &mut Random) -> u16 {
-    let choice = random.below(ROWS.len() + 2);
+    let choice = random.below(ROWS.len() + 1);
     let word = random.word();
     match ROWS.get(choice) {
         Some(row) => row.base | word & row.operands.bits(),
-        None if choice == ROWS.len() => 0x0E00 | word & 0x01FF,
         None => 0xF000 | word & 0x0FFF,
     }
 }
@@ -187,6 +186,7 @@ pub fn state(random: &mut Random, map: &[u8; PAGES]) -> State {
         flags: Flags::from_bits(random.word()),
         i2: random.percent(50),
         mode,
+        mark: false,
     }
 }
 

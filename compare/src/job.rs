@@ -1,6 +1,7 @@
 //! The job reader.
 
-use crate::board::{IMAGE, PAGES};
+use crate::board::{IMAGE, PAGES, READ_ONLY, WRITABLE};
+use crate::level::{Level, Wish};
 use crate::machine::MOST_LINES;
 use crate::state::Line;
 use crate::Refusal;
@@ -38,18 +39,25 @@ struct Job {
     lines: Vec<u16>,
 }
 
-fn read_pages(input: &mut Input) -> Result<[u8; PAGES], Refusal> {
-    let mut map = [0; PAGES];
+/// A section of pages, each from the value `from` in the map to the value `to`; another
+/// one, or one that is not rising, is refused.
+fn read_pages(
+    input: &mut Input,
+    map: &mut [u8; PAGES],
+    [from, to]: [u8; 2],
+    refusal: Refusal,
+) -> Result<(), Refusal> {
     let mut last = None;
     for _ in 0..input.count(PAGES, 12)? {
         let [page] = input.take()?;
-        if last.is_some_and(|last| page <= last) {
-            return Err(Refusal(13));
+        let place = &mut map[usize::from(page)];
+        if *place != from || last.is_some_and(|last| page <= last) {
+            return Err(refusal);
         }
-        map[usize::from(page)] = 1;
+        *place = to;
         last = Some(page);
     }
-    Ok(map)
+    Ok(())
 }
 
 fn read_words(input: &mut Input, map: &[u8; PAGES]) -> Result<Vec<(u16, u16)>, Refusal> {
@@ -83,11 +91,15 @@ fn read_lines(input: &mut Input) -> Result<Vec<u16>, Refusal> {
     Ok(lines)
 }
 
-fn parse(bytes: &[u8]) -> Result<Job, Refusal> {
+fn parse(level: Level, bytes: &[u8]) -> Result<Job, Refusal> {
     let mut input = Input { rest: bytes };
-    let map = read_pages(&mut input)?;
+    let mut map = [0; PAGES];
+    read_pages(&mut input, &mut map, [0, WRITABLE], Refusal(13))?;
     let words = read_words(&mut input, &map)?;
     let lines = read_lines(&mut input)?;
+    if level.has(Wish::ReadOnlyPages) && !input.rest.is_empty() {
+        read_pages(&mut input, &mut map, [WRITABLE, READ_ONLY], Refusal(22))?;
+    }
     if !input.rest.is_empty() {
         return Err(Refusal(20));
     }
@@ -95,8 +107,9 @@ fn parse(bytes: &[u8]) -> Result<Job, Refusal> {
 }
 
 /// Reads a job into the lent buffers and answers the number of its line words.
-/// Refusals 1, 2, 4, then 11 to 20; a refused job leaves the buffers as lent.
+/// Refusals 1, 2, 4, then 11 to 22; a refused job leaves the buffers as lent.
 pub fn read_job(
+    level: Level,
     bytes: &[u8],
     image: &mut [u8],
     map: &mut [u8],
@@ -111,7 +124,7 @@ pub fn read_job(
     if lines.len() != MOST_LINES {
         return Err(Refusal(4));
     }
-    let job = parse(bytes)?;
+    let job = parse(level, bytes)?;
     image.fill(0);
     for &(address, value) in &job.words {
         let at = usize::from(address);

@@ -1,21 +1,33 @@
 //! Power-up, step and run.
 
-use crate::board::{Blank, Board, IMAGE, PAGES};
+use crate::board::{Blank, Board, IMAGE, PAGES, READ_ONLY, WRITABLE};
 use crate::execute::location;
+use crate::level::{Settings, Setup, Wish};
 use crate::state::{Cause, Line, Mode, State, PC};
 use crate::Refusal;
 
 /// The most line words of one run.
 pub const MOST_LINES: usize = 4_096;
 
+/// What a step answers.
+#[derive(Clone, Copy, PartialEq, Eq, Debug)]
+pub struct Stepped {
+    pub state: State,
+    pub cause: Cause,
+    /// The address that was blank, of a bus error (wish 4).
+    pub blank: Option<u16>,
+}
+
 /// What a run answers.
 #[derive(Clone, Copy, PartialEq, Eq, Debug)]
 pub struct Ran {
     pub state: State,
-    /// The number of steps with cause 5 to 7.
+    /// The number of steps with cause 5, 6 or 9.
     pub blanks: u16,
     /// The place, from 0, of the first of them.
     pub first: Option<u16>,
+    /// The address that was blank there (wish 4).
+    pub address: Option<u16>,
 }
 
 /// The processor at work: its state, the lent memory, this step's line word.
@@ -23,14 +35,27 @@ pub(crate) struct Cpu<'a> {
     pub(crate) s: State,
     pub(crate) board: Board<'a>,
     pub(crate) line: Line,
+    pub(crate) settings: Settings,
+    /// The jumpers as a PS shows them.
+    pub(crate) jumpers: u16,
+    /// IEN holds off I0 and I1 for one op code (wish 3).
+    pub(crate) late_ien: bool,
+    /// A blank's address is told (wish 4).
+    tells: bool,
+    /// The address of the last bus error, if it is told.
+    told: Option<u16>,
 }
 
 /// What a step sets out to do.
 #[derive(Clone, Copy, PartialEq, Eq, Debug)]
 enum Task {
     OpCode,
-    /// PC from 16, running: by I3, or at the end of a halt.
-    Restart(Cause),
+    /// The end of a halt on power fail.
+    Restart,
+    /// I3, also at the end of a halt for the switch.
+    HaltOption,
+    /// The end of the halt option that saved the registers.
+    Restore,
     I1,
     I0,
     Nothing,
@@ -43,23 +68,30 @@ impl Cpu<'_> {
         let line = self.line;
         match self.s.mode {
             Mode::Running if line.is_quiet() => Task::OpCode,
-            Mode::Running | Mode::Waiting => {
-                if line.i3() {
-                    Task::Restart(Cause::I3)
-                } else if line.i1() && self.s.i2 {
-                    Task::I1
-                } else if line.i0() && self.s.i2 {
-                    Task::I0
-                } else if self.s.mode == Mode::Running {
-                    Task::OpCode
-                } else {
-                    Task::Nothing
-                }
-            }
-            Mode::HaltedPowerFail if !line.power_fail() => Task::Restart(Cause::OpCode),
-            Mode::HaltedSwitch if line.i3() => Task::Restart(Cause::I3),
-            Mode::HaltedPowerFail | Mode::HaltedSwitch => Task::Nothing,
+            Mode::Running | Mode::Waiting => self.heard(),
+            Mode::HaltedPowerFail if !line.power_fail() => Task::Restart,
+            Mode::HaltedSwitch if line.i3() => Task::HaltOption,
+            Mode::Saved if !line.i3() => Task::Restore,
+            Mode::HaltedPowerFail | Mode::HaltedSwitch | Mode::Saved => Task::Nothing,
             Mode::Locked => Task::Locked,
+        }
+    }
+
+    /// What the lines ask for while running or waiting.
+    #[inline]
+    fn heard(&self) -> Task {
+        let line = self.line;
+        let enabled = self.s.i2 && !self.s.mark;
+        if line.i3() {
+            Task::HaltOption
+        } else if line.i1() && enabled {
+            Task::I1
+        } else if line.i0() && enabled {
+            Task::I0
+        } else if self.s.mode == Mode::Running {
+            Task::OpCode
+        } else {
+            Task::Nothing
         }
     }
 
@@ -72,7 +104,9 @@ impl Cpu<'_> {
         let task = self.task();
         let done = match task {
             Task::OpCode => self.op_code().map(|()| Cause::OpCode),
-            Task::Restart(cause) => self.restart().map(|()| cause),
+            Task::Restart => self.restart().map(|()| Cause::OpCode),
+            Task::HaltOption => self.halt_option(),
+            Task::Restore => self.restore().map(|()| Cause::I3),
             Task::I1 => self.nonvectored().map(|()| Cause::I1),
             Task::I0 => self.vectored().map(|()| Cause::I0),
             Task::Nothing => Ok(Cause::Nothing),
@@ -80,10 +114,11 @@ impl Cpu<'_> {
         };
         match done {
             Ok(cause) => cause,
-            Err(Blank) => self.bus_error(before, task),
+            Err(blank) => self.bus_error(before, task, blank),
         }
     }
 
+    /// PC from 16, running.
     fn restart(&mut self) -> Result<(), Blank> {
         self.s.mode = Mode::Running;
         self.pc_from(location::RESTART)
@@ -112,9 +147,67 @@ impl Cpu<'_> {
         self.pc_by_table(table.wrapping_add(self.line.acknowledge()))
     }
 
+    // ---- the options of the jumpers ----
+
+    /// The halt option, and the cause of a step that does it.
+    fn halt_option(&mut self) -> Result<Cause, Blank> {
+        match self.settings.halt {
+            0 => self.bootstrap(),
+            1 => self.save_all()?,
+            2 => {
+                self.s.mode = Mode::Locked;
+                return Ok(Cause::Locked);
+            }
+            _ => self.restart()?,
+        }
+        Ok(Cause::I3)
+    }
+
+    fn power_up_option(&mut self) -> Result<(), Blank> {
+        match self.settings.power_up {
+            0 => {
+                self.bootstrap();
+                Ok(())
+            }
+            1 => self.restore(),
+            2 => self.halt_option().map(|_| ()),
+            _ => self.restart(),
+        }
+    }
+
+    fn bootstrap(&mut self) {
+        self.s.r[PC] = self.settings.bootstrap();
+        self.s.mode = Mode::Running;
+    }
+
+    /// R0 to R5, SP, PC and PS to 0 to 11.
+    fn save_all(&mut self) -> Result<(), Blank> {
+        let ps = self.ps();
+        for (at, value) in location::saved().zip(self.s.r.into_iter().chain([ps])) {
+            self.board.write_word(at, value)?;
+        }
+        self.s.mode = Mode::Saved;
+        Ok(())
+    }
+
+    /// The same picked up again, PS as if popped; running.
+    fn restore(&mut self) -> Result<(), Blank> {
+        let mut saved = [0; 9];
+        for (value, at) in saved.iter_mut().zip(location::saved()) {
+            *value = self.board.read_word(at)?;
+        }
+        self.s.r.copy_from_slice(&saved[..8]);
+        self.s.load_ps(saved[8]);
+        self.s.mode = Mode::Running;
+        Ok(())
+    }
+
+    // ---- bus errors ----
+
     /// Drops the step's work; then the trap through 12, or the lock-up.
     #[inline(never)]
-    fn bus_error(&mut self, before: State, task: Task) -> Cause {
+    fn bus_error(&mut self, before: State, task: Task, Blank(address): Blank) -> Cause {
+        self.told = self.tells.then_some(address);
         self.board.undo();
         self.s = before;
         if self.bus_error_trap(task).is_err() {
@@ -128,7 +221,9 @@ impl Cpu<'_> {
         match task {
             Task::OpCode => Cause::BlankInOpCode,
             Task::I1 | Task::I0 => Cause::BlankInInterrupt,
-            Task::Restart(_) | Task::Nothing | Task::Locked => Cause::BlankAtRestart,
+            Task::HaltOption => Cause::BlankInSave,
+            Task::Restart | Task::Restore => unreachable!("12 lies on the page of 0 to 16"),
+            Task::Nothing | Task::Locked => unreachable!("nothing was accessed"),
         }
     }
 
@@ -140,6 +235,7 @@ impl Cpu<'_> {
         self.push(self.ps() | 0x4000)?;
         self.push(pc)?;
         self.s.i2 = false;
+        self.s.mark = false;
         self.s.mode = Mode::Running;
         self.pc_from(location::BUS_ERROR)
     }
@@ -151,9 +247,14 @@ fn whole_image(image: &mut [u8]) -> Result<&mut [u8; IMAGE], Refusal> {
     image.try_into().map_err(|_| Refusal(1))
 }
 
-fn whole_map(map: &[u8]) -> Result<&[u8; PAGES], Refusal> {
+fn whole_map<'a>(setup: &Setup, map: &'a [u8]) -> Result<&'a [u8; PAGES], Refusal> {
     let map: &[u8; PAGES] = map.try_into().map_err(|_| Refusal(2))?;
-    if map.iter().any(|&page| page > 1) {
+    let most = if setup.level.has(Wish::ReadOnlyPages) {
+        READ_ONLY
+    } else {
+        WRITABLE
+    };
+    if map.iter().any(|&page| page > most) {
         return Err(Refusal(3));
     }
     Ok(map)
@@ -166,63 +267,99 @@ fn good_lines(lines: &[u16]) -> Result<(), Refusal> {
     Ok(())
 }
 
-fn cpu<'a>(state: State, image: &'a mut [u8], map: &'a [u8]) -> Result<Cpu<'a>, Refusal> {
+/// Refusals 1, 2, 3, 35.
+fn cpu<'a>(
+    setup: &Setup,
+    state: State,
+    image: &'a mut [u8],
+    map: &'a [u8],
+) -> Result<Cpu<'a>, Refusal> {
     let image = whole_image(image)?;
-    let map = whole_map(map)?;
+    let map = whole_map(setup, map)?;
+    let settings = setup.known()?;
     Ok(Cpu {
         s: state,
         board: Board::new(image, map),
         line: Line(0),
+        jumpers: settings.ps_bits(),
+        settings,
+        late_ien: setup.level.has(Wish::LateIen),
+        tells: setup.level.has(Wish::BlankAddress),
+        told: None,
     })
 }
 
-/// The state after power-up. Refusals 1, 2, 3.
-pub fn power_up(image: &[u8], map: &[u8]) -> Result<State, Refusal> {
-    if image.len() != IMAGE {
-        return Err(Refusal(1));
+/// The state after power-up, which may save registers. Refusals 1, 2, 3, 35.
+pub fn power_up(setup: &Setup, image: &mut [u8], map: &[u8]) -> Result<State, Refusal> {
+    let mut cpu = cpu(setup, State::cleared(), image, map)?;
+    if cpu.power_up_option().is_err() {
+        cpu.board.undo();
+        cpu.s = State {
+            mode: Mode::Locked,
+            ..State::cleared()
+        };
     }
-    let map = whole_map(map)?;
-    let mut state = State::cleared();
-    if map[0] == 0 {
-        state.mode = Mode::Locked;
-    } else {
-        let at = usize::from(location::RESTART);
-        state.r[PC] = u16::from_le_bytes([image[at], image[at + 1]]);
-    }
-    Ok(state)
+    Ok(cpu.s)
 }
 
-/// One step; answers the state after it and its cause. Refusals 1, 2, 3, 5.
+/// One step. Refusals 1, 2, 3, 35, 5.
 pub fn step(
+    setup: &Setup,
     state: State,
     image: &mut [u8],
     map: &[u8],
     line: u16,
-) -> Result<(State, Cause), Refusal> {
-    let mut cpu = cpu(state, image, map)?;
+) -> Result<Stepped, Refusal> {
+    let mut cpu = cpu(setup, state, image, map)?;
     good_lines(&[line])?;
     let cause = cpu.step(line);
-    Ok((cpu.s, cause))
+    Ok(Stepped {
+        state: cpu.s,
+        cause,
+        blank: cpu.told,
+    })
 }
 
-/// One step for each line word. Refusals 1, 2, 3, 4, 5.
-pub fn run(state: State, image: &mut [u8], map: &[u8], lines: &[u16]) -> Result<Ran, Refusal> {
-    let mut cpu = cpu(state, image, map)?;
+/// The refusals of a run alone: 1, 2, 3, 35, 4, 5.
+pub fn check_run(
+    setup: &Setup,
+    image: &mut [u8],
+    map: &[u8],
+    lines: &[u16],
+) -> Result<(), Refusal> {
+    cpu(setup, State::cleared(), image, map)?;
     if lines.len() > MOST_LINES {
         return Err(Refusal(4));
     }
-    good_lines(lines)?;
+    good_lines(lines)
+}
+
+/// One step for each line word. Refusals 1, 2, 3, 35, 4, 5.
+pub fn run(
+    setup: &Setup,
+    state: State,
+    image: &mut [u8],
+    map: &[u8],
+    lines: &[u16],
+) -> Result<Ran, Refusal> {
+    check_run(setup, image, map, lines)?;
+    let mut cpu = cpu(setup, state, image, map)?;
     let mut blanks = 0;
     let mut first = None;
+    let mut address = None;
     for (place, &line) in lines.iter().enumerate() {
         if cpu.step(line).is_blank() {
+            if blanks == 0 {
+                first = Some(place as u16);
+                address = cpu.told;
+            }
             blanks += 1;
-            first = first.or(Some(place as u16));
         }
     }
     Ok(Ran {
         state: cpu.s,
         blanks,
         first,
+        address,
     })
 }

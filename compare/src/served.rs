@@ -1,8 +1,11 @@
-//! A program that serves the functions for C on its standard input and output (c/serve.c).
+//! Programs that serve the functions for C on their standard input and output (c/serve.c), and programs
+//! that read all their input and print.
 
-use std::cell::RefCell;
 use std::io::{Read, Write};
 use std::process::{Child, Command, Stdio};
+
+use crate::abi::{Buffers, Call, Processor};
+use crate::level::{Level, Wish};
 
 /// An argument of a call, in the order of the function's parameters.
 pub enum Argument<'a> {
@@ -37,7 +40,7 @@ impl Argument<'_> {
 }
 
 /// A program, with its input and output as pipes.
-pub fn started(command: &str) -> std::io::Result<Child> {
+fn started(command: &str) -> std::io::Result<Child> {
     let mut words = command.split_whitespace();
     Command::new(words.next().unwrap_or_default())
         .args(words)
@@ -46,27 +49,38 @@ pub fn started(command: &str) -> std::io::Result<Child> {
         .spawn()
 }
 
-/// The server, as long as it runs.
+/// What a program prints when it is given this input.
+pub fn printed(command: &str, input: &[u8]) -> std::io::Result<Vec<u8>> {
+    let mut child = started(command)?;
+    if let Some(mut pipe) = child.stdin.take() {
+        // A program that refuses early may close its input before all is written.
+        let _ = pipe.write_all(input);
+    }
+    Ok(child.wait_with_output()?.stdout)
+}
+
+/// The serving program, whose interface is the one of this level.
 pub struct Served {
-    child: RefCell<Child>,
+    child: Child,
+    pub level: Level,
 }
 
 impl Served {
-    pub fn start(command: &str) -> std::io::Result<Served> {
-        let child = RefCell::new(started(command)?);
-        Ok(Served { child })
+    pub fn start(command: &str, level: Level) -> std::io::Result<Served> {
+        let child = started(command)?;
+        Ok(Served { child, level })
     }
 
-    fn exchange(&self, request: &[u8], answer: &mut [u8]) -> std::io::Result<()> {
-        let mut child = self.child.borrow_mut();
-        let input = child.stdin.as_mut().expect("a pipe");
+    fn exchange(&mut self, request: &[u8], answer: &mut [u8]) -> std::io::Result<()> {
+        let input = self.child.stdin.as_mut().expect("a pipe");
         input.write_all(request)?;
         input.flush()?;
-        child.stdout.as_mut().expect("a pipe").read_exact(answer)
+        let output = self.child.stdout.as_mut().expect("a pipe");
+        output.read_exact(answer)
     }
 
     /// The number that the function answers. What it may write is then as the call left it; what it only reads must be as lent.
-    pub fn call(&self, name: &str, arguments: &mut [Argument]) -> u8 {
+    pub fn function(&mut self, name: &str, arguments: &mut [Argument]) -> u8 {
         let mut request = vec![name.len() as u8];
         request.extend(name.bytes());
         let mut size = 0;
@@ -90,5 +104,31 @@ impl Served {
             }
         }
         number
+    }
+}
+
+impl Processor for Served {
+    fn call(&mut self, call: Call, b: &mut Buffers) -> u8 {
+        let has_settings = self.level.has(Wish::BlockMoves);
+        let mut lent = vec![Argument::Written(&mut b.state)];
+        if call == Call::Run {
+            lent.push(Argument::Written(&mut b.tally));
+        }
+        lent.push(Argument::Written(&mut b.image));
+        lent.push(Argument::Read(&b.map));
+        if has_settings {
+            lent.push(Argument::Read(&b.settings));
+        }
+        match call {
+            Call::PowerUp => {}
+            Call::Step => lent.push(Argument::Number(b.lines[0].into())),
+            Call::Run => lent.push(Argument::Words(&b.lines)),
+        }
+        let name = match call {
+            Call::PowerUp => "wd16_power_up",
+            Call::Step => "wd16_step",
+            Call::Run => "wd16_run",
+        };
+        self.function(name, &mut lent)
     }
 }

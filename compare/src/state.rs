@@ -16,6 +16,8 @@ pub enum Mode {
     /// Halted until the switch, I3, is set.
     HaltedSwitch = 3,
     Locked = 4,
+    /// Registers saved by the halt option, until I3 is clear (wish 14).
+    Saved = 5,
 }
 
 impl Mode {
@@ -27,18 +29,20 @@ impl Mode {
             2 => Some(Mode::HaltedPowerFail),
             3 => Some(Mode::HaltedSwitch),
             4 => Some(Mode::Locked),
+            5 => Some(Mode::Saved),
             _ => None,
         }
     }
 }
 
-/// What a step was; the numbers are the page's.
+/// What a step was; the numbers are the page's. Its 7 is never given: a step that can't
+/// fetch 16 can't fetch 12 either, and locks.
 #[derive(Clone, Copy, PartialEq, Eq, Debug)]
 #[repr(u8)]
 pub enum Cause {
     /// An op code or its trap, or the end of a halt on power fail.
     OpCode = 0,
-    /// I3, also as the end of a halt.
+    /// I3, also as the end of a halt; registers saved or restored by the halt option.
     I3 = 1,
     I1 = 2,
     I0 = 3,
@@ -46,16 +50,33 @@ pub enum Cause {
     Nothing = 4,
     BlankInOpCode = 5,
     BlankInInterrupt = 6,
-    BlankAtRestart = 7,
     Locked = 8,
+    /// A bus error while registers were saved (wish 14).
+    BlankInSave = 9,
 }
 
 impl Cause {
+    /// The cause of that number.
+    pub fn from_number(number: u8) -> Option<Cause> {
+        const ALL: [Cause; 9] = [
+            Cause::OpCode,
+            Cause::I3,
+            Cause::I1,
+            Cause::I0,
+            Cause::Nothing,
+            Cause::BlankInOpCode,
+            Cause::BlankInInterrupt,
+            Cause::Locked,
+            Cause::BlankInSave,
+        ];
+        ALL.into_iter().find(|&cause| cause as u8 == number)
+    }
+
     /// Whether a run counts the step as a blank.
     pub fn is_blank(self) -> bool {
         matches!(
             self,
-            Cause::BlankInOpCode | Cause::BlankInInterrupt | Cause::BlankAtRestart
+            Cause::BlankInOpCode | Cause::BlankInInterrupt | Cause::BlankInSave
         )
     }
 }
@@ -95,22 +116,25 @@ pub struct State {
     /// The interrupt enable.
     pub i2: bool,
     pub mode: Mode,
+    /// I2 was set by the last op code, and I0 and I1 wait for one more (wish 3).
+    pub mark: bool,
 }
 
 impl State {
-    /// Registers 0, indicators and I2 clear, running.
+    /// Registers 0, indicators, I2 and the mark clear, running.
     pub fn cleared() -> State {
         State {
             r: [0; 8],
             flags: Flags::default(),
             i2: false,
             mode: Mode::Running,
+            mark: false,
         }
     }
 
-    /// The PS with bits 15 and 14 clear: both jumper pairs, I2, the indicators.
-    pub fn quiet_ps(&self) -> u16 {
-        0x0F00 | u16::from(self.i2) << 12 | self.flags.bits()
+    /// The PS with bits 15 and 14 clear: the jumpers as it shows them, I2, the indicators.
+    pub fn quiet_ps(&self, jumpers: u16) -> u16 {
+        jumpers | u16::from(self.i2) << 12 | self.flags.bits()
     }
 
     /// What a popped PS sets: the indicators and I2.

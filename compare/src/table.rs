@@ -1,6 +1,8 @@
 //! The numeric op code table: names, base codes and operands. The interpreter
 //! doesn't use it; the text and the generator of random cases do.
 
+use crate::level::{Level, Wish};
+
 /// What follows a mnemonic, and where it stands in the op code.
 #[derive(Clone, Copy, PartialEq, Eq, Debug)]
 pub enum Operands {
@@ -29,6 +31,8 @@ pub enum Operands {
     RegisterAddress,
     /// Mode and register twice.
     SourceDestination,
+    /// A register in bits 5 to 3 and one in bits 2 to 0, both holding addresses.
+    TwoRegisters,
 }
 
 impl Operands {
@@ -38,7 +42,7 @@ impl Operands {
             Operands::Nothing | Operands::Mask => 0x0000,
             Operands::Register => 0x0007,
             Operands::Digit => 0x000F,
-            Operands::Six => 0x003F,
+            Operands::Six | Operands::TwoRegisters => 0x003F,
             Operands::Displacement => 0x00FF,
             Operands::NumberRegister | Operands::RegisterCount => 0x01CF,
             Operands::Destination => 0x003F,
@@ -78,15 +82,27 @@ const fn row(base: u16, name: &'static str, operands: Operands) -> Row {
     }
 }
 
+/// The rows that have a text: the block moves only from wish 1 on.
+pub fn rows(level: Level) -> &'static [Row] {
+    if level.has(Wish::BlockMoves) {
+        &ROWS
+    } else {
+        &ROWS[..ROWS.len() - BLOCK_MOVES]
+    }
+}
+
 /// The row that covers the word; a reserved word has none.
-pub fn row_of(word: u16) -> Option<&'static Row> {
-    ROWS.iter().find(|row| row.covers(word))
+pub fn row_of(level: Level, word: u16) -> Option<&'static Row> {
+    rows(level).iter().find(|row| row.covers(word))
 }
 
 use Operands::*;
 
-/// Formats 1 to 7, 9 and 10.
-pub const ROWS: [Row; 103] = [
+/// The rows of format 8, which stand last.
+pub const BLOCK_MOVES: usize = 8;
+
+/// Formats 1 to 7, 9, 10 and 8.
+pub const ROWS: [Row; 111] = [
     row(0x0000, "NOP", Nothing),
     row(0x0001, "RESET", Nothing),
     row(0x0002, "IEN", Nothing),
@@ -190,4 +206,12 @@ pub const ROWS: [Row; 103] = [
     row(0xC000, "CMPB", SourceDestination),
     row(0xD000, "MOVB", SourceDestination),
     row(0xE000, "BISB", SourceDestination),
+    row(0x0E00, "MBWU", TwoRegisters),
+    row(0x0E40, "MBWD", TwoRegisters),
+    row(0x0E80, "MBBU", TwoRegisters),
+    row(0x0EC0, "MBBD", TwoRegisters),
+    row(0x0F00, "MBWA", TwoRegisters),
+    row(0x0F40, "MBBA", TwoRegisters),
+    row(0x0F80, "MABW", TwoRegisters),
+    row(0x0FC0, "MABB", TwoRegisters),
 ];

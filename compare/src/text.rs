@@ -1,7 +1,9 @@
 //! The text of one op code, written and read.
 
-use crate::table::{row_of, Operands, Row, ROWS};
-use crate::Refusal;
+use crate::columns::refusal_of;
+use crate::level::{Level, Wish};
+use crate::table::{row_of, rows, Operands, Row};
+use crate::{Placed, Refusal};
 
 /// The shortest text buffer that the writer takes.
 pub const LEAST_TEXT: usize = 32;
@@ -21,46 +23,38 @@ fn takes_word(field: u16) -> bool {
 
 // ---- the writer ----
 
-/// The words that are lent, handed out one by one.
-struct Words<'a> {
-    rest: &'a [u16],
-    taken: usize,
-}
-
-impl Words<'_> {
-    fn next(&mut self) -> Result<u16, Refusal> {
-        let (&first, rest) = self.rest.split_first().ok_or(Refusal(7))?;
-        self.rest = rest;
-        self.taken += 1;
-        Ok(first)
-    }
-}
+/// Gives the four characters of the next word.
+type Next<'a> = dyn FnMut() -> Result<String, Refusal> + 'a;
 
 /// The text of a mode and register.
-fn operand_text(field: u16, words: &mut Words) -> Result<String, Refusal> {
+fn operand_text(field: u16, next: &mut Next) -> Result<String, Refusal> {
     let register = name(field);
-    let next = if takes_word(field) { words.next()? } else { 0 };
+    let word = if takes_word(field) {
+        next()?
+    } else {
+        String::new()
+    };
     let text = match (field >> 3 & 7, field & 7) {
-        (2, 7) => format!("#{next:04X}"),
-        (3, 7) => format!("@#{next:04X}"),
+        (2, 7) => format!("#{word}"),
+        (3, 7) => format!("@#{word}"),
         (0, _) => register.to_string(),
         (1, _) => format!("@{register}"),
         (2, _) => format!("({register})+"),
         (3, _) => format!("@({register})+"),
         (4, _) => format!("-({register})"),
         (5, _) => format!("@-({register})"),
-        (6, _) => format!("{next:04X}({register})"),
-        _ => format!("@{next:04X}({register})"),
+        (6, _) => format!("{word}({register})"),
+        _ => format!("@{word}({register})"),
     };
     Ok(text)
 }
 
-fn operands_text(operands: Operands, word: u16, words: &mut Words) -> Result<String, Refusal> {
+fn operands_text(operands: Operands, word: u16, next: &mut Next) -> Result<String, Refusal> {
     let middle = name(word >> 6);
     let number = (word & 0xF) + 1;
     let text = match operands {
         Operands::Nothing => String::new(),
-        Operands::Mask => format!("{:04X}", words.next()?),
+        Operands::Mask => next()?,
         Operands::Register => name(word).to_string(),
         Operands::Digit => format!("{:X}", word & 0xF),
         Operands::Six => format!("{:02X}", word & 0x3F),
@@ -68,41 +62,63 @@ fn operands_text(operands: Operands, word: u16, words: &mut Words) -> Result<Str
         Operands::NumberRegister => format!("{number:02X},{middle}"),
         Operands::RegisterCount => format!("{middle},{number:02X}"),
         Operands::RegisterOffset => format!("{middle},{:02X}", word & 0x3F),
-        Operands::Destination => operand_text(word, words)?,
+        Operands::TwoRegisters => format!("{},{}", name(word >> 3), name(word)),
+        Operands::Destination => operand_text(word, next)?,
         Operands::RegisterDestination | Operands::RegisterAddress => {
-            format!("{middle},{}", operand_text(word, words)?)
+            format!("{middle},{}", operand_text(word, next)?)
         }
         Operands::SourceDestination => {
-            let source = operand_text(word >> 6, words)?;
-            format!("{source},{}", operand_text(word, words)?)
+            let source = operand_text(word >> 6, next)?;
+            format!("{source},{}", operand_text(word, next)?)
         }
     };
     Ok(text)
 }
 
-/// The line of the op code that begins the words, and the number of words it takes.
-fn line_text(words: &[u16]) -> Result<(String, usize), Refusal> {
-    let (&word, rest) = words.split_first().ok_or(Refusal(6))?;
-    let Some(row) = row_of(word).filter(|row| !row.forbids(word)) else {
-        return Ok((format!(".WORD {word:04X}"), 1));
+/// The line of an op code whose further words `next` gives.
+fn line_text(level: Level, word: u16, next: &mut Next) -> Result<String, Refusal> {
+    let Some(row) = row_of(level, word).filter(|row| !row.forbids(word)) else {
+        return Ok(word_text(word));
     };
-    let mut words = Words { rest, taken: 1 };
-    let operands = operands_text(row.operands, word, &mut words)?;
-    let line = if operands.is_empty() {
+    let operands = operands_text(row.operands, word, next)?;
+    Ok(if operands.is_empty() {
         row.name.to_string()
     } else {
         format!("{} {operands}", row.name)
+    })
+}
+
+/// A word by itself.
+pub fn word_text(word: u16) -> String {
+    format!(".WORD {word:04X}")
+}
+
+/// The line of an op code, with this character for each digit of its further words.
+pub(crate) fn template(level: Level, word: u16, digit: char) -> String {
+    let mut next = || Ok(digit.to_string().repeat(4));
+    line_text(level, word, &mut next).expect("words without end")
+}
+
+/// The line of the op code that begins the words, and the number of words it takes.
+/// Refusals 6, 7.
+pub fn text_of(level: Level, words: &[u16]) -> Result<(String, usize), Refusal> {
+    let (&word, rest) = words.split_first().ok_or(Refusal(6))?;
+    let mut more = rest.iter();
+    let mut next = || match more.next() {
+        Some(word) => Ok(format!("{word:04X}")),
+        None => Err(Refusal(7)),
     };
-    Ok((line, words.taken))
+    let line = line_text(level, word, &mut next)?;
+    Ok((line, words.len() - more.len()))
 }
 
 /// Writes the text of the first op code; answers its length and its words.
 /// Refusals 8, 6, 7.
-pub fn write_text(words: &[u16], text: &mut [u8]) -> Result<(usize, usize), Refusal> {
+pub fn write_text(level: Level, words: &[u16], text: &mut [u8]) -> Result<(usize, usize), Refusal> {
     if text.len() < LEAST_TEXT {
         return Err(Refusal(8));
     }
-    let (line, taken) = line_text(words)?;
+    let (line, taken) = text_of(level, words)?;
     text[..line.len()].copy_from_slice(line.as_bytes());
     Ok((line.len(), taken))
 }
@@ -110,7 +126,7 @@ pub fn write_text(words: &[u16], text: &mut [u8]) -> Result<(usize, usize), Refu
 // ---- the reader ----
 
 /// The digits as a number, if there are exactly `digits` and all are upper case hex.
-fn hex(text: &str, digits: usize) -> Option<u16> {
+pub(crate) fn hex(text: &str, digits: usize) -> Option<u16> {
     let good = |b: u8| b.is_ascii_digit() || (b'A'..=b'F').contains(&b);
     if text.len() != digits || !text.bytes().all(good) {
         return None;
@@ -197,6 +213,10 @@ fn operands_of(operands: Operands, text: &str) -> Option<OperandBits> {
             let (register, offset) = two()?;
             bits(register_of(register)? << 6 | six_of(offset)?)
         }
+        Operands::TwoRegisters => {
+            let (source, destination) = two()?;
+            bits(register_of(source)? << 3 | register_of(destination)?)
+        }
         Operands::Destination => {
             let (field, next) = operand_of(text)?;
             Some((field, [next, None]))
@@ -216,20 +236,21 @@ fn operands_of(operands: Operands, text: &str) -> Option<OperandBits> {
 }
 
 /// A word that has no text but .WORD.
-fn reserved_or_illegal(word: u16) -> bool {
-    row_of(word).is_none_or(|row| row.forbids(word))
+fn reserved_or_illegal(level: Level, word: u16) -> bool {
+    row_of(level, word).is_none_or(|row| row.forbids(word))
 }
 
-fn words_of(line: &str) -> Option<Vec<u16>> {
+/// The words of a line that is a text.
+pub(crate) fn words_of(level: Level, line: &str) -> Option<Vec<u16>> {
     let (mnemonic, rest) = match line.split_once(' ') {
         Some((mnemonic, rest)) => (mnemonic, Some(rest)),
         None => (line, None),
     };
     if mnemonic == ".WORD" {
         let word = hex(rest?, 4)?;
-        return reserved_or_illegal(word).then(|| vec![word]);
+        return reserved_or_illegal(level, word).then(|| vec![word]);
     }
-    let row: &Row = ROWS.iter().find(|row| row.name == mnemonic)?;
+    let row: &Row = rows(level).iter().find(|row| row.name == mnemonic)?;
     let (bits, more) = match rest {
         None if row.operands == Operands::Nothing => (0, [None, None]),
         None => return None,
@@ -244,13 +265,52 @@ fn words_of(line: &str) -> Option<Vec<u16>> {
     Some(words)
 }
 
-/// Reads a whole text; answers the number of words it wrote. Refusals 10, 9.
-pub fn read_text(text: &[u8], words: &mut [u16]) -> Result<usize, Refusal> {
+/// Reads a whole text; answers the number of words it wrote. Refusals 10, 9; from wish 9
+/// on 10, then 32, 31, 9, 30 with a column.
+pub fn read_text(level: Level, text: &[u8], words: &mut [u16]) -> Result<usize, Placed> {
     if words.len() < LEAST_WORDS {
-        return Err(Refusal(10));
+        return Err(Refusal(10).into());
     }
-    let line = std::str::from_utf8(text).map_err(|_| Refusal(9))?;
-    let found = words_of(line).ok_or(Refusal(9))?;
+    let line = std::str::from_utf8(text).ok();
+    let Some(found) = line.and_then(|line| words_of(level, line)) else {
+        return Err(if level.has(Wish::Columns) {
+            refusal_of(text)
+        } else {
+            Refusal(9).into()
+        });
+    };
     words[..found.len()].copy_from_slice(&found);
     Ok(found.len())
+}
+
+// ---- on bytes, as from C (wish 6) ----
+
+/// The words of bytes, low byte first. Refusal 38.
+fn from_bytes(bytes: &[u8]) -> Result<Vec<u16>, Refusal> {
+    if bytes.len() & 1 != 0 {
+        return Err(Refusal(38));
+    }
+    let pairs = bytes.chunks_exact(2);
+    Ok(pairs
+        .map(|two| u16::from_le_bytes([two[0], two[1]]))
+        .collect())
+}
+
+/// `write_text` of words as bytes. Refusals 38, 8, 6, 7.
+pub fn write_text_of_bytes(
+    level: Level,
+    words: &[u8],
+    text: &mut [u8],
+) -> Result<(usize, usize), Refusal> {
+    write_text(level, &from_bytes(words)?, text)
+}
+
+/// `read_text` into words as bytes. Refusals 38, then the reader's.
+pub fn read_text_to_bytes(level: Level, text: &[u8], words: &mut [u8]) -> Result<usize, Placed> {
+    let mut found = from_bytes(words)?;
+    let count = read_text(level, text, &mut found)?;
+    for (two, word) in words.chunks_exact_mut(2).zip(found) {
+        two.copy_from_slice(&word.to_le_bytes());
+    }
+    Ok(count)
 }

@@ -3,7 +3,9 @@
 use wd16::bench::bench;
 use wd16::gen::{damaged_job, good_job, Random};
 use wd16::job::read_job;
-use wd16::Refusal;
+use wd16::{Level, Refusal};
+
+const BASE: Level = Level::BASE;
 
 /// A job from its three sections.
 fn job(pages: &[u8], words: &[(u16, u16)], lines: &[u16]) -> Vec<u8> {
@@ -23,7 +25,13 @@ fn job(pages: &[u8], words: &[(u16, u16)], lines: &[u16]) -> Vec<u8> {
 }
 
 fn read(bytes: &[u8]) -> Result<usize, Refusal> {
-    read_job(bytes, &mut vec![7; 65_536], &mut [7; 256], &mut [7; 4_096])
+    read_job(
+        BASE,
+        bytes,
+        &mut vec![7; 65_536],
+        &mut [7; 256],
+        &mut [7; 4_096],
+    )
 }
 
 fn example() -> Vec<u8> {
@@ -41,13 +49,13 @@ fn example() -> Vec<u8> {
 #[test]
 fn the_line_of_the_page() {
     let line = "0000 0001 0000 0000 0000 0000 000C 0092 0F00 0 0001 0001";
-    assert_eq!(bench(&example()), line);
+    assert_eq!(bench(BASE, &example()), line);
 }
 
 #[test]
 fn an_empty_job_locks_at_power_up() {
     let line = "0000 0000 0000 0000 0000 0000 0000 0000 0F00 4 0000 ----";
-    assert_eq!(bench(&job(&[], &[], &[0])), line);
+    assert_eq!(bench(BASE, &job(&[], &[], &[0])), line);
 }
 
 #[test]
@@ -58,7 +66,10 @@ fn an_accepted_job_sets_every_byte() {
         &[(0x0100, 0x1234), (0xFFFE, 0xABCD)],
         &[1, 0x0F8B],
     );
-    assert_eq!(read_job(&bytes, &mut image, &mut map, &mut lines), Ok(2));
+    assert_eq!(
+        read_job(BASE, &bytes, &mut image, &mut map, &mut lines),
+        Ok(2)
+    );
     assert_eq!(
         image.iter().map(|&byte| u32::from(byte)).sum::<u32>(),
         0x34 + 0x12 + 0xCD + 0xAB
@@ -100,7 +111,7 @@ fn refusals() {
     ];
     for (bytes, number) in cases {
         assert_eq!(read(&bytes), Err(Refusal(number)), "{bytes:?}");
-        assert_eq!(bench(&bytes), format!("REFUSED {number}"));
+        assert_eq!(bench(BASE, &bytes), format!("REFUSED {number}"));
     }
 }
 
@@ -109,19 +120,25 @@ fn a_refused_job_leaves_the_buffers() {
     let bytes = [example(), vec![0]].concat();
     let (mut image, mut map, mut lines) = (vec![7; 65_536], [7; 256], [7; 4_096]);
     assert_eq!(
-        read_job(&bytes, &mut image[1..], &mut map[1..], &mut lines[1..]),
+        read_job(
+            BASE,
+            &bytes,
+            &mut image[1..],
+            &mut map[1..],
+            &mut lines[1..]
+        ),
         Err(Refusal(1))
     );
     assert_eq!(
-        read_job(&bytes, &mut image, &mut map[1..], &mut lines[1..]),
+        read_job(BASE, &bytes, &mut image, &mut map[1..], &mut lines[1..]),
         Err(Refusal(2))
     );
     assert_eq!(
-        read_job(&bytes, &mut image, &mut map, &mut lines[1..]),
+        read_job(BASE, &bytes, &mut image, &mut map, &mut lines[1..]),
         Err(Refusal(4))
     );
     assert_eq!(
-        read_job(&bytes, &mut image, &mut map, &mut lines),
+        read_job(BASE, &bytes, &mut image, &mut map, &mut lines),
         Err(Refusal(20))
     );
     assert!(image.iter().all(|&byte| byte == 7));

@@ -2,9 +2,9 @@
 
 mod common;
 
-use common::{Rig, I0, I1, I3, POWER_FAIL};
+use common::{Rig, BASE, I0, I1, I3, POWER_FAIL};
 use wd16::text::{read_text, write_text};
-use wd16::{power_up, run, step, Cause, Mode, Refusal, State, PC};
+use wd16::{power_up, run, step, Cause, Level, Mode, Refusal, State, PC};
 
 // ---- the examples, in the page's order ----
 
@@ -105,12 +105,15 @@ fn texts() {
     ];
     for (words, line) in lines {
         let mut text = [b'x'; 32];
-        let (length, taken) = write_text(words, &mut text).unwrap();
+        let (length, taken) = write_text(Level::BASE, words, &mut text).unwrap();
         assert_eq!(&text[..length], line.as_bytes());
         assert!(text[length..].iter().all(|&byte| byte == b'x'));
         assert_eq!(taken, words.len());
         let mut back = [0; 3];
-        assert_eq!(read_text(line.as_bytes(), &mut back), Ok(words.len()));
+        assert_eq!(
+            read_text(Level::BASE, line.as_bytes(), &mut back),
+            Ok(words.len())
+        );
         assert_eq!(&back[..words.len()], words);
     }
 }
@@ -319,17 +322,17 @@ fn without_page_0_a_restart_locks() {
 
 #[test]
 fn power_up_takes_pc_from_16() {
-    let rig = Rig::new(&[]).word(0x16, 0x1235);
-    let up = power_up(&rig.image, &rig.map).unwrap();
+    let mut rig = Rig::new(&[]).word(0x16, 0x1235);
+    let up = power_up(&BASE, &mut rig.image, &rig.map).unwrap();
     let mut expected = State::cleared();
     expected.r[PC] = 0x1235;
     assert_eq!(up, expected);
-    let rig = rig.unfit(0);
+    let mut rig = rig.unfit(0);
     let locked = State {
         mode: Mode::Locked,
         ..State::cleared()
     };
-    assert_eq!(power_up(&rig.image, &rig.map), Ok(locked));
+    assert_eq!(power_up(&BASE, &mut rig.image, &rig.map), Ok(locked));
 }
 
 #[test]
@@ -340,16 +343,16 @@ fn a_run_counts_its_blanks() {
         .word(0x0300, 0x0A9F)
         .word(0x0302, 0x8000)
         .unfit(0x80);
-    let ran = run(rig.s, &mut rig.image, &rig.map, &[0; 4]).unwrap();
+    let ran = run(&BASE, rig.s, &mut rig.image, &rig.map, &[0; 4]).unwrap();
     assert_eq!((ran.blanks, ran.first), (3, Some(1)));
-    let none = run(rig.s, &mut rig.image, &rig.map, &[]).unwrap();
+    let none = run(&BASE, rig.s, &mut rig.image, &rig.map, &[]).unwrap();
     assert_eq!((none.state, none.blanks, none.first), (rig.s, 0, None));
 }
 
 #[test]
 fn the_step_that_locks_is_no_blank() {
     let mut rig = Rig::new(&[]).reg(7, 0x8000).unfit(0x80).unfit(0);
-    let ran = run(rig.s, &mut rig.image, &rig.map, &[0; 3]).unwrap();
+    let ran = run(&BASE, rig.s, &mut rig.image, &rig.map, &[0; 3]).unwrap();
     assert_eq!((ran.state.mode, ran.blanks), (Mode::Locked, 0));
 }
 
@@ -361,15 +364,18 @@ fn refusals_in_order() {
     let mut bad_map = rig.map;
     bad_map[255] = 2;
     let short = &rig.map[1..];
-    assert_eq!(power_up(&image[1..], short), Err(Refusal(1)));
-    assert_eq!(power_up(&image, short), Err(Refusal(2)));
-    assert_eq!(power_up(&image, &bad_map), Err(Refusal(3)));
-    assert_eq!(step(rig.s, &mut image[1..], short, 4), Err(Refusal(1)));
-    assert_eq!(step(rig.s, &mut image, short, 4), Err(Refusal(2)));
-    assert_eq!(step(rig.s, &mut image, &bad_map, 4), Err(Refusal(3)));
-    assert_eq!(step(rig.s, &mut image, &rig.map, 4), Err(Refusal(5)));
+    assert_eq!(power_up(&BASE, &mut image[1..], short), Err(Refusal(1)));
+    assert_eq!(power_up(&BASE, &mut image, short), Err(Refusal(2)));
+    assert_eq!(power_up(&BASE, &mut image, &bad_map), Err(Refusal(3)));
+    assert_eq!(
+        step(&BASE, rig.s, &mut image[1..], short, 4),
+        Err(Refusal(1))
+    );
+    assert_eq!(step(&BASE, rig.s, &mut image, short, 4), Err(Refusal(2)));
+    assert_eq!(step(&BASE, rig.s, &mut image, &bad_map, 4), Err(Refusal(3)));
+    assert_eq!(step(&BASE, rig.s, &mut image, &rig.map, 4), Err(Refusal(5)));
     let refused = |image: &mut [u8], map: &[u8], lines: &[u16]| {
-        run(rig.s, image, map, lines).map(|ran| ran.blanks)
+        run(&BASE, rig.s, image, map, lines).map(|ran| ran.blanks)
     };
     assert_eq!(refused(&mut image[1..], short, &long), Err(Refusal(1)));
     assert_eq!(refused(&mut image, short, &long), Err(Refusal(2)));

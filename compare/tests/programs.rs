@@ -2,7 +2,7 @@
 
 use wd16::programs::{read_programs, LIST};
 use wd16::text::write_text;
-use wd16::{power_up, run, Mode};
+use wd16::{power_up, run, Level, Mode, Setup};
 
 #[test]
 fn five_programs_run_on_and_only_the_storm_is_blank() {
@@ -13,8 +13,10 @@ fn five_programs_run_on_and_only_the_storm_is_blank() {
         .collect();
     assert_eq!(names, ["sob", "copy", "call", "byte", "storm"]);
     for mut program in programs {
-        let state = power_up(&program.image, &program.map).unwrap();
-        let ran = run(state, &mut program.image, &program.map, &[0; 4_096]).unwrap();
+        let setup = Setup::bench(Level::LANDED);
+        let (image, map) = (&mut program.image, &program.map);
+        let state = power_up(&setup, image, map).unwrap();
+        let ran = run(&setup, state, image, map, &[0; 4_096]).unwrap();
         assert_eq!(ran.state.mode, Mode::Running);
         assert_eq!(ran.blanks > 1_000, program.name == "storm");
         assert_eq!(ran.blanks == 0, program.name != "storm");
@@ -48,7 +50,8 @@ fn the_comments_are_the_op_codes() {
             .and_then(|line| word(line))
             .unwrap_or(0);
         let mut text = [0; 32];
-        let (length, _) = write_text(&[word(said).unwrap(), more], &mut text).unwrap();
+        let (length, _) =
+            write_text(Level::LANDED, &[word(said).unwrap(), more], &mut text).unwrap();
         let text = std::str::from_utf8(&text[..length]).unwrap();
         assert!(comment.trim_start().starts_with(text), "{line}: {text}");
         checked += 1;

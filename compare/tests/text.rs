@@ -1,17 +1,19 @@
 //! The text of one op code.
 
 use wd16::text::{read_text, write_text};
-use wd16::Refusal;
+use wd16::{Level, Placed, Refusal};
+
+const BASE: Level = Level::BASE;
 
 fn text_of(words: &[u16]) -> (String, usize) {
     let mut text = [0; 32];
-    let (length, taken) = write_text(words, &mut text).expect("a whole op code");
+    let (length, taken) = write_text(BASE, words, &mut text).expect("a whole op code");
     (String::from_utf8(text[..length].to_vec()).unwrap(), taken)
 }
 
-fn words_of(line: &str) -> Result<Vec<u16>, Refusal> {
+fn words_of(line: &str) -> Result<Vec<u16>, Placed> {
     let mut words = [0xEEEE; 5];
-    let count = read_text(line.as_bytes(), &mut words)?;
+    let count = read_text(BASE, line.as_bytes(), &mut words)?;
     assert!(words[count..].iter().all(|&word| word == 0xEEEE));
     Ok(words[..count].to_vec())
 }
@@ -64,7 +66,7 @@ fn every_first_word_is_read_back() {
         );
         for short in 1..taken {
             let words = &[word, 0x12AF, 0xB034][..short];
-            assert_eq!(write_text(words, &mut [0; 32]), Err(Refusal(7)));
+            assert_eq!(write_text(BASE, words, &mut [0; 32]), Err(Refusal(7)));
         }
     }
     assert_eq!(longest, 24);
@@ -100,10 +102,13 @@ fn check(line: &str) {
 
 #[test]
 fn refusals() {
-    assert_eq!(write_text(&[], &mut [0; 31]), Err(Refusal(8)));
-    assert_eq!(write_text(&[], &mut [0; 32]), Err(Refusal(6)));
-    assert_eq!(write_text(&[0x000B], &mut [0; 32]), Err(Refusal(7)));
-    assert_eq!(read_text(b"NOPE", &mut [0; 2]), Err(Refusal(10)));
+    assert_eq!(write_text(BASE, &[], &mut [0; 31]), Err(Refusal(8)));
+    assert_eq!(write_text(BASE, &[], &mut [0; 32]), Err(Refusal(6)));
+    assert_eq!(write_text(BASE, &[0x000B], &mut [0; 32]), Err(Refusal(7)));
+    assert_eq!(
+        read_text(BASE, b"NOPE", &mut [0; 2]),
+        Err(Refusal(10).into())
+    );
     let lines = [
         "",
         "NOPE",
@@ -140,7 +145,10 @@ fn refusals() {
         "\u{e9}",
     ];
     for line in lines {
-        assert_eq!(words_of(line), Err(Refusal(9)), "{line}");
+        assert_eq!(words_of(line), Err(Refusal(9).into()), "{line}");
     }
-    assert_eq!(read_text(&[0xFF, 0xFE], &mut [0; 3]), Err(Refusal(9)));
+    assert_eq!(
+        read_text(BASE, &[0xFF, 0xFE], &mut [0; 3]),
+        Err(Refusal(9).into())
+    );
 }

@@ -9,96 +9,17 @@
 //! After each step state, cause and the whole image must be the same. The first
 //! difference is printed, and the answer is then 1.
 
-use std::io::Write;
 use std::process::ExitCode;
 
-use wd16::abi;
+use wd16::abi::{self, Buffers, Call, Plain, Processor, CALLS};
 use wd16::bench::bench;
 use wd16::board::{IMAGE, PAGES};
 use wd16::coverage::{Ahead, Coverage};
 use wd16::gen::{self, Random};
 use wd16::machine::MOST_LINES;
-use wd16::served::Argument::{Number, Read, Words, Written};
-use wd16::served::{started, Served};
-use wd16::text::write_text;
-use wd16::{Cause, PC};
-
-type StateBytes = [u8; abi::STATE];
-type TallyBytes = [u8; abi::TALLY];
-
-/// The C interface over slices.
-trait Processor {
-    fn power_up(&self, state: &mut [u8], image: &[u8], map: &[u8]) -> u8;
-    fn step(&self, state: &mut [u8], image: &mut [u8], map: &[u8], line: u16) -> u8;
-    fn run(
-        &self,
-        state: &mut [u8],
-        tally: &mut [u8],
-        image: &mut [u8],
-        map: &[u8],
-        lines: &[u16],
-    ) -> u8;
-}
-
-/// The interpreter of this crate.
-struct Plain;
-
-impl Processor for Plain {
-    fn power_up(&self, state: &mut [u8], image: &[u8], map: &[u8]) -> u8 {
-        abi::power_up(state, image, map)
-    }
-
-    fn step(&self, state: &mut [u8], image: &mut [u8], map: &[u8], line: u16) -> u8 {
-        abi::step(state, image, map, line)
-    }
-
-    fn run(
-        &self,
-        state: &mut [u8],
-        tally: &mut [u8],
-        image: &mut [u8],
-        map: &[u8],
-        lines: &[u16],
-    ) -> u8 {
-        abi::run(state, tally, image, map, lines)
-    }
-}
-
-impl Processor for Served {
-    fn power_up(&self, state: &mut [u8], image: &[u8], map: &[u8]) -> u8 {
-        let mut lent = [Written(state), Read(image), Read(map)];
-        self.call("wd16_power_up", &mut lent)
-    }
-
-    fn step(&self, state: &mut [u8], image: &mut [u8], map: &[u8], line: u16) -> u8 {
-        let line = Number(line.into());
-        let mut lent = [Written(state), Written(image), Read(map), line];
-        self.call("wd16_step", &mut lent)
-    }
-
-    fn run(
-        &self,
-        state: &mut [u8],
-        tally: &mut [u8],
-        image: &mut [u8],
-        map: &[u8],
-        lines: &[u16],
-    ) -> u8 {
-        let (state, tally, image) = (Written(state), Written(tally), Written(image));
-        let mut lent = [state, tally, image, Read(map), Words(lines)];
-        self.call("wd16_run", &mut lent)
-    }
-}
-
-// ---- one board, two processors ----
-
-/// Both sides' images over one map.
-struct Pair<'a> {
-    other: &'a dyn Processor,
-    map: [u8; PAGES],
-    ours: Vec<u8>,
-    theirs: Vec<u8>,
-}
+use wd16::served::{printed, Served};
+use wd16::text::text_of;
+use wd16::{Level, Settings, State, PC};
 
 /// What differs, told to a person.
 type Difference = String;
@@ -107,199 +28,159 @@ fn hex(bytes: &[u8]) -> String {
     bytes.iter().map(|byte| format!("{byte:02X}")).collect()
 }
 
-/// Holds answers, buffers and images of one call against each other.
-fn same(
-    what: &str,
-    answers: [u8; 2],
-    buffers: [&[u8]; 2],
-    images: [&[u8]; 2],
-) -> Result<(), Difference> {
-    if answers[0] != answers[1] {
-        return Err(format!(
-            "{what}: ours answers {}, theirs {}",
-            answers[0], answers[1]
-        ));
+/// Holds two answers, and the buffers after them, against each other.
+fn same(what: &str, ours: (u8, &Buffers), theirs: (u8, &Buffers)) -> Result<(), Difference> {
+    if ours == theirs {
+        return Ok(());
     }
-    if buffers[0] != buffers[1] {
-        let (ours, theirs) = (hex(buffers[0]), hex(buffers[1]));
+    let (answers, ours, theirs) = ((ours.0, theirs.0), ours.1, theirs.1);
+    if answers.0 != answers.1 {
+        let (ours, theirs) = answers;
+        return Err(format!("{what}: ours answers {ours}, theirs {theirs}"));
+    }
+    let told = |b: &Buffers| format!("{} {}", hex(&b.state), hex(&b.tally));
+    if told(ours) != told(theirs) {
+        let (ours, theirs) = (told(ours), told(theirs));
         return Err(format!("{what}:\n  ours   {ours}\n  theirs {theirs}"));
     }
-    if images[0] != images[1] {
-        let at = images[0].iter().zip(images[1]).position(|(a, b)| a != b);
-        let at = at.unwrap_or(images[0].len().min(images[1].len()));
-        return Err(format!("{what}: the images differ from {at:04X} on"));
-    }
-    Ok(())
+    let at = ours
+        .image
+        .iter()
+        .zip(&theirs.image)
+        .position(|(a, b)| a != b);
+    let at = at.unwrap_or(ours.image.len().min(theirs.image.len()));
+    Err(format!("{what}: the images differ from {at:04X} on"))
 }
 
 /// The op code at PC, for a person.
-fn op_code_text(state: &StateBytes, image: &[u8]) -> String {
-    let pc = usize::from(u16::from_le_bytes([state[2 * PC], state[2 * PC + 1]]) & 0xFFFE);
+fn op_code_text(level: Level, state: &State, image: &[u8]) -> String {
+    let pc = usize::from(state.r[PC] & 0xFFFE);
     let words: Vec<u16> = (0..3)
         .map(|place| (pc + 2 * place) % IMAGE)
         .map(|at| u16::from_le_bytes([image[at], image[at + 1]]))
         .collect();
-    let mut text = [0; 32];
-    match write_text(&words, &mut text) {
-        Ok((length, _)) => String::from_utf8_lossy(&text[..length]).into_owned(),
-        Err(_) => String::new(),
-    }
+    text_of(level, &words).map_or(String::new(), |(text, _)| text)
+}
+
+// ---- one board, two processors ----
+
+/// Two processors on one board. `lent` is what both are lent next.
+struct Pair<'a> {
+    level: Level,
+    other: &'a mut dyn Processor,
+    lent: Buffers,
 }
 
 impl Pair<'_> {
     fn put(&mut self, words: &[(u16, u16)]) {
         for &(at, word) in words {
             let at = usize::from(at & 0xFFFE);
-            self.ours[at..at + 2].copy_from_slice(&word.to_le_bytes());
-            self.theirs[at..at + 2].copy_from_slice(&word.to_le_bytes());
+            self.lent.image[at..at + 2].copy_from_slice(&word.to_le_bytes());
         }
     }
 
-    fn power_up(&self) -> Result<(), Difference> {
-        let (mut ours, mut theirs): (StateBytes, StateBytes) = ([0; 20], [0; 20]);
-        let answers = [
-            Plain.power_up(&mut ours, &self.ours, &self.map),
-            self.other.power_up(&mut theirs, &self.theirs, &self.map),
-        ];
-        same(
-            "power-up",
-            answers,
-            [&ours, &theirs],
-            [&self.ours, &self.theirs],
-        )
-    }
-
-    fn step(&mut self, state: &mut StateBytes, line: u16) -> Result<(), Difference> {
-        let before = *state;
-        let mut theirs = before;
-        let text = op_code_text(&before, &self.ours);
-        let answers = [
-            Plain.step(state, &mut self.ours, &self.map, line),
-            self.other
-                .step(&mut theirs, &mut self.theirs, &self.map, line),
-        ];
-        let what = || format!("step from {} on line {line:04X}, {text}", hex(&before));
-        if answers[0] == answers[1] && *state == theirs && self.ours == self.theirs {
-            return Ok(());
+    /// The same call on both; answers its number and goes on with what it left.
+    fn call(&mut self, call: Call, what: impl Fn(&Buffers) -> String) -> Result<u8, Difference> {
+        let mut theirs = self.lent.clone();
+        let mut ours = self.lent.clone();
+        let their_number = self.other.call(call, &mut theirs);
+        let number = Plain(self.level).call(call, &mut ours);
+        let said = || what(&self.lent);
+        same(&said(), (number, &ours), (their_number, &theirs))?;
+        if number != 0 && ours != self.lent {
+            return Err(format!("{}: a refused call changed a buffer", said()));
         }
-        same(
-            &what(),
-            answers,
-            [state, &theirs],
-            [&self.ours, &self.theirs],
-        )
+        self.lent = ours;
+        Ok(number)
     }
 
-    fn run(&mut self, state: &StateBytes, lines: &[u16]) -> Result<(), Difference> {
-        let (mut ours, mut theirs) = (*state, *state);
-        let (mut our_tally, mut their_tally): (TallyBytes, TallyBytes) = ([9; 4], [9; 4]);
-        let answers = [
-            Plain.run(&mut ours, &mut our_tally, &mut self.ours, &self.map, lines),
-            self.other.run(
-                &mut theirs,
-                &mut their_tally,
-                &mut self.theirs,
-                &self.map,
-                lines,
-            ),
-        ];
-        let what = format!("run from {} over {} lines", hex(state), lines.len());
-        let ours = [&ours[..], &our_tally[..]].concat();
-        let theirs = [&theirs[..], &their_tally[..]].concat();
-        same(&what, answers, [&ours, &theirs], [&self.ours, &self.theirs])
+    fn step(&mut self, line: u16) -> Result<(), Difference> {
+        let level = self.level;
+        self.lent.lines = vec![line];
+        self.call(Call::Step, |lent| {
+            let state = abi::state_of(level, &lent.state).expect("a good state");
+            let text = op_code_text(level, &state, &lent.image);
+            format!("step from {} on line {line:04X}, {text}", hex(&lent.state))
+        })?;
+        Ok(())
+    }
+
+    fn run(&mut self, lines: &[u16]) -> Result<(), Difference> {
+        self.lent.lines = lines.to_vec();
+        self.call(Call::Run, |lent| {
+            format!(
+                "run from {} over {} lines",
+                hex(&lent.state),
+                lent.lines.len()
+            )
+        })?;
+        Ok(())
+    }
+
+    fn lend_state(&mut self, state: &State) {
+        self.lent.state = abi::bytes_of(self.level, state);
     }
 }
 
 // ---- calls that are to be refused ----
 
-/// All buffers of a call.
-#[derive(Clone)]
-struct Call {
-    state: Vec<u8>,
-    tally: Vec<u8>,
-    image: Vec<u8>,
-    map: Vec<u8>,
-    lines: Vec<u16>,
-}
-
 /// One thing made wrong; the state's own bytes only where they are read.
-fn damage(call: &mut Call, random: &mut Random, reads_state: bool) {
+fn damage(level: Level, b: &mut Buffers, random: &mut Random, reads_state: bool) {
     match random.below(10) {
-        0 => call.image.truncate(random.pick(&[0, 1, IMAGE - 1])),
-        1 => call.image.push(0),
-        2 => call.map.truncate(random.pick(&[0, 1, PAGES - 1])),
-        3 => call.map.push(1),
+        0 => b.image.truncate(random.pick(&[0, 1, IMAGE - 1])),
+        1 => b.image.push(0),
+        2 => b.map.truncate(random.pick(&[0, 1, PAGES - 1])),
+        3 => b.map.push(1),
         4 => {
-            let last = call.map.len().max(1) - 1;
+            let last = b.map.len().max(1) - 1;
             let at = random.pick(&[0, last / 2, last]);
-            if let Some(page) = call.map.get_mut(at) {
+            if let Some(page) = b.map.get_mut(at) {
                 *page = random.pick(&[2, 3, 0x80, 0xFF]);
             }
         }
-        5 => call
+        5 => b
             .lines
             .resize(random.pick(&[MOST_LINES, MOST_LINES + 1, 5000]), 0),
         6 => {
             let bit = random.pick(&[4, 0x10, 0x20, 0x40, 0x1000, 0x2000, 0x4000, 0x8000]);
-            let at = random.below(call.lines.len());
-            call.lines[at] |= bit;
+            let at = random.below(b.lines.len());
+            b.lines[at] |= bit;
         }
-        7 => call.state.resize(random.pick(&[0, 16, 19, 21]), 0),
-        8 if reads_state && call.state.len() == abi::STATE => {
-            let (at, least) = random.pick(&[(16, 16), (17, 2), (18, 5), (19, 9)]);
-            call.state[at] = random.pick(&[least, least + 1, 0x80, 0xFF]);
+        7 => {
+            let right = abi::state_length(level);
+            b.state
+                .resize(random.pick(&[0, 16, right - 1, right + 1]), 0);
         }
-        _ => call.tally.resize(random.pick(&[0, 3, 5]), 0),
+        8 if reads_state && b.state.len() == abi::state_length(level) => {
+            let (at, least) = random.pick(&abi::ranges(level));
+            b.state[at] = random.pick(&[least, least + 1, 0x80, 0xFF]);
+        }
+        _ => {
+            let right = abi::tally_length(level);
+            b.tally.resize(random.pick(&[0, right - 1, right + 1]), 0);
+        }
     }
-}
-
-/// A call on both sides, and its number; kind 0 is power-up, 1 step, 2 run.
-fn refused_call(kind: usize, call: &Call, other: &dyn Processor) -> Result<u8, Difference> {
-    let make = |processor: &dyn Processor| {
-        let mut c = call.clone();
-        let answer = match kind {
-            0 => processor.power_up(&mut c.state, &c.image, &c.map),
-            1 => processor.step(&mut c.state, &mut c.image, &c.map, c.lines[0]),
-            _ => processor.run(&mut c.state, &mut c.tally, &mut c.image, &c.map, &c.lines),
-        };
-        (answer, [c.state, c.tally].concat(), c.image)
-    };
-    let (ours, theirs) = (make(&Plain), make(other));
-    let what = ["damaged power-up", "damaged step", "damaged run"][kind];
-    same(
-        what,
-        [ours.0, theirs.0],
-        [&ours.1, &theirs.1],
-        [&ours.2, &theirs.2],
-    )?;
-    if ours.0 != 0 && (ours.1 != [&call.state[..], &call.tally].concat() || ours.2 != call.image) {
-        return Err(format!("{what}: a refused call changed a buffer"));
-    }
-    Ok(ours.0)
 }
 
 /// How many calls of each kind are damaged on a board.
 const DAMAGED_ON_A_BOARD: usize = 8;
 
 fn refused_calls(
-    pair: &Pair,
+    pair: &mut Pair,
     random: &mut Random,
     reached: &mut Coverage,
 ) -> Result<(), Difference> {
-    for kind in (0..3).cycle().take(3 * DAMAGED_ON_A_BOARD) {
-        let state = gen::state(random, &pair.map);
-        let mut call = Call {
-            state: abi::bytes_of(&state, Cause::OpCode).to_vec(),
-            tally: vec![9; abi::TALLY],
-            image: pair.ours.clone(),
-            map: pair.map.to_vec(),
-            lines: vec![0; 1 + random.below(3)],
-        };
+    let good = pair.lent.clone();
+    let map = good.map.clone().try_into().expect("a map");
+    for call in CALLS.into_iter().cycle().take(3 * DAMAGED_ON_A_BOARD) {
+        pair.lent = good.clone();
+        pair.lend_state(&gen::state(random, &map));
+        pair.lent.lines = vec![0; 1 + random.below(3)];
         for _ in 0..=random.below(3) {
-            damage(&mut call, random, kind > 0);
+            damage(pair.level, &mut pair.lent, random, call != Call::PowerUp);
         }
-        let number = refused_call(kind, &call, pair.other)?;
-        reached.count_refusal(kind, number);
+        let number = pair.call(call, |_| format!("damaged {call:?}"))?;
+        reached.count_refusal(call as usize, number);
     }
     Ok(())
 }
@@ -312,58 +193,68 @@ const CASES_OF_A_BOARD: usize = 128;
 fn one_case(
     pair: &mut Pair,
     random: &mut Random,
+    map: &[u8; PAGES],
     reached: &mut Coverage,
 ) -> Result<(), Difference> {
-    let case = gen::case(random, &pair.map);
+    let case = gen::case(random, map);
     pair.put(&case.words);
-    let mut state = abi::bytes_of(&case.state, Cause::OpCode);
+    pair.lend_state(&case.state);
     for line in case.lines {
-        let before = abi::state_of(&state).expect("a good state");
-        let ahead = Ahead::of(&before, &pair.ours, &pair.map);
-        pair.step(&mut state, line)?;
-        reached.count(ahead, &state);
+        let before = abi::state_of(pair.level, &pair.lent.state).expect("a good state");
+        let ahead = Ahead::of(&before, &pair.lent.image, map);
+        pair.step(line)?;
+        reached.count(ahead, &pair.lent.state);
     }
     Ok(())
 }
 
 /// A run, and that it is its steps.
-fn one_run(pair: &mut Pair, random: &mut Random) -> Result<(), Difference> {
+fn one_run(pair: &mut Pair, random: &mut Random, map: &[u8; PAGES]) -> Result<(), Difference> {
     let number = random.pick(&[0, 1, 2, 16, 64, MOST_LINES]);
     let lines: Vec<u16> = (0..number).map(|_| gen::line(random)).collect();
-    let state = abi::bytes_of(&gen::state(random, &pair.map), Cause::OpCode);
-    let (mut image, mut stepped) = (pair.ours.clone(), state);
+    pair.lend_state(&gen::state(random, map));
+    let mut stepped = pair.lent.clone();
     for &line in &lines {
-        Plain.step(&mut stepped, &mut image, &pair.map, line);
+        stepped.lines = vec![line];
+        Plain(pair.level).call(Call::Step, &mut stepped);
     }
-    pair.run(&state, &lines)?;
-    if image != pair.ours {
+    pair.run(&lines)?;
+    if stepped.image != pair.lent.image {
         return Err("a run's image is not its steps'".to_string());
     }
     Ok(())
 }
 
 fn one_board(
-    other: &dyn Processor,
+    level: Level,
+    other: &mut dyn Processor,
     random: &mut Random,
     cases: usize,
     reached: &mut Coverage,
 ) -> Result<(), Difference> {
     let board = gen::board(random);
+    let map = board.map;
     let mut pair = Pair {
+        level,
         other,
-        map: board.map,
-        theirs: board.image.clone(),
-        ours: board.image,
+        lent: Buffers {
+            state: abi::bytes_of(level, &State::cleared()),
+            tally: vec![9; abi::tally_length(level)],
+            image: board.image,
+            map: map.to_vec(),
+            lines: Vec::new(),
+            settings: abi::settings_bytes(level, &Settings::BENCH),
+        },
     };
-    pair.power_up()?;
+    pair.call(Call::PowerUp, |_| "power-up".to_string())?;
     for _ in 0..cases {
-        one_case(&mut pair, random, reached)?;
+        one_case(&mut pair, random, &map, reached)?;
     }
-    one_run(&mut pair, random)?;
-    refused_calls(&pair, random, reached)
+    one_run(&mut pair, random, &map)?;
+    refused_calls(&mut pair, random, reached)
 }
 
-fn compare(other: &dyn Processor, seed: u64, cases: usize) -> ExitCode {
+fn compare(level: Level, other: &mut dyn Processor, seed: u64, cases: usize) -> ExitCode {
     println!("seed {seed}, {cases} cases");
     let mut reached = Coverage::new();
     let mut done = 0;
@@ -371,7 +262,7 @@ fn compare(other: &dyn Processor, seed: u64, cases: usize) -> ExitCode {
     while done < cases {
         let mut random = Random::new(seed.wrapping_mul(1_000_003).wrapping_add(boards));
         let some = CASES_OF_A_BOARD.min(cases - done);
-        if let Err(difference) = one_board(other, &mut random, some, &mut reached) {
+        if let Err(difference) = one_board(level, other, &mut random, some, &mut reached) {
             println!(
                 "board {boards} of seed {seed} ({CASES_OF_A_BOARD} cases a board): {difference}"
             );
@@ -392,17 +283,7 @@ fn compare(other: &dyn Processor, seed: u64, cases: usize) -> ExitCode {
 
 // ---- jobs through a program ----
 
-/// What a bench program prints for a job.
-fn printed(command: &str, job: &[u8]) -> std::io::Result<Vec<u8>> {
-    let mut child = started(command)?;
-    if let Some(mut input) = child.stdin.take() {
-        // A program that refuses early may close its input before all is written.
-        let _ = input.write_all(job);
-    }
-    Ok(child.wait_with_output()?.stdout)
-}
-
-fn compare_jobs(command: &str, seed: u64, jobs: usize) -> ExitCode {
+fn compare_jobs(level: Level, command: &str, seed: u64, jobs: usize) -> ExitCode {
     println!("seed {seed}, {jobs} jobs");
     let mut random = Random::new(seed);
     let mut refused = [0_u64; 21];
@@ -412,7 +293,7 @@ fn compare_jobs(command: &str, seed: u64, jobs: usize) -> ExitCode {
             10 | 11 => gen::changed_job(&mut random),
             _ => gen::good_job(&mut random),
         };
-        let ours = bench(&job);
+        let ours = bench(level, &job);
         let count = ours
             .strip_prefix("REFUSED ")
             .map_or(0, |refusal| refusal.parse().unwrap_or(0));
@@ -441,9 +322,9 @@ fn compare_jobs(command: &str, seed: u64, jobs: usize) -> ExitCode {
     ExitCode::SUCCESS
 }
 
-fn compare_served(command: &str, seed: u64, cases: usize) -> ExitCode {
-    match Served::start(command) {
-        Ok(served) => compare(&served, seed, cases),
+fn compare_served(level: Level, command: &str, seed: u64, cases: usize) -> ExitCode {
+    match Served::start(command, level) {
+        Ok(mut served) => compare(level, &mut served, seed, cases),
         Err(error) => {
             println!("{command}: {error}");
             ExitCode::FAILURE
@@ -469,10 +350,10 @@ fn main() -> ExitCode {
     let (Some(seed), Some(count)) = (seed, count) else {
         return usage();
     };
-    let count = count as usize;
+    let (level, count) = (Level::LANDED, count as usize);
     match what {
-        ("self", _) => compare(&Plain, seed, count),
-        ("served", command) => compare_served(command, seed, count),
-        (_, command) => compare_jobs(command, seed, count),
+        ("self", _) => compare(level, &mut Plain(level), seed, count),
+        ("served", command) => compare_served(level, command, seed, count),
+        (_, command) => compare_jobs(level, command, seed, count),
     }
 }

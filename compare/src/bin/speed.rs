@@ -12,7 +12,7 @@ use std::time::Instant;
 use wd16::bench::line_of;
 use wd16::machine::MOST_LINES;
 use wd16::programs::{read_programs, Program, LIST};
-use wd16::{power_up, run, Ran};
+use wd16::{power_up, run, Level, Ran, Setup};
 
 const MEASUREMENTS: usize = 5;
 
@@ -26,17 +26,19 @@ struct End {
 /// Power-up and all runs of a program; also the seconds that the runs took.
 fn measure(program: &Program, runs: usize) -> (End, f64) {
     let lines = [0; MOST_LINES];
+    let setup = Setup::bench(Level::LANDED);
     let mut image = program.image.clone();
-    let state = power_up(&image, &program.map).expect("a good board");
+    let state = power_up(&setup, &mut image, &program.map).expect("a good board");
     let mut last = Ran {
         state,
         blanks: 0,
         first: None,
+        address: None,
     };
     let mut blanks = 0;
     let start = Instant::now();
     for _ in 0..runs {
-        last = run(last.state, &mut image, &program.map, &lines).expect("a good run");
+        last = run(&setup, last.state, &mut image, &program.map, &lines).expect("a good run");
         blanks += u32::from(last.blanks);
     }
     let seconds = start.elapsed().as_secs_f64();
@@ -62,7 +64,7 @@ fn main() {
         let name = &program.name;
         println!(
             "end {name} {} {:08X} {:08X}",
-            line_of(&end.last),
+            line_of(Level::LANDED, &end.last),
             end.blanks,
             end.sum
         );

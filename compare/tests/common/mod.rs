@@ -2,7 +2,10 @@
 #![allow(dead_code)]
 
 use wd16::board::{IMAGE, PAGES};
-use wd16::{step, Cause, Flags, Mode, State, PC, SP};
+use wd16::{step, Cause, Flags, Level, Mode, Setup, State, PC, SP};
+
+/// Bench's board by document 01 alone.
+pub const BASE: Setup = Setup::bench(Level::BASE);
 
 /// I0, I1, I3 and power fail in a line word.
 pub const I0: u16 = 0x0001;
@@ -13,6 +16,7 @@ pub const POWER_FAIL: u16 = 0x0080;
 /// State, image and map, all pages fitted, PC 0100, SP 0200.
 #[derive(Clone)]
 pub struct Rig {
+    pub setup: Setup,
     pub s: State,
     pub image: Vec<u8>,
     pub map: [u8; PAGES],
@@ -25,6 +29,7 @@ impl Rig {
         s.r[PC] = 0x0100;
         s.r[SP] = 0x0200;
         let rig = Rig {
+            setup: BASE,
             s,
             image: vec![0; IMAGE],
             map: [1; PAGES],
@@ -69,9 +74,10 @@ impl Rig {
 
     /// One step on a line word that must have this cause.
     pub fn step(mut self, line: u16, cause: Cause) -> Rig {
-        let (state, found) = step(self.s, &mut self.image, &self.map, line).expect("a good call");
-        assert_eq!(found, cause);
-        self.s = state;
+        let stepped = step(&self.setup, self.s, &mut self.image, &self.map, line);
+        let stepped = stepped.expect("a good call");
+        assert_eq!(stepped.cause, cause);
+        self.s = stepped.state;
         self
     }
 
