@@ -28,7 +28,7 @@ or-same map k neither h = h
 pub step-alike : (map : List ℕ) (out : Outside) (s : State) (m n : List ℕ) → length m ≡ length n → Agree map m n → Same map (stepOf map out s m) (stepOf map out s n)
 unfolding stepOf errorOf
 step-alike map out s m n l g =
-    let k = kindOf (s .mode) (s .i2) out in
+    let k = kindOf s out in
     or-same map (causeOf k) (alike map (workOf k out s) m n l g)
     (or-same map (errorCauseOf k) (alike map (busError k out s) m n l g) (record { state = refl; cause = refl; size = l; agree = g }))
 
@@ -57,5 +57,5 @@ or-untouched map m w k other h a e = came (run map w m) refl
 pub step-untouched : (map : List ℕ) (out : Outside) (s : State) (m : List ℕ) → Untouched map m (stepOf map out s m .image)
 unfolding stepOf errorOf
 step-untouched map out s m =
-    let k = kindOf (s .mode) (s .i2) out in
+    let k = kindOf s out in
     or-untouched map m (workOf k out s) (causeOf k) _ (or-untouched map m (busError k out s) (errorCauseOf k) _ (λ a e. refl))

@@ -54,7 +54,7 @@ bounded-traced out b s = bounded-cond b (bounded-trace out s) (gives s)
 
 bounded-carry : (out : Outside) (b : Begin) → Bounded 11 (carry out b)
 unfolding carry
-bounded-carry out (code s op b) = bounded-then {k = 2} (omega arith) (bounded-byFormat out (formatOf (op / 256)) s op) (λ s. bounded-traced out b s)
+bounded-carry out (code s op b) = bounded-then {k = 2} (omega arith) (bounded-byFormat out (formatOf (op / 256)) _ op) (λ s. bounded-traced out b s)
 bounded-carry out (abort s) = bounded-more (omega arith) (bounded-trap s _ _)
 
 pub bounded-opWork : (out : Outside) (s : State) → Bounded 11 (opWork out s)

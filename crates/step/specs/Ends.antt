@@ -28,12 +28,12 @@ pub fresh-back : {map m l m′ l′ : List ℕ} → Board map (beside m l) → m
 fresh-back {m = m} {l = l} b d e = rw (d, e) (record { board = board-back {m = m} {l = l} b; empty = none-left l (b .whole) })
 
 pub step-well : (map : List ℕ) (out : Outside) (s : State) (m : List ℕ) {k : Kind} {t : State} {n : List ℕ} {c : ℕ}
-    → k ≡ kindOf (s .mode) (s .i2) out → run map (workOf k out s) m ≡ value t n → c ≡ causeOf k → after t n c ≡ stepOf map out s m
+    → k ≡ kindOf s out → run map (workOf k out s) m ≡ value t n → c ≡ causeOf k → after t n c ≡ stepOf map out s m
 unfolding stepOf
 step-well map out s m e h d = rw (← e, h, d)
 
 pub step-ill : (map : List ℕ) (out : Outside) (s : State) (m : List ℕ) {k : Kind} {a : ℕ} {r : After} {u : List ℕ}
-    → k ≡ kindOf (s .mode) (s .i2) out → run map (workOf k out s) m ≡ blank a → u ≡ m → r ≡ errorOf map k out s u → r ≡ stepOf map out s m
+    → k ≡ kindOf s out → run map (workOf k out s) m ≡ blank a → u ≡ m → r ≡ errorOf map k out s u → r ≡ stepOf map out s m
 unfolding stepOf
 step-ill map out s m e h f d = rw (← e, h, ← f) d
 

@@ -5,3 +5,4 @@ pub mod Bounds
 pub mod Ends
 pub mod Alike
 pub mod Causes
+pub mod Late

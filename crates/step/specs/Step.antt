@@ -1,6 +1,6 @@
 -- One step.
 use Prim.Native.Nat.{ℕ}
-use mathlib.Core.Bool.{Bool, true, _&&_, cond}
+use mathlib.Core.Bool.{Bool, true, not, _&&_, cond}
 use lib.Dec.{leb}
 use mathlib.Core.List.{List}
 use mathlib.Core.Path.{_≡_}
@@ -21,21 +21,28 @@ use Rattle.step.specs.declared.Kind.the-variants.{OpCode, Restart, NonVe
 
 -- ---- which kind of step it is: the first that applies
 
--- 2. I1 and I2. 3. I0 and I2. 4. what a waiting or a running processor does
+-- 2. I1. 3. I0. 4. what a waiting or a running processor does
 abbrev pub raised : Outside → Kind → Kind
 raised out other = cond (out .i1) NonVectored (cond (out .i0) Vectored other)
 
--- 1. I3
+-- 1. I3; then 2 and 3, where I0 and I1 are heard
 abbrev pub asked : Bool → Outside → Kind → Kind
-asked i2 out other = cond (out .i3) (Restart 1) (cond i2 (raised out other) other)
+asked hearing out other = cond (out .i3) (Restart 1) (cond hearing (raised out other) other)
 
 -- Halted on power fail ends where power fail is clear, halted for the switch where I3 is set. Locked: nothing changes.
-unfoldable pub kindOf : Mode → Bool → Outside → Kind
-kindOf Running i2 out = asked i2 out OpCode
-kindOf Waiting i2 out = asked i2 out (Idle 4)
-kindOf PowerHalt i2 out = cond (out .fail) (Idle 4) (Restart 0)
-kindOf SwitchHalt i2 out = cond (out .i3) (Restart 1) (Idle 4)
-kindOf Locked i2 out = Idle 8
+unfoldable pub kindIn : Mode → Bool → Outside → Kind
+kindIn Running hearing out = asked hearing out OpCode
+kindIn Waiting hearing out = asked hearing out (Idle 4)
+kindIn PowerHalt hearing out = cond (out .fail) (Idle 4) (Restart 0)
+kindIn SwitchHalt hearing out = cond (out .i3) (Restart 1) (Idle 4)
+kindIn Locked hearing out = Idle 8
+
+-- I0 and I1 are heard where I2 is set and no mark holds them off.
+abbrev pub hears : State → Bool
+hears s = s .i2 && not (s .mark)
+
+abbrev pub kindOf : State → Outside → Kind
+kindOf s out = kindIn (s .mode) (hears s) out
 
 -- ---- the work of each kind
 
@@ -116,7 +123,7 @@ errorOf map k out s m = orElse (run map (busError k out s) m) (errorCauseOf k) (
 
 unfoldable pub stepOf : List ℕ → Outside → State → List ℕ → After
 stepOf map out s m =
-    let k = kindOf (s .mode) (s .i2) out in
+    let k = kindOf s out in
     orElse (run map (workOf k out s) m) (causeOf k) (errorOf map k out s m)
 
 -- ---- power-up: PC from 16; locked with PC 0 if page 0 is unfitted

@@ -38,7 +38,7 @@ pub struct Turn {
     pub cause: u8,
 }
 
-// 2. I1 and I2. 3. I0 and I2. 4. what a waiting or a running processor does.
+// 2. I1. 3. I0. 4. what a waiting or a running processor does.
 fn raised(out: Outside, other: Kind) -> Kind
     ensures { λ r. ⌜ r ≡ Spec.raised out other ⌝ }
 {
@@ -51,14 +51,14 @@ fn raised(out: Outside, other: Kind) -> Kind
     other
 }
 
-// 1. I3.
-fn asked(i2: bool, out: Outside, other: Kind) -> Kind
-    ensures { λ r. ⌜ r ≡ Spec.asked i2 out other ⌝ }
+// 1. I3; then 2 and 3, where I0 and I1 are heard.
+fn asked(hearing: bool, out: Outside, other: Kind) -> Kind
+    ensures { λ r. ⌜ r ≡ Spec.asked hearing out other ⌝ }
 {
     if out.i3 {
         return Kind::Restart(1);
     }
-    if i2 {
+    if hearing {
         return raised(out, other);
     }
     other
@@ -85,16 +85,24 @@ fn switch_halted(out: Outside) -> Kind
 }
 
 // Halted on power fail ends where power fail is clear, halted for the switch where I3 is set. Locked: nothing changes.
-fn kind_of(mode: Mode, i2: bool, out: Outside) -> Kind
-    ensures { λ r. ⌜ r ≡ Spec.kindOf mode i2 out ⌝ }
+fn kind_in(mode: Mode, hearing: bool, out: Outside) -> Kind
+    ensures { λ r. ⌜ r ≡ Spec.kindIn mode hearing out ⌝ }
 {
     match mode {
-        Mode::Running => asked(i2, out, Kind::OpCode),
-        Mode::Waiting => asked(i2, out, Kind::Idle(4)),
+        Mode::Running => asked(hearing, out, Kind::OpCode),
+        Mode::Waiting => asked(hearing, out, Kind::Idle(4)),
         Mode::PowerHalt => power_halted(out),
         Mode::SwitchHalt => switch_halted(out),
         Mode::Locked => Kind::Idle(8),
     }
+}
+
+// I0 and I1 are heard where I2 is set and no mark holds them off.
+fn kind_of(s: State, out: Outside) -> Kind
+    ensures { λ r. ⌜ r ≡ Spec.kindOf s out ⌝ }
+{
+    let mode = s.mode;
+    kind_in(mode, s.i2 & !s.mark, out)
 }
 
 // Where I1 finds its PC: 14 if power fail is set, else 2A.
@@ -241,8 +249,7 @@ pub fn step_on(
     ensures { λ r. ⌜ Spec.Stepped (now (map .entry)) (Spec.stepOf (now (map .entry)) out s (now (image .entry))) r (beside (now (image .exit)) (now (log .exit))) ⌝ }
 {
     board::clear(log);
-    let mode = s.mode;
-    let k = kind_of(mode, s.i2, out);
+    let k = kind_of(s, out);
     if let Went::Done(t) = work(s, image, map, log, out, sheet, k) {
         return Turn {
             state: t,
