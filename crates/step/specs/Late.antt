@@ -18,7 +18,8 @@ use Rattle.plate.specs.Plate.{formatOf}
 use Rattle.control.specs.Low.{lowCodes}
 use Rattle.format1.specs.Format1.{ien, format1}
 use Rattle.step.specs.declared.Kind.{Kind}
-use Rattle.step.specs.declared.Kind.the-variants.{OpCode, Restart, NonVectored, Vectored}
+use Rattle.step.specs.declared.Kind.the-variants.{OpCode, Switched, NonVectored, Vectored}
+use Rattle.step.specs.declared.Cause.the-variants as Cause
 use Rattle.step.specs.Execute.{execute, byFormat, further}
 use Rattle.step.specs.Xct.{begun, carry, traced, opWork}
 use Rattle.step.specs.Step.{After, after, raised, asked, hears, kindIn, kindOf, workOf, stepOf}
@@ -57,7 +58,7 @@ unfolding kindIn
 held s out runs mark quiet =
     ap (λ z. kindIn z (hears s) out) runs
     ∙ ap (λ z. asked z out OpCode) (ap (λ z. s .i2 && not z) mark ∙ and-no (s .i2))
-    ∙ ap (λ z. cond z (Restart 1) OpCode) quiet
+    ∙ ap (λ z. cond z Switched OpCode) quiet
 
 -- An unmarked state with I2 set hears them.
 pub unmarked-hears : (s : State) (out : Outside) → s .mode ≡ Running → s .i2 ≡ true → s .mark ≡ false → Asks out → kindOf s out ≡ heard out
@@ -65,7 +66,7 @@ unfolding kindIn
 unmarked-hears s out runs i2 mark a =
     ap (λ z. kindIn z (hears s) out) runs
     ∙ ap (λ z. asked z out OpCode) (ap (λ z. z && not (s .mark)) i2 ∙ ap not mark)
-    ∙ ap (λ z. cond z (Restart 1) (raised out OpCode)) (a .quiet)
+    ∙ ap (λ z. cond z Switched (raised out OpCode)) (a .quiet)
     ∙ one-asks (out .i1) (out .i0) (a .asks)
 
 -- ---- the steps
@@ -81,14 +82,14 @@ unfolding workOf opWork fetch begun carry traced run _>>=_
 plain-work c other does = rw (c .there, c .code, other, does)
 
 plain-step : {op : ℕ} {map : List ℕ} {out : Outside} {s t : State} {m : List ℕ}
-    → Comes op map out s m → eqb op 5 ≡ false → execute out (begins s) op ≡ give t → stepOf map out s m ≡ after t m 0
+    → Comes op map out s m → eqb op 5 ≡ false → execute out (begins s) op ≡ give t → stepOf map out s m ≡ after t m Cause.OpCode
 plain-step {op} {map} {out} {s} {t} {m} c other does = sym (step-well map out s m {k = OpCode} (sym (c .kind)) (plain-work c other does) refl)
 
-ien-step : {map : List ℕ} {out : Outside} {s : State} {m : List ℕ} → Comes 2 map out s m → stepOf map out s m ≡ after (ien (begins s)) m 0
+ien-step : {map : List ℕ} {out : Outside} {s : State} {m : List ℕ} → Comes 2 map out s m → stepOf map out s m ≡ after (ien (begins s)) m Cause.OpCode
 unfolding byFormat further lowCodes format1 formatOf
 ien-step c = plain-step c refl refl
 
-nop-step : {map : List ℕ} {out : Outside} {s : State} {m : List ℕ} → Comes 0 map out s m → stepOf map out s m ≡ after (begins s) m 0
+nop-step : {map : List ℕ} {out : Outside} {s : State} {m : List ℕ} → Comes 0 map out s m → stepOf map out s m ≡ after (begins s) m Cause.OpCode
 unfolding byFormat further lowCodes format1 formatOf
 nop-step c = plain-step c refl refl
 
@@ -133,6 +134,6 @@ module _ {map : List ℕ} {out : Outside} {s : State} {m : List ℕ} (c : Comes 
       → (let a = stepOf map out s m in kindOf (stepOf map next (a .state) (a .image) .state) last ≡ heard last)
   unfolding withMark withI2 withReg setReg
   late-nop next last was quiet there code a =
-      let e : stepOf map out s m ≡ after (ien (begins s)) m 0 = ien-step c in
+      let e : stepOf map out s m ≡ after (ien (begins s)) m Cause.OpCode = ien-step c in
       let second : Comes 0 map next (ien (begins s)) m = record { runs = c .runs; kind = held (ien (begins s)) next (c .runs) (ap not was) quiet; there = there; code = code } in
       rw (e, nop-step second) (unmarked-hears (begins (ien (begins s))) last (c .runs) refl refl a)

@@ -6,3 +6,4 @@ pub mod Ends
 pub mod Alike
 pub mod Causes
 pub mod Late
+pub mod Told
