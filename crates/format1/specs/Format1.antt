@@ -1,6 +1,6 @@
 -- Format 1, 0000 to 000F: one word, no arguments (SAVS has its mask in the next word).
 use Prim.Native.Nat.{ℕ, _≤_}
-use mathlib.Core.Bool.{true, false, cond}
+use mathlib.Core.Bool.{true, false, not, cond}
 use mathlib.Core.List.{List, [], _∷_}
 use mathlib.Core.Path.{_≡_}
 use lib.Bits.{bitOr}
@@ -11,7 +11,7 @@ use Rattle.board.specs.Bind.{_>>=_, _>>_}
 use Rattle.state.specs.declared.State.{State}
 use Rattle.state.specs.declared.Outside.{Outside}
 use Rattle.state.specs.declared.Mode.the-variants.{Waiting, PowerHalt, SwitchHalt}
-use Rattle.state.specs.State.{withSp, withI2, withMode, psOf}
+use Rattle.state.specs.State.{withSp, withI2, withMode, withMark, psOf}
 use Rattle.word.specs.Address.{plus}
 use Rattle.state.specs.Stack.{push, pushReg, pop, popReg, popStatus, fetch, fromLoc, pushBoth, trapNow}
 
@@ -19,9 +19,9 @@ use Rattle.state.specs.Stack.{push, pushReg, pop, popReg, popStatus, fetch, fro
 abbrev pub nop : State → State
 nop s = s
 
--- IEN: I2 is set, at once
+-- IEN: I2 is set at once; where it was clear, one more op code begins before I0 and I1 are heard, and the mark says so
 abbrev pub ien : State → State
-ien s = withI2 s true
+ien s = withMark (withI2 s true) (not (s .i2))
 
 -- IDS: I2 is reset
 abbrev pub ids : State → State
@@ -63,7 +63,7 @@ savs s = do
   old ← load 0x2e
   s ← push s old
   Work.store 0x2e (bitOr old (mask .word))
-  give (withI2 s true)
+  give (ien s)
 
 -- REST: R0 to R5 are popped
 unfoldable pub rest : State → Work State

@@ -40,6 +40,14 @@ fn wfi(s: State) -> State
     s.with_i2(true).with_mode(Mode::Waiting)
 }
 
+// IEN: I2 is set at once; where it was clear, one more op code begins before I0 and I1 are heard.
+fn ien(s: State) -> State
+    ensures { λ r. ⌜ r ≡ Spec.ien s ⌝ }
+{
+    let found = s.i2;
+    s.with_i2(true).with_mark(!found)
+}
+
 // BPT: ↓ PS, ↓ PC, PC ← (loc 2C); I2 is kept.
 fn bpt(s: State, image: &mut [u8], map: &[u8], log: &mut [u16; 32], out: Outside) -> Went
     requires { ⌜ Board (now map) (beside (now image) (now log)) ⌝ }
@@ -105,7 +113,7 @@ fn savs(s: State, image: &mut [u8], map: &[u8], log: &mut [u16; 32]) -> Went
     let Kept::Done = kept else {
         return unwritten(kept);
     };
-    Went::Done(pushed.with_i2(true))
+    Went::Done(ien(pushed))
 }
 
 // REST: R0 to R5 are popped.
@@ -215,7 +223,7 @@ fn by_number(
     match op {
         0 => Went::Done(s),
         1 => Went::Done(s),
-        2 => Went::Done(s.with_i2(true)),
+        2 => Went::Done(ien(s)),
         3 => Went::Done(s.with_i2(false)),
         4 => Went::Done(halt(s, out)),
         5 => s.trap_now(image, map, log, out, 0x1e),

@@ -7,7 +7,7 @@ use Rattle.board.specs.Bind.{_>>=_, _>>_}
 use Rattle.state.specs.declared.State.{State}
 use Rattle.state.specs.declared.Outside.{Outside}
 use Rattle.state.specs.declared.Mode.the-variants.{Running}
-use Rattle.state.specs.State.{reg, withReg, withSp, withPc, withI2, withMode, withStatus, psOf}
+use Rattle.state.specs.State.{reg, withReg, withSp, withPc, withI2, withMode, withMark, withStatus, psOf}
 use Rattle.word.specs.Address.{plus, minus}
 use Rattle.state.specs.Answer.{Taken, taken}
 
@@ -59,11 +59,11 @@ pushBoth s ps = do
   s ← push s ps
   push s (s .regs .pc)
 
--- ↓ PS, ↓ PC, I2 reset, running, PC ← (loc at)
+-- ↓ PS, ↓ PC, I2 reset, the mark cleared, running, PC ← (loc at)
 unfoldable pub trap : State → ℕ → ℕ → Work State
 trap s ps at = do
   s ← pushBoth s ps
-  fromLoc (withMode (withI2 s false) Running) at
+  fromLoc (withMode (withMark (withI2 s false) false) Running) at
 
 -- PC ← at; PC ← PC + @PC
 unfoldable pub tabled : State → ℕ → Work State

@@ -1,4 +1,4 @@
--- The state: R0 to R5, SP, PC, the indicators, I2 and the mode. Only this file builds a state record; everyone else uses its named updates.
+-- The state: R0 to R5, SP, PC, the indicators, I2, the mode and the mark of a late IEN. Only this file builds a state record; everyone else uses its named updates.
 use Prim.Native.Nat.{ℕ, _-_, _/_, _%_}
 use mathlib.Core.Bool.{Bool, true, false, cond}
 use mathlib.Core.Path.{_≡_, ap}
@@ -40,7 +40,7 @@ next k = plus k 1 % 8
 -- ---- named updates
 
 unfoldable pub withReg : State → ℕ → ℕ → State
-withReg s k v = record { regs = setReg (s .regs) k v; flags = s .flags; i2 = s .i2; mode = s .mode }
+withReg s k v = record { regs = setReg (s .regs) k v; flags = s .flags; i2 = s .i2; mode = s .mode; mark = s .mark }
 
 abbrev pub withSp : State → ℕ → State
 withSp s v = withReg s 6 v
@@ -49,17 +49,21 @@ abbrev pub withPc : State → ℕ → State
 withPc s v = withReg s 7 v
 
 unfoldable pub withFlags : State → Flags → State
-withFlags s f = record { regs = s .regs; flags = f; i2 = s .i2; mode = s .mode }
+withFlags s f = record { regs = s .regs; flags = f; i2 = s .i2; mode = s .mode; mark = s .mark }
 
 unfoldable pub withI2 : State → Bool → State
-withI2 s b = record { regs = s .regs; flags = s .flags; i2 = b; mode = s .mode }
+withI2 s b = record { regs = s .regs; flags = s .flags; i2 = b; mode = s .mode; mark = s .mark }
 
 unfoldable pub withMode : State → Mode → State
-withMode s m = record { regs = s .regs; flags = s .flags; i2 = s .i2; mode = m }
+withMode s m = record { regs = s .regs; flags = s .flags; i2 = s .i2; mode = m; mark = s .mark }
+
+-- IEN is one op code late: while the mark is set, I0 and I1 are not heard
+unfoldable pub withMark : State → Bool → State
+withMark s b = record { regs = s .regs; flags = s .flags; i2 = s .i2; mode = s .mode; mark = b }
 
 -- a popped PS sets N Z V C from bits 3 to 0 and I2 from bit 12
 unfoldable pub withStatus : State → ℕ → State
-withStatus s ps = record { regs = s .regs; flags = flagsOf ps; i2 = enableOf ps; mode = s .mode }
+withStatus s ps = record { regs = s .regs; flags = flagsOf ps; i2 = enableOf ps; mode = s .mode; mark = s .mark }
 
 -- REG and the indicators, as an op code leaves them
 unfoldable pub withDone : State → ℕ → Done → State
@@ -69,7 +73,7 @@ withDone s k d = withFlags (withReg s k (d .value)) (d .flags)
 unfoldable pub withPair : State → ℕ → Pair → State
 withPair s k p = withFlags (withReg (withReg s k (p .low)) (next k) (p .high)) (p .flags)
 
--- registers 0, indicators and I2 clear, running: what a power-up begins with
+-- registers 0, indicators, I2 and the mark clear, running: what a power-up begins with
 unfoldable pub cleared : State
 cleared =
     record {
@@ -77,6 +81,7 @@ cleared =
       flags = flagsOf 0;
       i2 = false;
       mode = Running;
+      mark = false;
     }
 
 -- ---- what a step hears: power fail, I0, I1, I3 and the device code of its line word

@@ -10,7 +10,7 @@ use word::address::plus;
 ghost use mathlib.Core.Path.{_≡_};
 ghost use Rattle.board.specs.Exec.{beside, Lent, Board, Saw};
 ghost use Rattle.state.specs.State as Spec;
-ghost use Rattle.state.specs.State.{modeNumber, withReg, withSp, withPc, withI2, withMode, withFlags, withStatus, withDone, withPair, psOf};
+ghost use Rattle.state.specs.State.{modeNumber, withReg, withSp, withPc, withI2, withMode, withMark, withFlags, withStatus, withDone, withPair, psOf};
 ghost use Rattle.state.specs.Stack as Stack;
 ghost use Rattle.state.specs.Answer as Answer;
 ghost use Rattle.state.specs.Answer.{Works, wentAs, tookAs};
@@ -40,6 +40,7 @@ pub struct State {
     pub flags: Flags,
     pub i2: bool,
     pub mode: Mode,
+    pub mark: bool,
 }
 
 // What a step hears from outside.
@@ -83,7 +84,7 @@ pub fn hear(line: u16) -> Outside
     }
 }
 
-// Registers 0, indicators and I2 clear, running.
+// Registers 0, indicators, I2 and the mark clear, running.
 pub fn cleared() -> State
     ensures { λ r. ⌜ r ≡ Spec.cleared ⌝ }
 {
@@ -103,6 +104,7 @@ pub fn cleared() -> State
         flags,
         i2: false,
         mode: Mode::Running,
+        mark: false,
     }
 }
 
@@ -193,7 +195,16 @@ impl State {
             flags,
             i2: self.i2,
             mode: m,
+            mark: self.mark,
         }
+    }
+
+    // The mark of a late IEN: while it is set, I0 and I1 are not heard.
+    pub fn with_mark(mut self, b: bool) -> State
+        ensures { λ r. ⌜ r ≡ withMark self b ⌝ }
+    {
+        self.mark = b;
+        self
     }
 
     pub fn with_flags(mut self, f: Flags) -> State
@@ -348,7 +359,7 @@ impl State {
         s.push(image, map, log, pc)
     }
 
-    // ↓ PS, ↓ PC, I2 reset, running, PC ← (loc at)
+    // ↓ PS, ↓ PC, I2 reset, the mark cleared, running, PC ← (loc at)
     pub fn trap(self, image: &mut [u8], map: &[u8], log: &mut [u16; 32], ps: u16, at: u16) -> Went
         requires { ⌜ Board (now map) (beside (now image) (now log)) ⌝ }
         ensures { λ r. ⌜ Works (now (map .entry)) (Stack.trap self ps at) (now (image .entry)) (now (log .entry)) r (now (image .exit)) (now (log .exit)) ⌝ }
@@ -358,6 +369,7 @@ impl State {
             return pushed;
         };
         s.with_i2(false)
+            .with_mark(false)
             .with_mode(Mode::Running)
             .from_loc(image, map, at)
     }

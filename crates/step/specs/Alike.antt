@@ -10,6 +10,7 @@ use Rattle.state.specs.declared.State.{State}
 use Rattle.state.specs.declared.Outside.{Outside}
 use Rattle.state.specs.State.{cleared}
 use Rattle.state.specs.Stack.{fromLoc}
+use Rattle.step.specs.declared.Cause.{Cause}
 use Rattle.step.specs.Step.{After, stepOf, errorOf, orElse, orLocked, powerUpOf, kindOf, workOf, busError, causeOf, errorCauseOf}
 
 -- ---- two images that agree on fitted bytes
@@ -20,17 +21,17 @@ pub record Same (map : List ℕ) (a b : After) : Type 0 where
   pub size : length (a .image) ≡ length (b .image)
   pub agree : Agree map (a .image) (b .image)
 
-or-same : (map : List ℕ) {x y : Came State} (k : ℕ) {p q : After} → Alike map x y → Same map p q → Same map (orElse x k p) (orElse y k q)
+or-same : (map : List ℕ) {x y : Came State} (k : Cause) {p q : ℕ → After} → Alike map x y → ((a : ℕ) → Same map (p a) (q a)) → Same map (orElse x k p) (orElse y k q)
 or-same map k (both l g) h = record { state = refl; cause = refl; size = l; agree = g }
-or-same map k neither h = h
+or-same map k (neither {a}) h = h a
 
--- the same state and the same cause, and images that agree again
+-- the same state, the same cause with the address that it tells, and images that agree again
 pub step-alike : (map : List ℕ) (out : Outside) (s : State) (m n : List ℕ) → length m ≡ length n → Agree map m n → Same map (stepOf map out s m) (stepOf map out s n)
 unfolding stepOf errorOf
 step-alike map out s m n l g =
-    let k = kindOf (s .mode) (s .i2) out in
+    let k = kindOf s out in
     or-same map (causeOf k) (alike map (workOf k out s) m n l g)
-    (or-same map (errorCauseOf k) (alike map (busError k out s) m n l g) (record { state = refl; cause = refl; size = l; agree = g }))
+    (λ a. or-same map (errorCauseOf k a) (alike map (busError k out s) m n l g) (λ _. record { state = refl; cause = refl; size = l; agree = g }))
 
 or-locked : (map : List ℕ) {x y : Came State} → Alike map x y → orLocked x ≡ orLocked y
 or-locked map (both l g) = refl
@@ -47,15 +48,15 @@ power-alike map m n l g = or-locked map (alike map (fromLoc cleared 0x16) m n l 
 abbrev pub Untouched : List ℕ → List ℕ → List ℕ → Type 0
 Untouched map m n = (a : ℕ) → fitted map a ≡ false → getD n a 0 ≡ getD m a 0
 
-or-untouched : (map m : List ℕ) (w : Work State) (k : ℕ) (other : After) → Untouched map m (other .image) → Untouched map m (orElse (run map w m) k other .image)
+or-untouched : (map m : List ℕ) (w : Work State) (k : Cause) (other : ℕ → After) → ((x : ℕ) → Untouched map m (other x .image)) → Untouched map m (orElse (run map w m) k other .image)
 or-untouched map m w k other h a e = came (run map w m) refl
   where
     came : (c : Came State) → run map w m ≡ c → getD (orElse c k other .image) a 0 ≡ getD m a 0
     came (value s n) r = kept map w m s n r a e
-    came (blank x) r = h a e
+    came (blank x) r = h x a e
 
 pub step-untouched : (map : List ℕ) (out : Outside) (s : State) (m : List ℕ) → Untouched map m (stepOf map out s m .image)
 unfolding stepOf errorOf
 step-untouched map out s m =
-    let k = kindOf (s .mode) (s .i2) out in
-    or-untouched map m (workOf k out s) (causeOf k) _ (or-untouched map m (busError k out s) (errorCauseOf k) _ (λ a e. refl))
+    let k = kindOf s out in
+    or-untouched map m (workOf k out s) (causeOf k) _ (λ x. or-untouched map m (busError k out s) (errorCauseOf k x) _ (λ _ a e. refl))

@@ -14,7 +14,7 @@ use Rattle.format7.specs.Bounds.{bounded-format7}
 use Rattle.format9.specs.Bounds.{bounded-format9}
 use Rattle.format10.specs.Bounds.{bounded-format10}
 use Rattle.step.specs.declared.Kind.{Kind}
-use Rattle.step.specs.declared.Kind.the-variants.{OpCode, Restart, NonVectored, Vectored, Idle}
+use Rattle.step.specs.declared.Kind.the-variants.{OpCode, HaltEnd, Switched, NonVectored, Vectored, Waits, Stuck}
 use Rattle.step.specs.Execute.{further, byFormat}
 use Rattle.step.specs.Xct.{Begin, code, abort, beginXct, begun, trace, traced, carry, opWork}
 use Rattle.step.specs.Step.{vectored, workOf, busError}
@@ -54,7 +54,7 @@ bounded-traced out b s = bounded-cond b (bounded-trace out s) (gives s)
 
 bounded-carry : (out : Outside) (b : Begin) → Bounded 11 (carry out b)
 unfolding carry
-bounded-carry out (code s op b) = bounded-then {k = 2} (omega arith) (bounded-byFormat out (formatOf (op / 256)) s op) (λ s. bounded-traced out b s)
+bounded-carry out (code s op b) = bounded-then {k = 2} (omega arith) (bounded-byFormat out (formatOf (op / 256)) _ op) (λ s. bounded-traced out b s)
 bounded-carry out (abort s) = bounded-more (omega arith) (bounded-trap s _ _)
 
 pub bounded-opWork : (out : Outside) (s : State) → Bounded 11 (opWork out s)
@@ -71,10 +71,12 @@ bounded-vectored out s = bounded-then {k = 0} (omega arith) (bounded-trap s _ _)
 pub bounded-step : (k : Kind) (out : Outside) (s : State) → Bounded 15 (workOf k out s)
 unfolding workOf
 bounded-step OpCode out s = bounded-more (omega arith) (bounded-opWork out s)
-bounded-step (Restart cause) out s = bounded-more (omega arith) (bounded-fromLoc _ _)
+bounded-step HaltEnd out s = bounded-more (omega arith) (bounded-fromLoc _ _)
+bounded-step Switched out s = bounded-more (omega arith) (bounded-fromLoc _ _)
 bounded-step NonVectored out s = bounded-more (omega arith) (bounded-trap s _ _)
 bounded-step Vectored out s = bounded-more (omega arith) (bounded-vectored out s)
-bounded-step (Idle cause) out s = gives s
+bounded-step Waits out s = gives s
+bounded-step Stuck out s = gives s
 
 pub bounded-error : (k : Kind) (out : Outside) (s : State) → Bounded 15 (busError k out s)
 unfolding busError

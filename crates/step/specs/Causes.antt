@@ -1,102 +1,88 @@
 -- What the definitions of a step rule out.
 use Prim.Native.Nat.{ℕ, _≤_}
 use native.Mathlib.Omega.{arith}
-use mathlib.Core.Bool.{Bool, true, false, cond}
+use mathlib.Core.Bool.{true, false}
 use mathlib.Core.List.{List}
 use mathlib.Core.Path.{_≡_, refl, sym, ap, _∙_}
-use Rattle.board.specs.Work.{Came, value, blank, run, fitted, writable, withWord}
+use Rattle.board.specs.Work.{value, blank, run, fitted, writable, withWord}
 use Rattle.board.specs.Bind.{_>>=_}
 use Rattle.board.specs.Alike.{found-value}
 use Rattle.state.specs.declared.State.{State}
 use Rattle.state.specs.declared.Outside.{Outside}
-use Rattle.state.specs.declared.Mode.{Mode}
-use Rattle.state.specs.declared.Mode.the-variants.{Running, Waiting, PowerHalt, SwitchHalt, Locked}
+use Rattle.state.specs.declared.Mode.the-variants.{Locked}
 use Rattle.state.specs.State.{withReg, withMode, withI2, psOf}
 use Rattle.state.specs.Registers.{setReg}
 use Rattle.word.specs.Address.{minus}
 use Rattle.state.specs.Stack.{push, pushBoth, fromLoc, trap}
 use Rattle.step.specs.declared.Kind.{Kind}
-use Rattle.step.specs.declared.Kind.the-variants.{OpCode, Restart, NonVectored, Vectored, Idle}
-use Rattle.step.specs.Step.{After, after, isBlank, asked, kindOf, workOf, busError, causeOf, errorCauseOf, errorOf, stepOf, orElse, past}
+use Rattle.step.specs.declared.Kind.the-variants.{OpCode, HaltEnd, Switched, NonVectored, Vectored, Waits, Stuck}
+use Rattle.step.specs.declared.Cause.{Cause}
+use Rattle.step.specs.declared.Cause.the-variants as Cause
+use Rattle.step.specs.declared.Cause.the-variants.{OpCodeBlank, InterruptBlank, RestartBlank, LockedAt}
+use Rattle.step.specs.Step.{after, causeNumber, isBlank, hears, kindIn, kindOf, workOf, busError, causeOf, errorCauseOf, errorOf, stepOf, orElse, past}
 use Rattle.step.specs.Ends.{step-well, step-ill}
 
 -- A step from locked changes nothing.
-pub locked-still : (map : List ℕ) (out : Outside) (s : State) (m : List ℕ) → s .mode ≡ Locked → stepOf map out s m ≡ after s m 8
-unfolding kindOf workOf run
-locked-still map out s m e = sym (step-well map out s m {k = Idle 8} (sym (ap (λ z. kindOf z (s .i2) out) e)) refl refl)
+pub locked-still : (map : List ℕ) (out : Outside) (s : State) (m : List ℕ) → s .mode ≡ Locked → stepOf map out s m ≡ after s m Cause.Locked
+unfolding kindIn workOf run
+locked-still map out s m e = sym (step-well map out s m {k = Stuck} (sym (ap (λ z. kindIn z (hears s) out) e)) refl refl)
+
+-- a cause is 0 to 8
+pub cause-le : (c : Cause) → causeNumber c ≤ 8
+cause-le Cause.OpCode = omega arith
+cause-le Cause.Switch = omega arith
+cause-le Cause.NonVectored = omega arith
+cause-le Cause.Vectored = omega arith
+cause-le Cause.Nothing = omega arith
+cause-le (OpCodeBlank a) = omega arith
+cause-le (InterruptBlank a) = omega arith
+cause-le (RestartBlank a) = omega arith
+cause-le (LockedAt a) = omega arith
+cause-le Cause.Locked = omega arith
 
 -- ---- the count of blanks is the count that the manual's steps give
 
--- what holds of the causes 0 to 4 and 8 holds of the cause of every kind of step
-module _ (P : ℕ → Type 0) where
-  cond-cause : (b : Bool) (x y : Kind) → P (causeOf x) → P (causeOf y) → P (causeOf (cond b x y))
-  cond-cause true x y p q = p
-  cond-cause false x y p q = q
-
-  asked-cause : (i2 : Bool) (out : Outside) (k : Kind) → P 1 → P 2 → P 3 → P (causeOf k) → P (causeOf (asked i2 out k))
-  asked-cause i2 out k one two three h =
-      cond-cause (out .i3) (Restart 1) _ one
-      (cond-cause i2 _ k (cond-cause (out .i1) NonVectored _ two (cond-cause (out .i0) Vectored k three h)) h)
-
-  kind-cause : P 0 → P 1 → P 2 → P 3 → P 4 → P 8 → (mode : Mode) (i2 : Bool) (out : Outside) → P (causeOf (kindOf mode i2 out))
-  unfolding kindOf
-  kind-cause zero one two three four eight Running i2 out = asked-cause i2 out OpCode one two three zero
-  kind-cause zero one two three four eight Waiting i2 out = asked-cause i2 out (Idle 4) one two three four
-  kind-cause zero one two three four eight PowerHalt i2 out = cond-cause (out .fail) (Idle 4) (Restart 0) four zero
-  kind-cause zero one two three four eight SwitchHalt i2 out = cond-cause (out .i3) (Restart 1) (Idle 4) one four
-  kind-cause zero one two three four eight Locked i2 out = eight
+no-blank : (k : Kind) → isBlank (causeOf k) ≡ false
+no-blank OpCode = refl
+no-blank HaltEnd = refl
+no-blank Switched = refl
+no-blank NonVectored = refl
+no-blank Vectored = refl
+no-blank Waits = refl
+no-blank Stuck = refl
 
 module _ (map : List ℕ) (out : Outside) (s : State) (m : List ℕ) where
   -- A step whose work reaches fitted addresses alone is no blank.
-  pub value-no-blank : {t : State} {n : List ℕ} → run map (workOf (kindOf (s .mode) (s .i2) out) out s) m ≡ value t n → isBlank (stepOf map out s m .cause) ≡ false
-  value-no-blank h = ap (λ a. isBlank (a .cause)) (sym (step-well map out s m refl h refl)) ∙ kind-cause (λ c. isBlank c ≡ false) refl refl refl refl refl refl (s .mode) (s .i2) out
+  pub value-no-blank : {t : State} {n : List ℕ} → run map (workOf (kindOf s out) out s) m ≡ value t n → isBlank (stepOf map out s m .cause) ≡ false
+  value-no-blank h = ap (λ a. isBlank (a .cause)) (sym (step-well map out s m refl h refl)) ∙ no-blank (kindOf s out)
 
   -- A step whose work reaches an unfitted address is the bus error's: its trap, or locked.
-  pub blank-error : {a : ℕ} → run map (workOf (kindOf (s .mode) (s .i2) out) out s) m ≡ blank a → stepOf map out s m ≡ errorOf map (kindOf (s .mode) (s .i2) out) out s m
+  pub blank-error : {a : ℕ} → run map (workOf (kindOf s out) out s) m ≡ blank a → stepOf map out s m ≡ errorOf map (kindOf s out) out s m a
   blank-error h = sym (step-ill map out s m refl h refl refl)
 
 -- where the trap succeeds it is counted
-counted : (k : Kind) (out : Outside) (s : State) (map m : List ℕ) {a : ℕ} → run map (workOf k out s) m ≡ blank a → isBlank (errorCauseOf k) ≡ true
+counted : (k : Kind) (out : Outside) (s : State) (map m : List ℕ) {a : ℕ} → run map (workOf k out s) m ≡ blank a → isBlank (errorCauseOf k a) ≡ true
 unfolding workOf run
 counted OpCode out s map m h = refl
-counted (Restart cause) out s map m h = refl
+counted HaltEnd out s map m h = refl
+counted Switched out s map m h = refl
 counted NonVectored out s map m h = refl
 counted Vectored out s map m h = refl
-counted (Idle cause) out s map m h = let z : _≡_ {A = ℕ} 0 1 = cc in cc
+counted Waits out s map m h = let z : _≡_ {A = ℕ} 0 1 = cc in cc
+counted Stuck out s map m h = let z : _≡_ {A = ℕ} 0 1 = cc in cc
 
--- and where it does not, the state is locked, the image as lent, and the cause 8, which is no blank
+-- and where it does not, the state is locked, the image as lent, and the cause a lock-up, which is no blank
 pub blank-counted : (map : List ℕ) (out : Outside) (s : State) (m : List ℕ) {a b : ℕ}
-    → run map (workOf (kindOf (s .mode) (s .i2) out) out s) m ≡ blank a
-    → ((t : State) (n : List ℕ) → run map (busError (kindOf (s .mode) (s .i2) out) out s) m ≡ value t n → isBlank (stepOf map out s m .cause) ≡ true)
-    × (run map (busError (kindOf (s .mode) (s .i2) out) out s) m ≡ blank b → stepOf map out s m ≡ after (withMode s Locked) m 8)
+    → run map (workOf (kindOf s out) out s) m ≡ blank a
+    → ((t : State) (n : List ℕ) → run map (busError (kindOf s out) out s) m ≡ value t n → isBlank (stepOf map out s m .cause) ≡ true)
+    × (run map (busError (kindOf s out) out s) m ≡ blank b → stepOf map out s m ≡ after (withMode s Locked) m (LockedAt a))
 unfolding errorOf
-blank-counted map out s m h =
-    let k = kindOf (s .mode) (s .i2) out in
-    let e : stepOf map out s m ≡ orElse (run map (busError k out s) m) (errorCauseOf k) (after (withMode s Locked) m 8) = blank-error map out s m h in (
-      (λ t n g. ap (λ r. isBlank (r .cause)) (e ∙ ap (λ c. orElse c (errorCauseOf k) (after (withMode s Locked) m 8)) g) ∙ counted k out s map m h),
-      (λ g. e ∙ ap (λ c. orElse c (errorCauseOf k) (after (withMode s Locked) m 8)) g),
+blank-counted map out s m {a} h =
+    let k = kindOf s out in
+    let e : stepOf map out s m ≡ errorOf map k out s m a = blank-error map out s m h in (
+      (λ t n g. ap (λ r. isBlank (r .cause)) (e ∙ ap (λ c. orElse c (errorCauseOf k a) (λ _. after (withMode s Locked) m (LockedAt a))) g) ∙ counted k out s map m h),
+      (λ g. e ∙ ap (λ c. orElse c (errorCauseOf k a) (λ _. after (withMode s Locked) m (LockedAt a))) g),
     )
-
--- ---- a step's cause is 0 to 8
-
-error-le : (k : Kind) → errorCauseOf k ≤ 8
-error-le OpCode = omega arith
-error-le (Restart cause) = omega arith
-error-le NonVectored = omega arith
-error-le Vectored = omega arith
-error-le (Idle cause) = omega arith
-
-else-le : (c : Came State) (k : ℕ) (a : After) → k ≤ 8 → a .cause ≤ 8 → orElse c k a .cause ≤ 8
-else-le (value s m) k a p q = p
-else-le (blank b) k a p q = q
-
-pub cause-le : (map : List ℕ) (out : Outside) (s : State) (m : List ℕ) → stepOf map out s m .cause ≤ 8
-unfolding stepOf errorOf
-cause-le map out s m =
-    let k = kindOf (s .mode) (s .i2) out in
-    else-le (run map (workOf k out s) m) (causeOf k) _
-    (kind-cause (λ c. c ≤ 8) (omega arith) (omega arith) (omega arith) (omega arith) (omega arith) (omega arith) (s .mode) (s .i2) out)
-    (else-le (run map (busError k out s) m) (errorCauseOf k) _ (error-le k) (omega arith))
 
 -- ---- the image after a trap differs from the one before only where it pushed: at SP - 2 and SP - 4
 
@@ -111,13 +97,13 @@ trap-image map s ps at m t n h =
 
 -- and so does the image after a blank step: its work is dropped, and what the bus error pushed is all that is new
 pub blank-image : (map : List ℕ) (out : Outside) (s : State) (m : List ℕ) {a : ℕ} (t : State) (n : List ℕ)
-    → run map (workOf (kindOf (s .mode) (s .i2) out) out s) m ≡ blank a
-    → run map (busError (kindOf (s .mode) (s .i2) out) out s) m ≡ value t n
-    → (let u = past (kindOf (s .mode) (s .i2) out) s in
+    → run map (workOf (kindOf s out) out s) m ≡ blank a
+    → run map (busError (kindOf s out) out s) m ≡ value t n
+    → (let u = past (kindOf s out) s in
     stepOf map out s m .image ≡ withWord (withWord m (minus (u .regs .sp) 2) (psOf out true u)) (minus (minus (u .regs .sp) 2) 2) (u .regs .pc))
 unfolding errorOf busError
-blank-image map out s m t n h g =
-    let k = kindOf (s .mode) (s .i2) out in
-    let e : stepOf map out s m ≡ orElse (run map (busError k out s) m) (errorCauseOf k) (after (withMode s Locked) m 8) = blank-error map out s m h in
-    ap (λ r. r .image) (e ∙ ap (λ c. orElse c (errorCauseOf k) (after (withMode s Locked) m 8)) g)
+blank-image map out s m {a} t n h g =
+    let k = kindOf s out in
+    let e : stepOf map out s m ≡ errorOf map k out s m a = blank-error map out s m h in
+    ap (λ r. r .image) (e ∙ ap (λ c. orElse c (errorCauseOf k a) (λ _. after (withMode s Locked) m (LockedAt a))) g)
     ∙ trap-image map (past k s) (psOf out true (past k s)) 0x12 m t n g

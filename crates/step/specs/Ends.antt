@@ -19,6 +19,8 @@ use Rattle.state.specs.Answer.{wentAs, went-is, went-none}
 use Rattle.state.specs.Stack.{fromLoc}
 use Rattle.state.specs.Bounds.{bounded-fromLoc}
 use Rattle.step.specs.declared.Kind.{Kind}
+use Rattle.step.specs.declared.Cause.{Cause}
+use Rattle.step.specs.declared.Cause.the-variants.{LockedAt}
 use Rattle.step.specs.Step.{After, after, kindOf, workOf, busError, causeOf, errorCauseOf, errorOf, stepOf, orLocked, powerUpOf}
 
 pub fresh-clear : {map m l l′ : List ℕ} → Board map (beside m l) → l′ ≡ set l 0 0 → Fresh map (beside m l′)
@@ -27,23 +29,23 @@ fresh-clear {l = l} b e = rw e (record { board = board-fresh {l = l} b; empty = 
 pub fresh-back : {map m l m′ l′ : List ℕ} → Board map (beside m l) → m′ ≡ undone (beside m l) → l′ ≡ set l 0 0 → Fresh map (beside m′ l′)
 fresh-back {m = m} {l = l} b d e = rw (d, e) (record { board = board-back {m = m} {l = l} b; empty = none-left l (b .whole) })
 
-pub step-well : (map : List ℕ) (out : Outside) (s : State) (m : List ℕ) {k : Kind} {t : State} {n : List ℕ} {c : ℕ}
-    → k ≡ kindOf (s .mode) (s .i2) out → run map (workOf k out s) m ≡ value t n → c ≡ causeOf k → after t n c ≡ stepOf map out s m
+pub step-well : (map : List ℕ) (out : Outside) (s : State) (m : List ℕ) {k : Kind} {t : State} {n : List ℕ} {c : Cause}
+    → k ≡ kindOf s out → run map (workOf k out s) m ≡ value t n → c ≡ causeOf k → after t n c ≡ stepOf map out s m
 unfolding stepOf
 step-well map out s m e h d = rw (← e, h, d)
 
 pub step-ill : (map : List ℕ) (out : Outside) (s : State) (m : List ℕ) {k : Kind} {a : ℕ} {r : After} {u : List ℕ}
-    → k ≡ kindOf (s .mode) (s .i2) out → run map (workOf k out s) m ≡ blank a → u ≡ m → r ≡ errorOf map k out s u → r ≡ stepOf map out s m
+    → k ≡ kindOf s out → run map (workOf k out s) m ≡ blank a → u ≡ m → r ≡ errorOf map k out s u a → r ≡ stepOf map out s m
 unfolding stepOf
 step-ill map out s m e h f d = rw (← e, h, ← f) d
 
-pub error-well : (map : List ℕ) (k : Kind) (out : Outside) (s : State) {m u : List ℕ} {t : State} {n : List ℕ} {c : ℕ}
-    → m ≡ u → run map (busError k out s) m ≡ value t n → c ≡ errorCauseOf k → after t n c ≡ errorOf map k out s u
+pub error-well : (map : List ℕ) (k : Kind) (out : Outside) (s : State) {m u : List ℕ} {t : State} {n : List ℕ} (a : ℕ) {c : Cause}
+    → m ≡ u → run map (busError k out s) m ≡ value t n → c ≡ errorCauseOf k a → after t n c ≡ errorOf map k out s u a
 unfolding errorOf
-error-well map k out s e h d = rw (← e, h, d)
+error-well map k out s a e h d = rw (← e, h, d)
 
-pub error-ill : (map : List ℕ) (k : Kind) (out : Outside) (s : State) {m u n : List ℕ} {a : ℕ} {t : State}
-    → m ≡ u → n ≡ m → run map (busError k out s) m ≡ blank a → t ≡ withMode s Locked → after t n 8 ≡ errorOf map k out s u
+pub error-ill : (map : List ℕ) (k : Kind) (out : Outside) (s : State) {m u n : List ℕ} {a b : ℕ} {t : State}
+    → m ≡ u → n ≡ m → run map (busError k out s) m ≡ blank b → t ≡ withMode s Locked → after t n (LockedAt a) ≡ errorOf map k out s u a
 unfolding errorOf
 error-ill map k out s e f h d = rw (← e, h, d, f)
 

@@ -5,3 +5,5 @@ pub mod Bounds
 pub mod Ends
 pub mod Alike
 pub mod Causes
+pub mod Late
+pub mod Told

@@ -1,7 +1,6 @@
 -- One step.
 use Prim.Native.Nat.{ℕ}
-use mathlib.Core.Bool.{Bool, true, _&&_, cond}
-use lib.Dec.{leb}
+use mathlib.Core.Bool.{Bool, true, false, not, _&&_, cond}
 use mathlib.Core.List.{List}
 use mathlib.Core.Path.{_≡_}
 use Rattle.board.specs.Work.{Work, give, Came, value, blank, run}
@@ -17,25 +16,37 @@ use Rattle.state.specs.Stack.{fromLoc, tabled, trap, trapNow}
 use Rattle.step.specs.Xct.{opWork}
 use Rattle.step.specs.declared.Turn.{Turn}
 use Rattle.step.specs.declared.Kind.{Kind}
-use Rattle.step.specs.declared.Kind.the-variants.{OpCode, Restart, NonVectored, Vectored, Idle}
+use Rattle.step.specs.declared.Kind.the-variants.{OpCode, HaltEnd, Switched, NonVectored, Vectored, Waits, Stuck}
+use Rattle.step.specs.declared.Cause.{Cause}
+use Rattle.step.specs.declared.Cause.the-variants as Cause
+use Rattle.step.specs.declared.Cause.the-variants.{OpCodeBlank, InterruptBlank, RestartBlank, LockedAt}
+use Rattle.step.specs.declared.Told.{Told}
+use Rattle.step.specs.declared.Told.the-variants.{Nowhere, At}
 
 -- ---- which kind of step it is: the first that applies
 
--- 2. I1 and I2. 3. I0 and I2. 4. what a waiting or a running processor does
+-- 2. I1. 3. I0. 4. what a waiting or a running processor does
 abbrev pub raised : Outside → Kind → Kind
 raised out other = cond (out .i1) NonVectored (cond (out .i0) Vectored other)
 
--- 1. I3
+-- 1. I3; then 2 and 3, where I0 and I1 are heard
 abbrev pub asked : Bool → Outside → Kind → Kind
-asked i2 out other = cond (out .i3) (Restart 1) (cond i2 (raised out other) other)
+asked hearing out other = cond (out .i3) Switched (cond hearing (raised out other) other)
 
 -- Halted on power fail ends where power fail is clear, halted for the switch where I3 is set. Locked: nothing changes.
-unfoldable pub kindOf : Mode → Bool → Outside → Kind
-kindOf Running i2 out = asked i2 out OpCode
-kindOf Waiting i2 out = asked i2 out (Idle 4)
-kindOf PowerHalt i2 out = cond (out .fail) (Idle 4) (Restart 0)
-kindOf SwitchHalt i2 out = cond (out .i3) (Restart 1) (Idle 4)
-kindOf Locked i2 out = Idle 8
+unfoldable pub kindIn : Mode → Bool → Outside → Kind
+kindIn Running hearing out = asked hearing out OpCode
+kindIn Waiting hearing out = asked hearing out Waits
+kindIn PowerHalt hearing out = cond (out .fail) Waits HaltEnd
+kindIn SwitchHalt hearing out = cond (out .i3) Switched Waits
+kindIn Locked hearing out = Stuck
+
+-- I0 and I1 are heard where I2 is set and no mark holds them off.
+abbrev pub hears : State → Bool
+hears s = s .i2 && not (s .mark)
+
+abbrev pub kindOf : State → Outside → Kind
+kindOf s out = kindIn (s .mode) (hears s) out
 
 -- ---- the work of each kind
 
@@ -55,44 +66,93 @@ restart s = fromLoc (withMode s Running) 0x16
 
 unfoldable pub workOf : Kind → Outside → State → Work State
 workOf OpCode out s = opWork out s
-workOf (Restart cause) out s = restart s
+workOf HaltEnd out s = restart s
+workOf Switched out s = restart s
 workOf NonVectored out s = nonVectored out s
 workOf Vectored out s = vectored out s
-workOf (Idle cause) out s = give s
+workOf Waits out s = give s
+workOf Stuck out s = give s
 
 -- ---- bus error: from the state before the step
 
 -- PC plus 2 if the step had come to fetching or executing an op code
 abbrev pub past : Kind → State → State
 past OpCode s = withPc s (plus (s .regs .pc) 2)
-past (Restart cause) s = s
+past HaltEnd s = s
+past Switched s = s
 past NonVectored s = s
 past Vectored s = s
-past (Idle cause) s = s
+past Waits s = s
+past Stuck s = s
 
 -- ↓ PS, with the bus error's bit; ↓ PC; I2 reset, running, PC from 12
 unfoldable pub busError : Kind → Outside → State → Work State
 busError k out s = trap (past k s) (psOf out true (past k s)) 0x12
 
--- ---- causes: 0 op code or its trap, 1 I3, 2 I1, 3 I0, 4 nothing done, 5 bus error in an op code, 6 in an interrupt, 7 while fetching from 16, 8 locked
+-- ---- causes
 
-abbrev pub causeOf : Kind → ℕ
-causeOf OpCode = 0
-causeOf (Restart cause) = cause
-causeOf NonVectored = 2
-causeOf Vectored = 3
-causeOf (Idle cause) = cause
+-- the page's number: 0 op code or its trap, 1 I3, 2 I1, 3 I0, 4 nothing done, 5 bus error in an op code, 6 in an interrupt, 7 while fetching from 16, 8 locked, now or before
+abbrev pub causeNumber : Cause → ℕ
+causeNumber Cause.OpCode = 0
+causeNumber Cause.Switch = 1
+causeNumber Cause.NonVectored = 2
+causeNumber Cause.Vectored = 3
+causeNumber Cause.Nothing = 4
+causeNumber (OpCodeBlank a) = 5
+causeNumber (InterruptBlank a) = 6
+causeNumber (RestartBlank a) = 7
+causeNumber (LockedAt a) = 8
+causeNumber Cause.Locked = 8
 
-abbrev pub errorCauseOf : Kind → ℕ
-errorCauseOf OpCode = 5
-errorCauseOf (Restart cause) = 7
-errorCauseOf NonVectored = 6
-errorCauseOf Vectored = 6
-errorCauseOf (Idle cause) = 8
+-- the address that a step tells: that of a blank, and that of a lock-up which is newly met
+abbrev pub addressOf : Cause → Told
+addressOf Cause.OpCode = Nowhere
+addressOf Cause.Switch = Nowhere
+addressOf Cause.NonVectored = Nowhere
+addressOf Cause.Vectored = Nowhere
+addressOf Cause.Nothing = Nowhere
+addressOf (OpCodeBlank a) = At a
+addressOf (InterruptBlank a) = At a
+addressOf (RestartBlank a) = At a
+addressOf (LockedAt a) = At a
+addressOf Cause.Locked = Nowhere
 
--- causes 5 to 7 are blanks
-abbrev pub isBlank : ℕ → Bool
-isBlank cause = leb 5 cause && leb cause 7
+-- a blank: the bus error's trap succeeded
+abbrev pub isBlank : Cause → Bool
+isBlank Cause.OpCode = false
+isBlank Cause.Switch = false
+isBlank Cause.NonVectored = false
+isBlank Cause.Vectored = false
+isBlank Cause.Nothing = false
+isBlank (OpCodeBlank a) = true
+isBlank (InterruptBlank a) = true
+isBlank (RestartBlank a) = true
+isBlank (LockedAt a) = false
+isBlank Cause.Locked = false
+
+-- the address of a blank
+abbrev pub blankAt : Cause → Told
+blankAt cause = cond (isBlank cause) (addressOf cause) Nowhere
+
+-- the end of a halt is 1 after the switch, 0 after power fail
+abbrev pub causeOf : Kind → Cause
+causeOf OpCode = Cause.OpCode
+causeOf HaltEnd = Cause.OpCode
+causeOf Switched = Cause.Switch
+causeOf NonVectored = Cause.NonVectored
+causeOf Vectored = Cause.Vectored
+causeOf Waits = Cause.Nothing
+causeOf Stuck = Cause.Locked
+
+-- a bus error at the address a; where nothing is done there is none
+abbrev pub errorCauseOf : Kind → ℕ → Cause
+errorCauseOf OpCode a = OpCodeBlank a
+errorCauseOf HaltEnd a = RestartBlank a
+errorCauseOf Switched a = RestartBlank a
+errorCauseOf NonVectored a = InterruptBlank a
+errorCauseOf Vectored a = InterruptBlank a
+errorCauseOf Waits a = LockedAt a
+errorCauseOf Stuck a = LockedAt a
 
 -- ---- the step
 
@@ -100,23 +160,24 @@ isBlank cause = leb 5 cause && leb cause 7
 pub record After : Type 0 where
   pub state : State
   pub image : List ℕ
-  pub cause : ℕ
+  pub cause : Cause
 
-abbrev pub after : State → List ℕ → ℕ → After
+abbrev pub after : State → List ℕ → Cause → After
 after s m k = record { state = s; image = m; cause = k }
 
--- what the work came to, or what is done where it reached an unfitted address
-abbrev pub orElse : Came State → ℕ → After → After
+-- what the work came to, or what is done where it reached the unfitted address a
+abbrev pub orElse : Came State → Cause → (ℕ → After) → After
 orElse (value s m) cause other = after s m cause
-orElse (blank a) cause other = other
+orElse (blank a) cause other = other a
 
--- all work is dropped; the bus error's trap; if that too reaches an unfitted address, all is as before but the mode, which is locked
-unfoldable pub errorOf : List ℕ → Kind → Outside → State → List ℕ → After
-errorOf map k out s m = orElse (run map (busError k out s) m) (errorCauseOf k) (after (withMode s Locked) m 8)
+-- All work is dropped; the bus error's trap; if that too reaches an unfitted address, all is as before but the mode, which is locked.
+-- The address told is the one that the dropped work reached, before bit 0 is dropped, and never the trap's.
+unfoldable pub errorOf : List ℕ → Kind → Outside → State → List ℕ → ℕ → After
+errorOf map k out s m a = orElse (run map (busError k out s) m) (errorCauseOf k a) (λ _. after (withMode s Locked) m (LockedAt a))
 
 unfoldable pub stepOf : List ℕ → Outside → State → List ℕ → After
 stepOf map out s m =
-    let k = kindOf (s .mode) (s .i2) out in
+    let k = kindOf s out in
     orElse (run map (workOf k out s) m) (causeOf k) (errorOf map k out s m)
 
 -- ---- power-up: PC from 16; locked with PC 0 if page 0 is unfitted

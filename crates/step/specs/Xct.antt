@@ -15,7 +15,7 @@ use Rattle.state.specs.declared.Took.{Took}
 use Rattle.state.specs.declared.Took.the-variants as Took
 use Rattle.state.specs.declared.Went.{Went}
 use Rattle.state.specs.declared.Went.the-variants as Went
-use Rattle.state.specs.State.{withFlags, psOf}
+use Rattle.state.specs.State.{withFlags, withMark, psOf}
 use Rattle.state.specs.Stack.{popReg, pop, fetch, fromLoc, pushBoth}
 use Rattle.format1.specs.Format1.{xctError}
 use Rattle.step.specs.Execute.{execute}
@@ -59,9 +59,10 @@ trace out s = do
 unfoldable pub traced : Outside → Bool → State → Work State
 traced out b s = cond b (trace out s) (give s)
 
+-- The op code is executed with an older mark cleared: at its end the mark says whether its own IEN found I2 clear.
 unfoldable pub carry : Outside → Begin → Work State
 carry out (code s op b) = do
-  s ← execute out s op
+  s ← execute out (withMark s false) op
   traced out b s
 carry out (abort s) = xctError out s
 

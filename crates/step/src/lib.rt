@@ -23,22 +23,108 @@ pub(crate) enum Begun {
     Blank(u16),
 }
 
-// What a line word makes of a step; a cause is known before the work for some.
+// What a line word makes of a step: an op code, the end of a halt on power fail, I3, I1, I0; nothing is done; locked.
 pub(crate) enum Kind {
     OpCode,
-    Restart(u8),
+    HaltEnd,
+    Switched,
     NonVectored,
     Vectored,
-    Idle(u8),
+    Waits,
+    Stuck,
+}
+
+// What a step was. The blanks and a lock-up that is newly met tell the address that the dropped work found unfitted.
+pub enum Cause {
+    OpCode,
+    Switch,
+    NonVectored,
+    Vectored,
+    Nothing,
+    OpCodeBlank(u16),
+    InterruptBlank(u16),
+    RestartBlank(u16),
+    LockedAt(u16),
+    Locked,
+}
+
+// An address that is told, or none.
+pub enum Told {
+    Nowhere,
+    At(u16),
 }
 
 // The state after a step, and its cause.
 pub struct Turn {
     pub state: State,
-    pub cause: u8,
+    pub cause: Cause,
 }
 
-// 2. I1 and I2. 3. I0 and I2. 4. what a waiting or a running processor does.
+// The page's number of a cause.
+pub fn cause_number(cause: Cause) -> u8
+    ensures { λ r. ⌜ r ≡ Spec.causeNumber cause ⌝ }
+{
+    match cause {
+        Cause::OpCode => 0,
+        Cause::Switch => 1,
+        Cause::NonVectored => 2,
+        Cause::Vectored => 3,
+        Cause::Nothing => 4,
+        Cause::OpCodeBlank(_) => 5,
+        Cause::InterruptBlank(_) => 6,
+        Cause::RestartBlank(_) => 7,
+        Cause::LockedAt(_) => 8,
+        Cause::Locked => 8,
+    }
+}
+
+// The address that a step tells.
+pub fn address_of(cause: Cause) -> Told
+    ensures { λ r. ⌜ r ≡ Spec.addressOf cause ⌝ }
+{
+    match cause {
+        Cause::OpCode => Told::Nowhere,
+        Cause::Switch => Told::Nowhere,
+        Cause::NonVectored => Told::Nowhere,
+        Cause::Vectored => Told::Nowhere,
+        Cause::Nothing => Told::Nowhere,
+        Cause::OpCodeBlank(a) => Told::At(a),
+        Cause::InterruptBlank(a) => Told::At(a),
+        Cause::RestartBlank(a) => Told::At(a),
+        Cause::LockedAt(a) => Told::At(a),
+        Cause::Locked => Told::Nowhere,
+    }
+}
+
+// A blank: the bus error's trap succeeded.
+fn is_blank(cause: Cause) -> bool
+    ensures { λ r. ⌜ r ≡ Spec.isBlank cause ⌝ }
+{
+    match cause {
+        Cause::OpCode => false,
+        Cause::Switch => false,
+        Cause::NonVectored => false,
+        Cause::Vectored => false,
+        Cause::Nothing => false,
+        Cause::OpCodeBlank(_) => true,
+        Cause::InterruptBlank(_) => true,
+        Cause::RestartBlank(_) => true,
+        Cause::LockedAt(_) => false,
+        Cause::Locked => false,
+    }
+}
+
+// The address of a blank.
+pub fn blank_at(cause: Cause) -> Told
+    ensures { λ r. ⌜ r ≡ Spec.blankAt cause ⌝ }
+{
+    if is_blank(cause) {
+        return address_of(cause);
+    }
+    Told::Nowhere
+}
+
+// 2. I1. 3. I0. 4. what a waiting or a running processor does.
 fn raised(out: Outside, other: Kind) -> Kind
     ensures { λ r. ⌜ r ≡ Spec.raised out other ⌝ }
 {
@@ -51,50 +137,50 @@ fn raised(out: Outside, other: Kind) -> Kind
     other
 }
 
-// 1. I3.
-fn asked(i2: bool, out: Outside, other: Kind) -> Kind
-    ensures { λ r. ⌜ r ≡ Spec.asked i2 out other ⌝ }
+// 1. I3; then 2 and 3, where I0 and I1 are heard.
+fn asked(hearing: bool, out: Outside, other: Kind) -> Kind
+    ensures { λ r. ⌜ r ≡ Spec.asked hearing out other ⌝ }
 {
     if out.i3 {
-        return Kind::Restart(1);
+        return Kind::Switched;
     }
-    if i2 {
+    if hearing {
         return raised(out, other);
     }
     other
 }
 
 fn power_halted(out: Outside) -> Kind
-    ensures { λ r. ⌜ r ≡ cond (out .fail) (Kind.Idle 4) (Kind.Restart 0) ⌝ }
+    ensures { λ r. ⌜ r ≡ cond (out .fail) Kind.Waits Kind.HaltEnd ⌝ }
 {
-    if out.fail {
-        Kind::Idle(4)
-    } else {
-        Kind::Restart(0)
-    }
+    if out.fail { Kind::Waits } else { Kind::HaltEnd }
 }
 
 fn switch_halted(out: Outside) -> Kind
-    ensures { λ r. ⌜ r ≡ cond (out .i3) (Kind.Restart 1) (Kind.Idle 4) ⌝ }
+    ensures { λ r. ⌜ r ≡ cond (out .i3) Kind.Switched Kind.Waits ⌝ }
 {
-    if out.i3 {
-        Kind::Restart(1)
-    } else {
-        Kind::Idle(4)
-    }
+    if out.i3 { Kind::Switched } else { Kind::Waits }
 }
 
 // Halted on power fail ends where power fail is clear, halted for the switch where I3 is set. Locked: nothing changes.
-fn kind_of(mode: Mode, i2: bool, out: Outside) -> Kind
-    ensures { λ r. ⌜ r ≡ Spec.kindOf mode i2 out ⌝ }
+fn kind_in(mode: Mode, hearing: bool, out: Outside) -> Kind
+    ensures { λ r. ⌜ r ≡ Spec.kindIn mode hearing out ⌝ }
 {
     match mode {
-        Mode::Running => asked(i2, out, Kind::OpCode),
-        Mode::Waiting => asked(i2, out, Kind::Idle(4)),
+        Mode::Running => asked(hearing, out, Kind::OpCode),
+        Mode::Waiting => asked(hearing, out, Kind::Waits),
         Mode::PowerHalt => power_halted(out),
         Mode::SwitchHalt => switch_halted(out),
-        Mode::Locked => Kind::Idle(8),
+        Mode::Locked => Kind::Stuck,
     }
+}
+
+// I0 and I1 are heard where I2 is set and no mark holds them off.
+fn kind_of(s: State, out: Outside) -> Kind
+    ensures { λ r. ⌜ r ≡ Spec.kindOf s out ⌝ }
+{
+    let mode = s.mode;
+    kind_in(mode, s.i2 & !s.mark, out)
 }
 
 // Where I1 finds its PC: 14 if power fail is set, else 2A.
@@ -138,7 +224,8 @@ fn work(
 {
     match k {
         Kind::OpCode => op_work(s, image, map, log, out, sheet),
-        Kind::Restart(_) => restart(s, image, map),
+        Kind::HaltEnd => restart(s, image, map),
+        Kind::Switched => restart(s, image, map),
         // Interrupts are seldom: their work stays out of line.
         Kind::NonVectored => {
             let t = s;
@@ -152,31 +239,37 @@ fn work(
             let m = map;
             state::apart(vectored(t, image, m, log, o))
         }
-        Kind::Idle(_) => Went::Done(s),
+        Kind::Waits => Went::Done(s),
+        Kind::Stuck => Went::Done(s),
     }
 }
 
-fn cause_of(k: Kind) -> u8
+fn cause_of(k: Kind) -> Cause
     ensures { λ r. ⌜ r ≡ Spec.causeOf k ⌝ }
 {
     match k {
-        Kind::OpCode => 0,
-        Kind::Restart(cause) => cause,
-        Kind::NonVectored => 2,
-        Kind::Vectored => 3,
-        Kind::Idle(cause) => cause,
+        Kind::OpCode => Cause::OpCode,
+        Kind::HaltEnd => Cause::OpCode,
+        Kind::Switched => Cause::Switch,
+        Kind::NonVectored => Cause::NonVectored,
+        Kind::Vectored => Cause::Vectored,
+        Kind::Waits => Cause::Nothing,
+        Kind::Stuck => Cause::Locked,
     }
 }
 
-fn error_cause_of(k: Kind) -> u8
-    ensures { λ r. ⌜ r ≡ Spec.errorCauseOf k ⌝ }
+// The cause of a bus error at an address; work that does nothing meets none.
+fn error_cause_of(k: Kind, a: u16) -> Cause
+    ensures { λ r. ⌜ r ≡ Spec.errorCauseOf k a ⌝ }
 {
     match k {
-        Kind::OpCode => 5,
-        Kind::Restart(_) => 7,
-        Kind::NonVectored => 6,
-        Kind::Vectored => 6,
-        Kind::Idle(_) => 8,
+        Kind::OpCode => Cause::OpCodeBlank(a),
+        Kind::HaltEnd => Cause::RestartBlank(a),
+        Kind::Switched => Cause::RestartBlank(a),
+        Kind::NonVectored => Cause::InterruptBlank(a),
+        Kind::Vectored => Cause::InterruptBlank(a),
+        Kind::Waits => Cause::LockedAt(a),
+        Kind::Stuck => Cause::LockedAt(a),
     }
 }
 
@@ -186,10 +279,12 @@ fn past(k: Kind, s: State) -> State
 {
     match k {
         Kind::OpCode => s.with_pc(plus(s.regs.pc, 2)),
-        Kind::Restart(_) => s,
+        Kind::HaltEnd => s,
+        Kind::Switched => s,
         Kind::NonVectored => s,
         Kind::Vectored => s,
-        Kind::Idle(_) => s,
+        Kind::Waits => s,
+        Kind::Stuck => s,
     }
 }
 
@@ -209,22 +304,30 @@ fn bus_error(
     t.trap(image, map, log, t.ps(out, true), 0x12)
 }
 
-// All the work is dropped; then the bus error, from the state before.
-fn error(s: State, image: &mut [u8], map: &[u8], log: &mut [u16; 32], out: Outside, k: Kind) -> Turn
+// All the work is dropped, which reached `a` unfitted; then the bus error, from the state before.
+fn error(
+    s: State,
+    image: &mut [u8],
+    map: &[u8],
+    log: &mut [u16; 32],
+    out: Outside,
+    k: Kind,
+    a: u16,
+) -> Turn
     requires { ⌜ Board (now map) (beside (now image) (now log)) ⌝ }
-    ensures { λ r. ⌜ Spec.Stepped (now (map .entry)) (Spec.errorOf (now (map .entry)) k out s (undone (beside (now (image .entry)) (now (log .entry))))) r (beside (now (image .exit)) (now (log .exit))) ⌝ }
+    ensures { λ r. ⌜ Spec.Stepped (now (map .entry)) (Spec.errorOf (now (map .entry)) k out s (undone (beside (now (image .entry)) (now (log .entry)))) a) r (beside (now (image .exit)) (now (log .exit))) ⌝ }
 {
     board::rollback(image, log);
     if let Went::Done(t) = bus_error(s, image, map, log, out, k) {
         return Turn {
             state: t,
-            cause: error_cause_of(k),
+            cause: error_cause_of(k, a),
         };
     }
     board::rollback(image, log);
     Turn {
         state: s.with_mode(Mode::Locked),
-        cause: 8,
+        cause: Cause::LockedAt(a),
     }
 }
 
@@ -241,15 +344,14 @@ pub fn step_on(
     ensures { λ r. ⌜ Spec.Stepped (now (map .entry)) (Spec.stepOf (now (map .entry)) out s (now (image .entry))) r (beside (now (image .exit)) (now (log .exit))) ⌝ }
 {
     board::clear(log);
-    let mode = s.mode;
-    let k = kind_of(mode, s.i2, out);
-    if let Went::Done(t) = work(s, image, map, log, out, sheet, k) {
-        return Turn {
+    let k = kind_of(s, out);
+    match work(s, image, map, log, out, sheet, k) {
+        Went::Done(t) => Turn {
             state: t,
             cause: cause_of(k),
-        };
+        },
+        Went::Blank(a) => error(s, image, map, log, out, k, a),
     }
-    error(s, image, map, log, out, k)
 }
 
 // PC from 16; locked where page 0 is unfitted.

@@ -118,6 +118,7 @@ fn traced(
     Went::Done(s)
 }
 
+// The op code is executed with an older mark cleared: at its end the mark says whether its own IEN found I2 clear.
 fn carry(
     s: State,
     image: &mut [u8],
@@ -131,7 +132,7 @@ fn carry(
     requires { ⌜ (Board (now map) (beside (now image) (now log))) × (now sheet ≡ table) ⌝ }
     ensures { λ r. ⌜ Works (now (map .entry)) (Spec.carry out (code s op b)) (now (image .entry)) (now (log .entry)) r (now (image .exit)) (now (log .exit)) ⌝ }
 {
-    let went = execute(s, image, map, log, out, sheet, op);
+    let went = execute(s.with_mark(false), image, map, log, out, sheet, op);
     let Went::Done(t) = went else {
         return went;
     };

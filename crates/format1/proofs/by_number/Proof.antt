@@ -46,11 +46,11 @@ returns-2 c = rw (c .match .keys2) (did refl (c .before .before .before .pre) (g
 
 returns-3 : tie.Need-returns-3
 unfolding format1
-returns-3 c = rw (c .before .match .keys3) (did refl (c .before .before .before .before .pre) (got-give (rw (c .with-i2 .ensures))))
+returns-3 c = rw (c .before .match .keys3) (did refl (c .before .before .before .before .pre) (got-give (rw (c .ien .ensures))))
 
 returns-4 : tie.Need-returns-4
 unfolding format1
-returns-4 c = rw (c .before .match .keys4) (did refl (c .before .before .before .before .pre) (got-give (rw (c .with-i22 .ensures))))
+returns-4 c = rw (c .before .match .keys4) (did refl (c .before .before .before .before .pre) (got-give (rw (c .with-i2 .ensures))))
 
 returns-5 : tie.Need-returns-5
 unfolding format1

@@ -85,7 +85,7 @@ returns-6 c =
     (got-then _ (c .before .before .before .before .before .before .before .before .before .before .before .before .before .before .before .before .before .before .before .load .ensures .got) (word-is (c .before .before .before .before .before .before .before .before .before .before .before .before .before .before .before .before .before .word .given .1))
     (got-then _ (c .before .before .before .before .before .before .before .before .before .before .before .before .before .push .ensures .got) (went-is (c .before .before .before .before .before .before .before .before .before .went2 .given .1))
     (got-then _ (c .before .before .before .before .before .store .ensures .got) (kept-is (c .before .enum-told5 .given .1))
-    (got-give (rw (c .with-i2 .ensures))))))))
+    (got-give (rw (c .ien .ensures))))))))
 
 pub savs-spec : {M : Type 1} → statement M
 savs-spec =

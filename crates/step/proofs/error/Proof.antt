@@ -11,7 +11,7 @@ bus-error-requires : tie.Need-bus-error-requires
 bus-error-requires c κs = (fresh-back (c .before .before .before .before .before .before .before .before .before .pre) (c .before .before .before .before .rollback .ensures .0) (c .before .before .before .before .rollback .ensures .1)) .board
 
 returns : tie.Need-returns
-returns c = record { turn = error-well _ _ _ _ (c .before .before .before .before .before .before .before .before .before .before .before .rollback .ensures .0) (ended-well (fresh-back (c .before .before .before .before .before .before .before .before .before .before .before .before .before .before .before .before .pre) (c .before .before .before .before .before .before .before .before .before .before .before .rollback .ensures .0) (c .before .before .before .before .before .before .before .before .before .before .before .rollback .ensures .1)) (bounded-error _ _ _) (c .before .before .before .before .before .before .bus-error .ensures .got) (went-is (c .before .before .t .given .1))) (c .error-cause-of .ensures); board = c .before .before .before .before .before .before .bus-error .ensures .board }
+returns c = record { turn = error-well _ _ _ _ _ (c .before .before .before .before .before .before .before .before .before .before .before .rollback .ensures .0) (ended-well (fresh-back (c .before .before .before .before .before .before .before .before .before .before .before .before .before .before .before .before .pre) (c .before .before .before .before .before .before .before .before .before .before .before .rollback .ensures .0) (c .before .before .before .before .before .before .before .before .before .before .before .rollback .ensures .1)) (bounded-error _ _ _) (c .before .before .before .before .before .before .bus-error .ensures .got) (went-is (c .before .before .t .given .1))) (c .error-cause-of .ensures); board = c .before .before .before .before .before .before .bus-error .ensures .board }
 
 returns-2 : tie.Need-returns-2
 returns-2 c = record { turn = error-ill _ _ _ _ (c .before .before .before .before .before .before .before .before .before .before .before .before .before .before .before .rollback .ensures .0) (c .before .before .before .rollback2 .ensures .0 ∙ taken-back (fresh-back (c .before .before .before .before .before .before .before .before .before .before .before .before .before .before .before .before .before .before .before .before .pre) (c .before .before .before .before .before .before .before .before .before .before .before .before .before .before .before .rollback .ensures .0) (c .before .before .before .before .before .before .before .before .before .before .before .before .before .before .before .rollback .ensures .1)) (c .before .before .before .before .before .before .before .before .before .before .bus-error .ensures .got) (went-none (c .before .before .before .before .before .before .enum-told .given .1))) (ended-blank (fresh-back (c .before .before .before .before .before .before .before .before .before .before .before .before .before .before .before .before .before .before .before .before .pre) (c .before .before .before .before .before .before .before .before .before .before .before .before .before .before .before .rollback .ensures .0) (c .before .before .before .before .before .before .before .before .before .before .before .before .before .before .before .rollback .ensures .1)) (bounded-error _ _ _) (c .before .before .before .before .before .before .before .before .before .before .bus-error .ensures .got) (went-none (c .before .before .before .before .before .before .enum-told .given .1))) (c .with-mode .ensures); board = (fresh-back (c .before .before .before .before .before .before .before .before .before .before .bus-error .ensures .board) (c .before .before .before .rollback2 .ensures .0) (c .before .before .before .rollback2 .ensures .1)) .board }

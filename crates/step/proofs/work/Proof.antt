@@ -11,6 +11,9 @@ op-work-requires c κs = c .before .before .before .before .before .before .pre
 restart-requires : tie.Need-restart-requires
 restart-requires c κs = c .before .before .before .before .before .pre .0 .lent
 
+restart-requires-2 : tie.Need-restart-requires-2
+restart-requires-2 c κs = c .before .before .before .before .before .pre .0 .lent
+
 trap-now-requires : tie.Need-trap-now-requires
 trap-now-requires c κs = c .before .before .before .before .before .before .before .pre .0
 
@@ -32,28 +35,41 @@ returns-2 c =
     rw (c .before .before .enum-told2 .given .1)
     (record { got = c .restart .ensures .got; board = c .before .before .before .before .before .before .pre .0 })
 
-same-length-3 : tie.Need-same-length-3
-same-length-3 c = c .before .before .before .trap-now .ensures .board .lent .size ∙ sym (c .before .before .before .before .before .before .before .before .before .before .before .pre .0 .lent .size)
-
 returns-3 : tie.Need-returns-3
 unfolding workOf
 returns-3 c =
-    rw (c .before .before .before .before .before .before .before .enum-told3 .given .1, c .apart .ensures)
-    (record { got = (rw (c .before .before .before .before .vector .ensures) at (c .before .before .before .trap-now .ensures)) .got; board = c .before .before .before .trap-now .ensures .board })
+    rw (c .before .before .enum-told3 .given .1)
+    (record { got = c .restart2 .ensures .got; board = c .before .before .before .before .before .before .pre .0 })
 
 same-length-4 : tie.Need-same-length-4
-same-length-4 c = c .before .before .before .vectored .ensures .board .lent .size ∙ sym (c .before .before .before .before .before .before .before .before .before .before .pre .0 .lent .size)
+same-length-4 c = c .before .before .before .trap-now .ensures .board .lent .size ∙ sym (c .before .before .before .before .before .before .before .before .before .before .before .pre .0 .lent .size)
 
 returns-4 : tie.Need-returns-4
 unfolding workOf
 returns-4 c =
-    rw (c .before .before .before .before .before .before .enum-told4 .given .1, c .apart2 .ensures)
-    (record { got = c .before .before .before .vectored .ensures .got; board = c .before .before .before .vectored .ensures .board })
+    rw (c .before .before .before .before .before .before .before .enum-told4 .given .1, c .apart .ensures)
+    (record { got = (rw (c .before .before .before .before .vector .ensures) at (c .before .before .before .trap-now .ensures)) .got; board = c .before .before .before .trap-now .ensures .board })
+
+same-length-5 : tie.Need-same-length-5
+same-length-5 c = c .before .before .before .vectored .ensures .board .lent .size ∙ sym (c .before .before .before .before .before .before .before .before .before .before .pre .0 .lent .size)
 
 returns-5 : tie.Need-returns-5
 unfolding workOf
 returns-5 c =
-    rw (c .enum-told5 .given .1)
+    rw (c .before .before .before .before .before .before .enum-told5 .given .1, c .apart2 .ensures)
+    (record { got = c .before .before .before .vectored .ensures .got; board = c .before .before .before .vectored .ensures .board })
+
+returns-6 : tie.Need-returns-6
+unfolding workOf
+returns-6 c =
+    rw (c .enum-told6 .given .1)
+    (did refl (c .before .before .before .before .pre .0)
+    (got-give refl))
+
+returns-7 : tie.Need-returns-7
+unfolding workOf
+returns-7 c =
+    rw (c .enum-told7 .given .1)
     (did refl (c .before .before .before .before .pre .0)
     (got-give refl))
 
@@ -66,6 +82,8 @@ work-spec =
     (λ c. search needs)
     restart-requires
     (λ c. search needs)
+    restart-requires-2
+    (λ c. search needs)
     (λ c κs. search needs)
     trap-now-requires
     (λ c κs. search needs)
@@ -73,12 +91,16 @@ work-spec =
     vectored-requires
     (λ c κs. search needs)
     (λ c. search needs)
+    (λ c. search needs)
     same-length
     returns
     (λ c. search needs)
     returns-2
-    same-length-3
+    (λ c. search needs)
     returns-3
     same-length-4
     returns-4
-    returns-5)
+    same-length-5
+    returns-5
+    returns-6
+    returns-7)

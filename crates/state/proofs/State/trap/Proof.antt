@@ -19,18 +19,18 @@ returns c =
     (got-gone _ (c .before .before .before .before .push-both .ensures .got) (went-none (c .enum-told .given .1)) (went-none (c .enum-told .given .1)))
 
 from-loc-requires : tie.Need-from-loc-requires
-from-loc-requires c κs = c .before .before .before .before .before .before .before .before .push-both .ensures .board .lent
+from-loc-requires c κs = c .before .before .before .before .before .before .before .before .before .push-both .ensures .board .lent
 
 same-length-2 : tie.Need-same-length-2
-same-length-2 c = c .before .before .before .before .before .before .before .before .before .push-both .ensures .board .lent .size ∙ sym (c .before .before .before .before .before .before .before .before .before .before .before .before .before .before .pre .lent .size)
+same-length-2 c = c .before .before .before .before .before .before .before .before .before .before .push-both .ensures .board .lent .size ∙ sym (c .before .before .before .before .before .before .before .before .before .before .before .before .before .before .before .pre .lent .size)
 
 returns-2 : tie.Need-returns-2
 unfolding trap
 returns-2 c =
     record {
-      got = got-then _ (c .before .before .before .before .before .before .before .before .before .push-both .ensures .got) (went-is (c .before .before .before .before .before .pushed .given .1))
-          ((rw (c .before .before .with-mode .ensures, c .before .before .before .with-i2 .ensures) at (c .from-loc .ensures)) .got);
-      board = c .before .before .before .before .before .before .before .before .before .push-both .ensures .board;
+      got = got-then _ (c .before .before .before .before .before .before .before .before .before .before .push-both .ensures .got) (went-is (c .before .before .before .before .before .before .pushed .given .1))
+          ((rw (c .before .before .with-mode .ensures, c .before .before .before .with-mark .ensures, c .before .before .before .before .with-i2 .ensures) at (c .from-loc .ensures)) .got);
+      board = c .before .before .before .before .before .before .before .before .before .before .push-both .ensures .board;
     }
 
 pub trap-spec : {M : Type 1} → statement M
@@ -42,6 +42,7 @@ trap-spec =
     (λ c. search needs)
     same-length
     returns
+    (λ c κs. search needs)
     (λ c κs. search needs)
     (λ c κs. search needs)
     from-loc-requires

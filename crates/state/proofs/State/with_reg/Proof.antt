@@ -36,7 +36,7 @@ returns-7 c = let e : c .before .before .args .k ≡ 6 = omega arith in rw e
 
 returns-8 : tie.Need-returns-8
 unfolding withReg setReg
-returns-8 c = ap (λ z. record { regs = z; flags = c .before .before .args .self .flags; i2 = c .before .before .args .self .i2; mode = c .before .before .args .self .mode }) (sym (with-pc (c .before .before .args .self .regs) (c .before .before .args .k) (c .before .before .args .v) (at-least 7 (c .before .before .args .k) (c .before .match .rest))))
+returns-8 c = ap (λ z. record { regs = z; flags = c .before .before .args .self .flags; i2 = c .before .before .args .self .i2; mode = c .before .before .args .self .mode; mark = c .before .before .args .self .mark }) (sym (with-pc (c .before .before .args .self .regs) (c .before .before .args .k) (c .before .before .args .v) (at-least 7 (c .before .before .args .k) (c .before .match .rest))))
 
 pub with-reg-spec : {M : Type 1} → statement M
 with-reg-spec =

@@ -7,28 +7,28 @@ use Rattle.step.proofs.xct.carry.Statement.{statement}
 use Rattle.step.proofs.xct.carry.Tie as tie
 
 execute-requires : tie.Need-execute-requires
-execute-requires c κs = c .before .before .before .before .pre
+execute-requires c κs = c .before .before .before .before .before .pre
 
 same-length : tie.Need-same-length
-same-length c = c .before .before .before .before .execute .ensures .board .lent .size ∙ sym (c .before .before .before .before .before .before .before .before .before .pre .0 .lent .size)
+same-length c = c .before .before .before .before .execute .ensures .board .lent .size ∙ sym (c .before .before .before .before .before .before .before .before .before .before .pre .0 .lent .size)
 
 returns : tie.Need-returns
 unfolding carry
 returns c =
-    did (went-store (c .before .before .before .before .execute .result)) (c .before .before .before .before .before .before .before .before .before .pre .0)
-    (got-gone _ (c .before .before .before .before .execute .ensures .got) (went-none (c .enum-told .given .1)) (went-none (c .enum-told .given .1)))
+    did (went-store (c .before .before .before .before .execute .result)) (c .before .before .before .before .before .before .before .before .before .before .pre .0)
+    (got-gone _ ((rw (c .before .before .before .before .before .before .before .with-mark .ensures) at (c .before .before .before .before .execute .ensures)) .got) (went-none (c .enum-told .given .1)) (went-none (c .enum-told .given .1)))
 
 traced-requires : tie.Need-traced-requires
 traced-requires c κs = c .before .before .before .before .before .before .before .execute .ensures .board
 
 same-length-2 : tie.Need-same-length-2
-same-length-2 c = c .before .before .traced .ensures .board .lent .size ∙ sym (c .before .before .before .before .before .before .before .before .before .before .before .before .before .before .before .pre .0 .lent .size)
+same-length-2 c = c .before .before .traced .ensures .board .lent .size ∙ sym (c .before .before .before .before .before .before .before .before .before .before .before .before .before .before .before .before .pre .0 .lent .size)
 
 returns-2 : tie.Need-returns-2
 unfolding carry
 returns-2 c =
     record {
-      got = got-then _ (c .before .before .before .before .before .before .before .before .before .before .execute .ensures .got) (went-is (c .before .before .before .before .before .before .went .given .1))
+      got = got-then _ ((rw (c .before .before .before .before .before .before .before .before .before .before .before .before .before .with-mark .ensures) at (c .before .before .before .before .before .before .before .before .before .before .execute .ensures)) .got) (went-is (c .before .before .before .before .before .before .went .given .1))
           (c .before .before .traced .ensures .got);
       board = c .before .before .traced .ensures .board;
     }
@@ -37,6 +37,7 @@ pub carry-spec : {M : Type 1} → statement M
 carry-spec =
     tie.close
     (tie.spec
+    (λ c κs. search needs)
     execute-requires
     (λ c. search needs)
     (λ c. search needs)

@@ -19,6 +19,9 @@ returns-2 c = record {
   board = c .before .before .carry .ensures .board;
 }
 
+trap-now-requires : tie.Need-trap-now-requires
+trap-now-requires c κs = c .before .before .before .before .before .before .before .before .before .before .before .before .before .before .pre .0
+
 returns-3 : tie.Need-returns-3
 unfolding opWork carry
 returns-3 c =
@@ -49,7 +52,7 @@ op-work-spec =
     (λ c. search needs)
     (λ c κs. search needs)
     (λ c. search needs)
-    (λ c κs. search needs)
+    trap-now-requires
     (λ c κs. search needs)
     (λ c. search needs)
     (λ c. search needs)
