@@ -15,15 +15,15 @@ unfoldable pub allOf : (ℕ → Bool) → List ℕ → Bool
 allOf p [] = true
 allOf p (x ∷ xs) = cond (p x) (allOf p xs) false
 
--- a map byte is 0 or 1
+-- a map byte is 0, 1 or 2
 abbrev pub flat : ℕ → Bool
-flat b = ltb b 2
+flat b = ltb b 3
 
 -- bits 2, 4 to 6 and 12 to 15 of a line word are 0
 abbrev pub plain : ℕ → Bool
 plain x = eqb (x / 4 % 2 + x / 16 % 8 + x / 4096) 0
 
--- 1: image not 65,536 bytes. 2: map not 256 bytes. 3: map byte over 1
+-- 1: image not 65,536 bytes. 2: map not 256 bytes. 3: map byte over 2
 unfoldable pub boardRefusal : ℕ → List ℕ → ℕ
 boardRefusal size map = cond (eqb size 65536) (cond (eqb (length map) 256) (cond (allOf flat map) 0 3) 2) 1
 
