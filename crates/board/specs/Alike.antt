@@ -3,11 +3,12 @@ use Prim.Native.Nat.{ℕ, zero, suc, _+_, _-_, _*_, _/_, _%_, _<_, _≤_}
 use native.Mathlib.Omega.{arith}
 use native.Mathlib.Decide.{ℕ-discrete, decLt}
 use mathlib.Core.Path.{_≡_, refl, sym, ap, _∙_, subst}
-use mathlib.Core.Bool.{Bool, true, false}
+use mathlib.Core.Bool.{Bool, true, false, not}
 use mathlib.Core.List.{List, [], _∷_}
 use lib.ListN.{getD, set, length, length-set}
 use lib.Seq.{getD-set-same, getD-set-other, set-out}
 use lib.Dec.{eqb}
+use borrow.Author.Tests.{ne-eqb}
 use Rattle.board.specs.Work.{Work, give, readAt, writeAt, Size, word, byte, Came, value, blank, fitted, writable, even, wordAt, withWord, withByte, get, put, found, run}
 use Rattle.board.specs.Laws.{size-put}
 
@@ -24,11 +25,11 @@ odd-page a = omega arith
 
 fitted-even : (map : List ℕ) (a : ℕ) → fitted map (even a) ≡ fitted map a
 unfolding fitted
-fitted-even map a = ap (λ (p : ℕ). eqb (getD map p 0) 1) (even-page a)
+fitted-even map a = ap (λ (p : ℕ). not (eqb (getD map p 0) 0)) (even-page a)
 
 fitted-odd : (map : List ℕ) (a : ℕ) → fitted map (even a + 1) ≡ fitted map a
 unfolding fitted
-fitted-odd map a = ap (λ (p : ℕ). eqb (getD map p 0) 1) (odd-page a)
+fitted-odd map a = ap (λ (p : ℕ). not (eqb (getD map p 0) 0)) (odd-page a)
 
 word-same : (map m n : List ℕ) (a : ℕ) → Agree map m n → fitted map a ≡ true → wordAt m a ≡ wordAt n a
 unfolding wordAt
@@ -80,27 +81,35 @@ alike map (writeAt z a v w) m n l g =
     found-alike map (writable map a) a _ _ λ e.
     alike map w (put z m a v) (put z n a v) (size-put z m a v ∙ l ∙ sym (size-put z n a v)) (put-agree map m n z a v l g)
 
--- ---- an unfitted byte stays as it was
+-- ---- a byte that can't be written, on an unfitted or a read-only page, stays as it was
 
-set-kept : (map m : List ℕ) (i v a : ℕ) → fitted map i ≡ true → fitted map a ≡ false → getD (set m i v) a 0 ≡ getD m a 0
-set-kept map m i v a h e = getD-set-other m i a v 0 (λ d. apart (sym h ∙ ap (fitted map) (sym d) ∙ e))
-  where
-    apart : true ≡ false → ⊥
-    apart d = let z : _≡_ {A = ℕ} 0 1 = cc in omega arith
+writable-even : (map : List ℕ) (a : ℕ) → writable map (even a) ≡ writable map a
+unfolding writable
+writable-even map a = ap (λ (p : ℕ). eqb (getD map p 0) 1) (even-page a)
 
-put-kept : (map m : List ℕ) (z : Size) (b v a : ℕ) → fitted map b ≡ true → fitted map a ≡ false → getD (put z m b v) a 0 ≡ getD m a 0
+writable-odd : (map : List ℕ) (a : ℕ) → writable map (even a + 1) ≡ writable map a
+unfolding writable
+writable-odd map a = ap (λ (p : ℕ). eqb (getD map p 0) 1) (odd-page a)
+
+apart : true ≡ false → ⊥
+apart d = let z : _≡_ {A = ℕ} 0 1 = cc in omega arith
+
+set-kept : (map m : List ℕ) (i v a : ℕ) → writable map i ≡ true → writable map a ≡ false → getD (set m i v) a 0 ≡ getD m a 0
+set-kept map m i v a h e = getD-set-other m i a v 0 (λ d. apart (sym h ∙ ap (writable map) (sym d) ∙ e))
+
+put-kept : (map m : List ℕ) (z : Size) (b v a : ℕ) → writable map b ≡ true → writable map a ≡ false → getD (put z m b v) a 0 ≡ getD m a 0
 unfolding withWord withByte
 put-kept map m word b v a h e =
-    set-kept map (set m (even b) (v % 256)) (even b + 1) (v / 256 % 256) a (fitted-odd map b ∙ h) e
-    ∙ set-kept map m (even b) (v % 256) a (fitted-even map b ∙ h) e
+    set-kept map (set m (even b) (v % 256)) (even b + 1) (v / 256 % 256) a (writable-odd map b ∙ h) e
+    ∙ set-kept map m (even b) (v % 256) a (writable-even map b ∙ h) e
 put-kept map m byte b v a h e = set-kept map m b (v % 256) a h e
 
 pub found-value : {A : Type 0} (b : Bool) (a : ℕ) (y : Came A) (x : A) (n : List ℕ) → found b a y ≡ value x n → (b ≡ true) × (y ≡ value x n)
 found-value true a y x n e = (refl, e)
 found-value false a y x n e = let z : _≡_ {A = ℕ} 0 1 = cc in absurd (omega arith)
 
--- work that came to a value left every unfitted byte as it was
-pub kept : {A : Type 0} (map : List ℕ) (w : Work A) (m : List ℕ) (x : A) (n : List ℕ) → run map w m ≡ value x n → (a : ℕ) → fitted map a ≡ false → getD n a 0 ≡ getD m a 0
+-- work that came to a value left every byte that can't be written as it was
+pub kept : {A : Type 0} (map : List ℕ) (w : Work A) (m : List ℕ) (x : A) (n : List ℕ) → run map w m ≡ value x n → (a : ℕ) → writable map a ≡ false → getD n a 0 ≡ getD m a 0
 unfolding run
 kept map (give y) m x n h a e = let same : m ≡ n = cc in rw same
 kept map (readAt z b k) m x n h a e =
@@ -108,3 +117,13 @@ kept map (readAt z b k) m x n h a e =
 kept map (writeAt z b v w) m x n h a e =
     let f = found-value (writable map b) b (run map w (put z m b v)) x n h in
     kept map w (put z m b v) x n (f .1) a e ∙ put-kept map m z b v a (f .0) e
+
+-- ---- an unfitted page can't be written
+
+unwritten-page : (p : ℕ) → not (eqb p 0) ≡ false → eqb p 1 ≡ false
+unwritten-page zero e = refl
+unwritten-page (suc p) e = absurd (apart (rw (ne-eqb (suc p) 0 (λ z. omega arith)) at e))
+
+pub unfitted-unwritable : (map : List ℕ) (a : ℕ) → fitted map a ≡ false → writable map a ≡ false
+unfolding fitted writable
+unfitted-unwritable map a e = unwritten-page (getD map (a / 256) 0) e

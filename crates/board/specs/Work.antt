@@ -1,6 +1,6 @@
 -- What one step does to memory, as a tree of accesses, each of a word or of a byte; and what it comes to on a map and an image.
 use Prim.Native.Nat.{ℕ, zero, suc, _+_, _-_, _*_, _/_, _%_}
-use mathlib.Core.Bool.{Bool, true, false}
+use mathlib.Core.Bool.{Bool, true, false, not}
 use mathlib.Core.List.{List, [], _∷_}
 use mathlib.Core.Path.{_≡_}
 use lib.ListN.{getD, set}
@@ -22,13 +22,17 @@ pub data Came (A : Type 0) : Type 0 where
   value : A → List ℕ → Came A
   blank : ℕ → Came A
 
--- A read asks this: page a / 256 of the map says 1.
-unfoldable pub fitted : List ℕ → ℕ → Bool
-fitted map a = eqb (getD map (a / 256) 0) 1
+-- The map's byte for the page of an address: 0 unfitted, 1 fitted, 2 fitted and read-only.
+abbrev pub pageOf : List ℕ → ℕ → ℕ
+pageOf map a = getD map (a / 256) 0
 
--- A write asks this: every fitted page can be written.
-abbrev pub writable : List ℕ → ℕ → Bool
-writable map a = fitted map a
+-- A read asks this: the page is 1 or 2. (A map byte over 2 is refused.)
+unfoldable pub fitted : List ℕ → ℕ → Bool
+fitted map a = not (eqb (pageOf map a) 0)
+
+-- A write asks this: the page is 1.
+unfoldable pub writable : List ℕ → ℕ → Bool
+writable map a = eqb (pageOf map a) 1
 
 -- a word access drops bit 0 of its address
 unfoldable pub even : ℕ → ℕ

@@ -32,10 +32,19 @@ fn wide(b: u8) -> u16
     b as u16
 }
 
-// Is the page of this address fitted?
+// Is the page of this address fitted, read-only or not?
 fn fitted(map: &[u8], a: u16) -> bool
     requires { ⌜ length (now map) ≡ 256 ⌝ }
     ensures { λ r. ⌜ r ≡ Work.fitted (now (map .entry)) a ⌝ }
+{
+    let page = (a / 256) as usize;
+    map[page] != 0
+}
+
+// May this address be written?
+fn writable(map: &[u8], a: u16) -> bool
+    requires { ⌜ length (now map) ≡ 256 ⌝ }
+    ensures { λ r. ⌜ r ≡ Work.writable (now (map .entry)) a ⌝ }
 {
     let page = (a / 256) as usize;
     map[page] == 1
@@ -108,18 +117,18 @@ fn note(image: &[u8], log: &mut [u16; 32], a: u16)
 }
 
 // May this address be written, and is there room in the log?
-fn writable(map: &[u8], log: &[u16; 32], a: u16) -> bool
+fn may_write(map: &[u8], log: &[u16; 32], a: u16) -> bool
     requires { ⌜ length (now map) ≡ 256 ⌝ }
     ensures { λ r. ⌜ r ≡ and (Work.writable (now (map .entry)) a) (Exec.room (now (log .entry))) ⌝ }
 {
-    fitted(map, a) && log[0] < 15
+    writable(map, a) && log[0] < 15
 }
 
 pub fn store(image: &mut [u8], map: &[u8], log: &mut [u16; 32], a: u16, v: u16) -> Kept
     requires { ⌜ Board (now map) (beside (now image) (now log)) ⌝ }
     ensures { λ r. ⌜ Did (now (map .entry)) (Work.store a v) (beside (now (image .entry)) (now (log .entry))) (keptAs r (beside (now (image .exit)) (now (log .exit)))) (beside (now (image .exit)) (now (log .exit))) ⌝ }
 {
-    if writable(map, log, a) {
+    if may_write(map, log, a) {
         note(image, log, a);
         put_word(image, a, v);
         Kept::Done
@@ -132,7 +141,7 @@ pub fn store_byte(image: &mut [u8], map: &[u8], log: &mut [u16; 32], a: u16, v: 
     requires { ⌜ Board (now map) (beside (now image) (now log)) ⌝ }
     ensures { λ r. ⌜ Did (now (map .entry)) (Work.storeByte a v) (beside (now (image .entry)) (now (log .entry))) (keptAs r (beside (now (image .exit)) (now (log .exit)))) (beside (now (image .exit)) (now (log .exit))) ⌝ }
 {
-    if writable(map, log, a) {
+    if may_write(map, log, a) {
         note(image, log, a);
         let at = a as usize;
         image[at] = low(v);

@@ -17,9 +17,9 @@ unfoldable pub allOf : (ℕ → Bool) → List ℕ → Bool
 allOf p [] = true
 allOf p (x ∷ xs) = cond (p x) (allOf p xs) false
 
--- a map byte is 0 or 1
+-- a map byte is 0, 1 or 2
 abbrev pub flat : ℕ → Bool
-flat b = ltb b 2
+flat b = ltb b 3
 
 -- bits 2, 4 to 6 and 12 to 15 of a line word are 0
 abbrev pub plain : ℕ → Bool

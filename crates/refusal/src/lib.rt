@@ -7,7 +7,7 @@ pub mod number;
 fn flat(b: u8) -> bool
     ensures { λ r. ⌜ r ≡ Spec.flat b ⌝ }
 {
-    b < 2
+    b < 3
 }
 
 // Bits 2, 4 to 6 and 12 to 15 of a line word are not used.

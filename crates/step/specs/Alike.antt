@@ -4,7 +4,7 @@ use mathlib.Core.Bool.{false}
 use mathlib.Core.List.{List}
 use mathlib.Core.Path.{_≡_, refl}
 use lib.ListN.{length, getD}
-use Rattle.board.specs.Work.{Work, Came, value, blank, run, fitted}
+use Rattle.board.specs.Work.{Work, Came, value, blank, run, writable}
 use Rattle.board.specs.Alike.{Agree, Alike, both, neither, alike, kept}
 use Rattle.state.specs.declared.State.{State}
 use Rattle.state.specs.declared.Outside.{Outside}
@@ -42,11 +42,11 @@ pub power-alike : (map m n : List ℕ) → length m ≡ length n → Agree map m
 unfolding powerUpOf
 power-alike map m n l g = or-locked map (alike map (fromLoc cleared 0x16) m n l g)
 
--- ---- unfitted bytes come back as lent
+-- ---- bytes of unfitted and of read-only pages come back as lent
 
--- the byte at every unfitted address is the same in both
+-- the byte at every address that can't be written is the same in both
 abbrev pub Untouched : List ℕ → List ℕ → List ℕ → Type 0
-Untouched map m n = (a : ℕ) → fitted map a ≡ false → getD n a 0 ≡ getD m a 0
+Untouched map m n = (a : ℕ) → writable map a ≡ false → getD n a 0 ≡ getD m a 0
 
 or-untouched : (map m : List ℕ) (w : Work State) (k : Cause) (other : ℕ → After) → ((x : ℕ) → Untouched map m (other x .image)) → Untouched map m (orElse (run map w m) k other .image)
 or-untouched map m w k other h a e = came (run map w m) refl

@@ -1,16 +1,12 @@
-use mathlib.Core.Path.{sym, _∙_}
-use Rattle.board.specs.Exec.{room, and}
+use mathlib.Core.Path.{refl}
+use Rattle.board.specs.Work.{writable}
 use borrow.Author.Needs.{needs}
 use Rattle.board.proofs.writable.Statement.{statement}
 use Rattle.board.proofs.writable.Tie as tie
 
 returns : tie.Need-returns
-unfolding room and
-returns c = rw (sym (c .before .before .fitted .ensures) ∙ c .before .if1 .taken)
-
-returns-2 : tie.Need-returns-2
-unfolding room and
-returns-2 c = rw (sym (c .before .fitted .ensures) ∙ c .if1 .left) (c .if1 .left)
+unfolding writable
+returns c = refl
 
 pub writable-spec : {M : Type 1} → statement M
-writable-spec = tie.close (tie.spec (λ c κs. search needs) (λ c. search needs) returns returns-2)
+writable-spec = tie.close (tie.spec (λ c. search needs) (λ c. search needs) returns)
