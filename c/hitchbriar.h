@@ -77,7 +77,7 @@ enum {
                                 15, I2 over 1, a mode over 4 or a cause over 8 */
     WD16_BAD_IMAGE = 1,      /* not 65,536 bytes */
     WD16_BAD_MAP = 2,        /* not 256 bytes */
-    WD16_BAD_MAP_BYTE = 3,   /* over 1 */
+    WD16_BAD_MAP_BYTE = 3,   /* over 2 */
     WD16_TOO_MANY_LINES = 4, /* over 4,096 */
     WD16_BAD_LINE = 5,       /* an unused bit of a line word is set */
 };

@@ -3,7 +3,7 @@
 use mathlib.Core.Path.{_≡_, refl}
 use mathlib.Core.List.{List, [], _∷_, _++_}
 use Prim.Native.Nat.{ℕ}
-use Rattle.job.specs.Job.{sections, whyAddress, whyEntry, whyEntries, noted, whyCount, whySections, whyJob}
+use Rattle.job.specs.Job.{sections, whyAddress, whyReadOnly, whyEntry, whyEntries, noted, whyCount, whySections, whyJob}
 
 -- page 00; 0012=0090, 0016=0080; line words 0000 and 0080
 pages : List ℕ
@@ -51,12 +51,19 @@ cases =
     ∷ gives (pages ++ (1 ∷ 0 ∷ 19 ∷ 1 ∷ 0 ∷ 0 ∷ none)) 15
     ∷ gives (pages ++ (2 ∷ 0 ∷ 18 ∷ 0 ∷ 0 ∷ 0 ∷ 18 ∷ 0 ∷ 0 ∷ 0 ∷ none)) 16
     ∷ gives (pages ++ (1 ∷ 0 ∷ 18 ∷ 1 ∷ 0 ∷ 0 ∷ none)) 17
-    -- 4,097 line words; bit 2; a byte left over
+    -- 4,097 line words; bit 2
     ∷ gives (pages ++ (none ++ (1 ∷ 16 ∷ []))) 18
     ∷ gives (pages ++ (none ++ (1 ∷ 0 ∷ 4 ∷ 0 ∷ []))) 19
-    ∷ gives (pages ++ (none ++ (none ++ (0 ∷ [])))) 20
+    -- a fourth section: a count cut short, none, page 00, a page that is not fitted, one that doesn't rise, 257; a byte left over
+    ∷ gives (pages ++ (none ++ (none ++ (0 ∷ [])))) 11
+    ∷ gives (pages ++ (none ++ (none ++ none))) 0
+    ∷ gives (pages ++ (words ++ (lines ++ pages))) 0
+    ∷ gives (pages ++ (none ++ (none ++ (1 ∷ 0 ∷ 3 ∷ [])))) 22
+    ∷ gives (pages ++ (none ++ (none ++ (2 ∷ 0 ∷ 0 ∷ 0 ∷ [])))) 22
+    ∷ gives (pages ++ (none ++ (none ++ (1 ∷ 1 ∷ [])))) 12
+    ∷ gives (pages ++ (none ++ (none ++ (none ++ (0 ∷ []))))) 20
     ∷ []
 
 as-the-page-says : answers cases ≡ expected cases
-unfolding cases answers expected pages words lines none whyJob whySections sections whyCount whyEntries whyEntry whyAddress noted
+unfolding cases answers expected pages words lines none whyJob whySections sections whyCount whyEntries whyEntry whyAddress whyReadOnly noted
 as-the-page-says = refl

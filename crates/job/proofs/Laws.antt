@@ -19,15 +19,16 @@ use lib.Seq.{drop-cons, drop-length}
 use Rattle.refusal.specs.Numbers.{imageLength, mapLength, linesLength, jobEnds}
 use Rattle.refusal.specs.Page.{refused, answered, first, first-both, unless, unless-some}
 use Rattle.refusal.specs.Page as Page
-use Rattle.job.specs.Job.{byteAt, wordAt, sections, sizeOf, mostOf, overOf, keyAt, note, cut, whyKey, whyEntry, whyEntries, noted, whyCount, whyLeft, whySections, stored, listed, wordsAt, linesAt, imageOf, mapOf, linesOf, Filled, pageOf, After, after, whyRead, jobOf}
+use Rattle.job.specs.Job.{byteAt, wordAt, sections, sizeOf, mostOf, overOf, keyAt, note, cut, whyKey, whyEntry, whyEntries, noted, whyCount, whyLeft, whySections, stored, listed, marked, absent, wordsAt, linesAt, readOnlyAt, imageOf, mapOf, linesOf, Filled, pageOf, After, after, whyRead, jobOf}
 
--- from the third on, a section is the line words
-pub nth-rest : (i : ℕ) → (i ≡ 0 → ⊥) → (i ≡ 1 → ⊥) → section.Lines ≡ getD sections i section.Lines
+-- from the fourth on, a section is the read-only pages
+pub nth-rest : (i : ℕ) → (i ≡ 0 → ⊥) → (i ≡ 1 → ⊥) → (i ≡ 2 → ⊥) → section.ReadOnly ≡ getD sections i section.ReadOnly
 unfolding sections
-nth-rest zero n m = absurd (n refl)
-nth-rest (suc zero) n m = absurd (m refl)
-nth-rest (suc (suc zero)) n m = refl
-nth-rest (suc (suc (suc i))) n m = refl
+nth-rest zero n m k = absurd (n refl)
+nth-rest (suc zero) n m k = absurd (m refl)
+nth-rest (suc (suc zero)) n m k = absurd (k refl)
+nth-rest (suc (suc (suc zero))) n m k = refl
+nth-rest (suc (suc (suc (suc i)))) n m k = refl
 
 -- past the end of the input a word is 0
 pub word-past : (input : List ℕ) (at : ℕ) → length input ≤ at → 0 ≡ wordAt input at
@@ -103,16 +104,24 @@ unfoldable pub whyRest : Section → List Section → List ℕ → ℕ → ℕ �
 whyRest s rest input n at low map =
     first (whyEntries s input n at low map) (whySections rest input (at + n * sizeOf s) (noted s input n at map))
 
-in-sections : (i : ℕ) → i < 3 → i < length sections
+in-sections : (i : ℕ) → i < 4 → i < length sections
 unfolding sections
 in-sections i h = h
 
-rest-starts : (i : ℕ) (input : List ℕ) (at : ℕ) (map : List ℕ) → i < 3
+rest-starts : (i : ℕ) (input : List ℕ) (at : ℕ) (map : List ℕ) → i < 4
     → whySections (drop i sections) input at map
-    ≡ first (whyCount (getD sections i section.Lines) input at)
-    (whyRest (getD sections i section.Lines) (drop (i + 1) sections) input (wordAt input at) (at + 2) 0 map)
+    ≡ cond (absent (getD sections i section.ReadOnly) input at) 0
+    (first (whyCount (getD sections i section.ReadOnly) input at)
+    (whyRest (getD sections i section.ReadOnly) (drop (i + 1) sections) input (wordAt input at) (at + 2) 0 map))
 unfolding whyRest whySections
-rest-starts i input at map h = rw (drop-cons sections i section.Lines (in-sections i h), add-one i) refl
+rest-starts i input at map h = rw (drop-cons sections i section.ReadOnly (in-sections i h), add-one i) refl
+
+-- a section that is there starts with its count
+rest-present : (i : ℕ) (input : List ℕ) (at : ℕ) (map : List ℕ) (s : Section) → i < 4 → s ≡ getD sections i section.ReadOnly → absent s input at ≡ false
+    → whySections (drop i sections) input at map ≡ first (whyCount s input at) (whyRest s (drop (i + 1) sections) input (wordAt input at) (at + 2) 0 map)
+rest-present i input at map s l e h =
+    rest-starts i input at map l
+    ∙ rw (← e, h) refl
 
 rest-suc : (s : Section) (rest : List Section) (input : List ℕ) (n at low : ℕ) (map : List ℕ)
     → whyRest s rest input (suc n) at low map
@@ -134,22 +143,28 @@ rest-entry s rest input n at low map h =
 -- the loops' steps: what is left from here comes to the whole job's refusal, `whole`
 module _ (input : List ℕ) (whole : ℕ) where
   -- past the last section nothing may be left over
-  pub sections-end : (i at : ℕ) (map : List ℕ) (why : ℕ) → i ≡ 3 → why ≡ whyLeft input at
+  pub sections-end : (i at : ℕ) (map : List ℕ) (why : ℕ) → i ≡ 4 → why ≡ whyLeft input at
       → whySections (drop i sections) input at map ≡ whole → why ≡ whole
   unfolding whySections sections
   sections-end i at map why e w h = w ∙ (rw e at h)
 
-  -- a count
-  pub count-refused : (i at : ℕ) (map : List ℕ) (s : Section) (why : ℕ) → i < 3 → s ≡ getD sections i section.Lines
-      → why ≡ whyCount s input at → (why ≡ 0 → ⊥) → whySections (drop i sections) input at map ≡ whole → why ≡ whole
-  count-refused i at map s why l e w n h =
-      first-some _ (w ∙ ap (λ (t : Section). whyCount t input at) e) n ∙ sym (rest-starts i input at map l) ∙ h
+  -- a section that is missing
+  pub section-absent : (i at : ℕ) (map : List ℕ) (s : Section) → i < 4 → s ≡ getD sections i section.ReadOnly
+      → absent s input at ≡ true → whySections (drop i sections) input at map ≡ whole → 0 ≡ whole
+  section-absent i at map s l e a h =
+      let there : whySections (drop i sections) input at map ≡ 0 = rest-starts i input at map l ∙ rw (← e, a) refl in
+      sym there ∙ h
 
-  pub count-taken : (i at : ℕ) (map : List ℕ) (s : Section) (why n : ℕ) → i < 3 → s ≡ getD sections i section.Lines
+  -- a count
+  pub count-refused : (i at : ℕ) (map : List ℕ) (s : Section) (why : ℕ) → i < 4 → s ≡ getD sections i section.ReadOnly → absent s input at ≡ false
+      → why ≡ whyCount s input at → (why ≡ 0 → ⊥) → whySections (drop i sections) input at map ≡ whole → why ≡ whole
+  count-refused i at map s why l e a w n h = first-some _ w n ∙ sym (rest-present i input at map s l e a) ∙ h
+
+  pub count-taken : (i at : ℕ) (map : List ℕ) (s : Section) (why n : ℕ) → i < 4 → s ≡ getD sections i section.ReadOnly → absent s input at ≡ false
       → why ≡ whyCount s input at → why ≡ 0 → n ≡ wordAt input at → whySections (drop i sections) input at map ≡ whole
       → whyRest s (drop (i + 1) sections) input n (at + 2) 0 map ≡ whole
-  count-taken i at map s why n l e w z k h =
-      rw (k, e) (sym (first-none _ _ (rw e at (sym w ∙ z))) ∙ sym (rest-starts i input at map l) ∙ h)
+  count-taken i at map s why n l e a w z k h =
+      rw k (sym (first-none _ _ (sym w ∙ z)) ∙ sym (rest-present i input at map s l e a) ∙ h)
 
   -- an entry
   pub entry-refused : (s : Section) (rest : List Section) (n at low : ℕ) (map : List ℕ) (why : ℕ) → 0 < n
@@ -172,12 +187,12 @@ module _ (input : List ℕ) (whole : ℕ) where
       rw z (rw e at h)
 
 -- one more entry of each section, as the filling loops count them down
-pub noted-more : (input : List ℕ) (n at : ℕ) (map : List ℕ) (page : ℕ) → 0 < n → page ≡ byteAt input at
-    → noted section.Pages input (n - 1) (at + 1) (set map page 1) ≡ noted section.Pages input n at map
-unfolding noted
-noted-more input n at map page h e =
+pub marked-more : (value : ℕ) (input : List ℕ) (n at : ℕ) (map : List ℕ) (page : ℕ) → 0 < n → page ≡ byteAt input at
+    → marked value input (n - 1) (at + 1) (set map page value) ≡ marked value input n at map
+unfolding marked
+marked-more value input n at map page h e =
     let k : n ≡ suc (n - 1) = omega arith in
-    rw e (ap (λ (m : ℕ). noted section.Pages input m at map) (sym k))
+    rw e (ap (λ (m : ℕ). marked value input m at map) (sym k))
 
 pub stored-more : (input : List ℕ) (n at : ℕ) (image image′ image″ : List ℕ) (address low high : ℕ) → 0 < n
     → address ≡ wordAt input at → low ≡ byteAt input (at + 2) → high ≡ byteAt input (at + 3)
@@ -203,9 +218,9 @@ pub cleared : (b d : List ℕ) (i : ℕ) → i ≡ length d → b ≡ replicate 
 cleared b d i e h = h ∙ rw (e, drop-length d, append-nil) refl
 
 -- nothing is left of a section
-pub noted-end : (input : List ℕ) (n at : ℕ) (map : List ℕ) → n ≡ 0 → map ≡ noted section.Pages input n at map
-unfolding noted
-noted-end input n at map e = rw e refl
+pub marked-end : (value : ℕ) (input : List ℕ) (n at : ℕ) (map : List ℕ) → n ≡ 0 → map ≡ marked value input n at map
+unfolding marked
+marked-end value input n at map e = rw e refl
 
 pub stored-end : (input : List ℕ) (n at : ℕ) (image : List ℕ) → n ≡ 0 → image ≡ stored input n at image
 unfolding stored
@@ -219,12 +234,11 @@ listed-end input n at k lines e = rw e refl
 zeros : (b d : List ℕ) (size : ℕ) → length d ≡ size → b ≡ replicate (length d) 0 → b ≡ replicate size 0
 zeros b d size e h = h ∙ ap (λ (n : ℕ). replicate n 0) e
 
-pub map-filled : (input lent clean map : List ℕ) (n : ℕ) → length lent ≡ 256 → clean ≡ replicate (length lent) 0
-    → n ≡ wordAt input 0 → map ≡ noted section.Pages input n 2 clean → map ≡ mapOf input
+pub map-filled : (input lent clean pages map : List ℕ) (n at k : ℕ) → length lent ≡ 256 → clean ≡ replicate (length lent) 0
+    → n ≡ wordAt input 0 → pages ≡ marked 1 input n 2 clean
+    → at ≡ readOnlyAt input → k ≡ wordAt input at → map ≡ marked 2 input k (at + 2) pages → map ≡ mapOf input
 unfolding mapOf
-map-filled input lent clean map n l z e h =
-    h ∙ ap (λ (b : List ℕ). noted section.Pages input n 2 b) (zeros clean lent 256 l z)
-    ∙ ap (λ (k : ℕ). noted section.Pages input k 2 (replicate 256 0)) e
+map-filled input lent clean pages map n at k l z e p a w h = rw (h, p, zeros clean lent 256 l z, e, w, a)
 
 pub image-filled : (input lent clean image : List ℕ) (at n : ℕ) → length lent ≡ 65536 → clean ≡ replicate (length lent) 0
     → at ≡ wordsAt input → n ≡ wordAt input at → image ≡ stored input n (at + 2) clean → image ≡ imageOf input
@@ -248,6 +262,9 @@ words-at input n e = omega (arith, e)
 
 pub lines-at : (input : List ℕ) (at n : ℕ) → at ≡ wordsAt input → n ≡ wordAt input at → at + 2 + n * 4 ≡ linesAt input
 lines-at input at n a e = rw e (ap (λ (x : ℕ). x + 2 + wordAt input x * 4) a)
+
+pub read-only-at : (input : List ℕ) (at n : ℕ) → at ≡ linesAt input → n ≡ wordAt input at → at + 2 + n * 2 ≡ readOnlyAt input
+read-only-at input at n a e = rw e (ap (λ (x : ℕ). x + 2 + wordAt input x * 2) a)
 
 -- where nothing is refused, the lent buffers have their lengths
 pub read-lengths : (image map lines : ℕ) (input : List ℕ) → whyRead image map lines input ≡ 0

@@ -1,12 +1,12 @@
--- A job: three sections, each after its count. What is refused, and what an accepted job leaves in the lent buffers.
+-- A job: three sections, each after its count, and perhaps a fourth. What is refused, and what an accepted job leaves in the lent buffers.
 -- Assumes nothing.
 use Prim.Native.Nat.{ℕ, zero, suc, _+_, _*_, _/_, _%_}
-use mathlib.Core.Bool.{cond}
+use mathlib.Core.Bool.{Bool, false, cond}
 use mathlib.Core.List.{List, [], _∷_}
 use mathlib.Core.Path.{_≡_}
 use lib.ListN.{length, getD, set, replicate}
 use lib.Dec.{eqb, leb}
-use Rattle.refusal.specs.Numbers.{imageLength, mapLength, linesLength, jobEnds, manyPages, pageNotRising, manyWords, addressOdd, addressNotRising, addressUnfitted, manyLines, jobLineBit, bytesLeft}
+use Rattle.refusal.specs.Numbers.{imageLength, mapLength, linesLength, jobEnds, manyPages, pageNotRising, manyWords, addressOdd, addressNotRising, addressUnfitted, manyLines, jobLineBit, bytesLeft, readOnlyPage}
 use Rattle.refusal.specs.Page.{Page, refused, answered, first, unless}
 use Rattle.refusal.specs.Refusal.{plain}
 use Rattle.job.specs.declared.Answer.{Answer}
@@ -21,38 +21,50 @@ byteAt input at = getD input at 0
 abbrev pub wordAt : List ℕ → ℕ → ℕ
 wordAt input at = byteAt input at + byteAt input (at + 1) * 256
 
--- "Three sections": fitted pages, words, line words
+-- "Three sections": fitted pages, words, line words. "A job may have a fourth section": read-only pages
 unfoldable pub sections : List Section
-sections = section.Pages ∷ section.Words ∷ section.Lines ∷ []
+sections = section.Pages ∷ section.Words ∷ section.Lines ∷ section.ReadOnly ∷ []
+
+-- "a job that ends after the third has none"
+abbrev pub absent : Section → List ℕ → ℕ → Bool
+absent section.Pages input at = false
+absent section.Words input at = false
+absent section.Lines input at = false
+absent section.ReadOnly input at = eqb at (length input)
 
 -- an entry's bytes
 abbrev pub sizeOf : Section → ℕ
 sizeOf section.Pages = 1
 sizeOf section.Words = 4
 sizeOf section.Lines = 2
+sizeOf section.ReadOnly = 1
 
 -- the most entries, and the refusal of more
 abbrev pub mostOf : Section → ℕ
 mostOf section.Pages = 256
 mostOf section.Words = 4096
 mostOf section.Lines = 4096
+mostOf section.ReadOnly = 256
 
 abbrev pub overOf : Section → ℕ
 overOf section.Pages = manyPages
 overOf section.Words = manyWords
 overOf section.Lines = manyLines
+overOf section.ReadOnly = manyPages
 
 -- what an entry's checks look at: the page, the address, the line word
 abbrev pub keyAt : Section → List ℕ → ℕ → ℕ
 keyAt section.Pages input at = byteAt input at
 keyAt section.Words input at = wordAt input at
 keyAt section.Lines input at = wordAt input at
+keyAt section.ReadOnly input at = byteAt input at
 
--- the map with this entry's page fitted
+-- the map with this entry's page fitted, or read-only
 abbrev pub note : Section → ℕ → List ℕ → List ℕ
 note section.Pages page map = set map page 1
 note section.Words page map = map
 note section.Lines page map = map
+note section.ReadOnly page map = set map page 2
 
 -- the job ends inside a count or entry of this size
 abbrev pub cut : List ℕ → ℕ → ℕ → ℕ
@@ -68,6 +80,10 @@ whyAddress map low address =
     (first (cond (leb low address) 0 addressNotRising)
     (cond (eqb (getD map (address / 256) 0) 1) 0 addressUnfitted))
 
+-- a read-only page, a byte, is already in the first section
+unfoldable pub whyReadOnly : List ℕ → ℕ → ℕ → ℕ
+whyReadOnly map low page = first (cond (leb low page) 0 readOnlyPage) (cond (eqb (getD map (page % 256) 0) 1) 0 readOnlyPage)
+
 abbrev pub whyLine : ℕ → ℕ
 whyLine line = cond (plain line) 0 jobLineBit
 
@@ -75,6 +91,7 @@ abbrev pub whyKey : Section → List ℕ → ℕ → ℕ → ℕ
 whyKey section.Pages map low page = whyPage low page
 whyKey section.Words map low address = whyAddress map low address
 whyKey section.Lines map low line = whyLine line
+whyKey section.ReadOnly map low page = whyReadOnly map low page
 
 unfoldable pub whyEntry : Section → List ℕ → ℕ → ℕ → List ℕ → ℕ
 whyEntry s input at low map = first (cut input at (sizeOf s)) (whyKey s map low (keyAt s input at))
@@ -103,13 +120,14 @@ next s input at = at + 2 + wordAt input at * sizeOf s
 abbrev pub whyLeft : List ℕ → ℕ → ℕ
 whyLeft input at = cond (eqb at (length input)) 0 bytesLeft
 
--- each section after its count; then nothing is left over
+-- each section after its count, unless it is absent; then nothing is left over
 unfoldable pub whySections : List Section → List ℕ → ℕ → List ℕ → ℕ
 whySections [] input at map = whyLeft input at
 whySections (s ∷ rest) input at map =
-    first (whyCount s input at)
+    cond (absent s input at) 0
+    (first (whyCount s input at)
     (first (whyEntries s input (wordAt input at) (at + 2) 0 map)
-    (whySections rest input (next s input at) (noted s input (wordAt input at) (at + 2) map)))
+    (whySections rest input (next s input at) (noted s input (wordAt input at) (at + 2) map))))
 
 -- why a job is refused, or 0
 unfoldable pub whyJob : List ℕ → ℕ
@@ -123,6 +141,11 @@ stored input (suc n) at image =
     stored input n (at + 4)
     (set (set image (wordAt input at) (byteAt input (at + 2))) (wordAt input at + 1) (byteAt input (at + 3)))
 
+-- the map with the pages of n entries set to a value
+unfoldable pub marked : ℕ → List ℕ → ℕ → ℕ → List ℕ → List ℕ
+marked value input zero at map = map
+marked value input (suc n) at map = marked value input n (at + 1) (set map (byteAt input at) value)
+
 -- the line buffer with n line words from place k on
 unfoldable pub listed : List ℕ → ℕ → ℕ → ℕ → List ℕ → List ℕ
 listed input zero at k lines = lines
@@ -135,9 +158,12 @@ wordsAt input = next section.Pages input 0
 abbrev pub linesAt : List ℕ → ℕ
 linesAt input = next section.Words input (wordsAt input)
 
--- every byte of the buffers: what the job names, all else 0
+abbrev pub readOnlyAt : List ℕ → ℕ
+readOnlyAt input = next section.Lines input (linesAt input)
+
+-- every byte of the buffers: what the job names, all else 0. Past the job's end a count is 0
 unfoldable pub mapOf : List ℕ → List ℕ
-mapOf input = noted section.Pages input (wordAt input 0) 2 (replicate 256 0)
+mapOf input = marked 2 input (wordAt input (readOnlyAt input)) (readOnlyAt input + 2) (marked 1 input (wordAt input 0) 2 (replicate 256 0))
 
 unfoldable pub imageOf : List ℕ → List ℕ
 imageOf input = stored input (wordAt input (wordsAt input)) (wordsAt input + 2) (replicate 65536 0)

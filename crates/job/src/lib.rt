@@ -1,8 +1,9 @@
-// Reads a job: three sections, each after its count. First the whole input is checked, then the lent buffers are filled.
+// Reads a job: three sections, each after its count, and perhaps a fourth. First the whole input is checked, then the lent buffers are filled.
 use refusal::number;
 ghost use mathlib.Core.Path.{_≡_};
 ghost use Prim.Native.Nat.{_+_, _≤_, _<_};
 ghost use lib.ListN.{length, getD, set, replicate};
+ghost use Rattle.job.specs.Job as Spec;
 ghost use Rattle.job.specs.Job.{byteAt, wordAt, sections, sizeOf, mostOf, overOf, keyAt, note, whyPage, whyAddress, whyLine, whyKey, whyEntry, whyCount, whyLeft, whyJob, noted, stored, listed, Filled, whyRead, pageOf, after, jobOf};
 
 // What the job reader answers: how many line words there are, or why the job is refused.
@@ -15,16 +16,30 @@ enum Section {
     Pages,
     Words,
     Lines,
+    ReadOnly,
 }
 
 // The sections in the order of the job.
 fn nth(i: usize) -> Section
-    ensures { λ r. ⌜ r ≡ getD sections i Section.Lines ⌝ }
+    ensures { λ r. ⌜ r ≡ getD sections i Section.ReadOnly ⌝ }
 {
     match i {
         0 => Section::Pages,
         1 => Section::Words,
-        _ => Section::Lines,
+        2 => Section::Lines,
+        _ => Section::ReadOnly,
+    }
+}
+
+// Whether a section that may be missing is: the job ends where its count would stand.
+fn absent(s: Section, input: &[u8], at: usize) -> bool
+    ensures { λ r. ⌜ r ≡ Spec.absent s (now (input .entry)) at ⌝ }
+{
+    match s {
+        Section::Pages => false,
+        Section::Words => false,
+        Section::Lines => false,
+        Section::ReadOnly => at == input.len(),
     }
 }
 
@@ -36,6 +51,7 @@ fn entry_size(s: Section) -> usize
         Section::Pages => 1,
         Section::Words => 4,
         Section::Lines => 2,
+        Section::ReadOnly => 1,
     }
 }
 
@@ -47,6 +63,7 @@ fn most(s: Section) -> u16
         Section::Pages => 256,
         Section::Words => 4096,
         Section::Lines => 4096,
+        Section::ReadOnly => 256,
     }
 }
 
@@ -58,6 +75,7 @@ fn over(s: Section) -> u8
         Section::Pages => number::MANY_PAGES,
         Section::Words => number::MANY_WORDS,
         Section::Lines => number::MANY_LINES,
+        Section::ReadOnly => number::MANY_PAGES,
     }
 }
 
@@ -88,10 +106,11 @@ fn key_at(s: Section, input: &[u8], at: usize) -> u16
         Section::Pages => byte_at(input, at) as u16,
         Section::Words => word_at(input, at),
         Section::Lines => word_at(input, at),
+        Section::ReadOnly => byte_at(input, at) as u16,
     }
 }
 
-// Notes the page of an entry as fitted.
+// Notes the page of an entry as fitted, or as read-only.
 fn note_page(s: Section, input: &[u8], at: usize, fitted: &mut [u8; 256])
     ensures { λ _. ⌜ now (fitted .exit) ≡ note s (keyAt s (now (input .entry)) at) (now (fitted .entry)) ⌝ }
 {
@@ -102,6 +121,10 @@ fn note_page(s: Section, input: &[u8], at: usize, fitted: &mut [u8; 256])
         }
         Section::Words => {}
         Section::Lines => {}
+        Section::ReadOnly => {
+            let page = byte_at(input, at) as usize;
+            fitted[page] = 2;
+        }
     }
 }
 
@@ -145,6 +168,21 @@ fn line_refusal(line: u16) -> u8
     }
 }
 
+// The refusal of a read-only page's number, or 0: not rising, or not fitted.
+fn read_only_refusal(low: u32, page: u16, fitted: &[u8; 256]) -> u8
+    ensures { λ r. ⌜ r ≡ Spec.whyReadOnly (now (fitted .entry)) low page ⌝ }
+{
+    if (page as u32) < low {
+        return number::READ_ONLY_PAGE;
+    }
+    let at = (page % 256) as usize;
+    if fitted[at] == 1 {
+        0
+    } else {
+        number::READ_ONLY_PAGE
+    }
+}
+
 // The refusal that an entry's own checks give, or 0.
 fn key_refusal(s: Section, low: u32, key: u16, fitted: &[u8; 256]) -> u8
     ensures { λ r. ⌜ r ≡ whyKey s (now (fitted .entry)) low key ⌝ }
@@ -153,6 +191,7 @@ fn key_refusal(s: Section, low: u32, key: u16, fitted: &[u8; 256]) -> u8
         Section::Pages => page_refusal(low, key),
         Section::Words => address_refusal(low, key, fitted),
         Section::Lines => line_refusal(key),
+        Section::ReadOnly => read_only_refusal(low, key, fitted),
     }
 }
 
@@ -200,10 +239,13 @@ fn first_refusal(input: &[u8]) -> u8
     let mut at: usize = 0;
     let mut section: usize = 0;
     let why: u8 = 'sections: loop {
-        if 3 <= section {
+        if 4 <= section {
             break 'sections rest_refusal(input, at);
         }
         let s = nth(section);
+        if absent(s, input, at) {
+            break 'sections 0;
+        }
         let refused = count_refusal(s, input, at);
         if refused != 0 {
             break 'sections refused;
@@ -248,16 +290,16 @@ fn clear_lines(lines: &mut [u16])
     }
 }
 
-// Fits the pages of n entries from a place on.
-fn mark_pages(input: &[u8], from: usize, n: u16, map: &mut [u8])
+// Sets the pages of n entries from a place on to a value: 1 fitted, 2 read-only.
+fn mark_pages(value: u8, input: &[u8], from: usize, n: u16, map: &mut [u8])
     requires { ⌜ (from < 4294967296) × (length (now map) ≡ 256) ⌝ }
-    ensures { λ _. ⌜ now (map .exit) ≡ noted Section.Pages (now (input .entry)) n from (now (map .entry)) ⌝ }
+    ensures { λ _. ⌜ (now (map .exit) ≡ Spec.marked value (now (input .entry)) n from (now (map .entry))) × (length (now (map .exit)) ≡ 256) ⌝ }
 {
     let mut at = from;
     let mut left = n;
     while 0 < left {
         let page = byte_at(input, at) as usize;
-        map[page] = 1;
+        map[page] = value;
         at += 1;
         left -= 1;
     }
@@ -320,7 +362,7 @@ fn fill(input: &[u8], image: &mut [u8], map: &mut [u8], lines: &mut [u16]) -> u1
 {
     clear(map);
     let pages = word_at(input, 0);
-    mark_pages(input, 2, pages, map);
+    mark_pages(1, input, 2, pages, map);
     clear(image);
     let words_at = 2 + pages as usize;
     let words = word_at(input, words_at);
@@ -329,6 +371,9 @@ fn fill(input: &[u8], image: &mut [u8], map: &mut [u8], lines: &mut [u16]) -> u1
     let lines_at = words_at + 2 + words as usize * 4;
     let count = word_at(input, lines_at);
     list_lines(input, lines_at + 2, count, lines);
+    let read_only_at = lines_at + 2 + count as usize * 2;
+    let read_only = word_at(input, read_only_at);
+    mark_pages(2, input, read_only_at + 2, read_only, map);
     count
 }
 

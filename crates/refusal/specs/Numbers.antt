@@ -3,7 +3,7 @@ use Prim.Native.Nat.{ℕ}
 
 -- ---- what the processor is lent
 
--- the image is not 65,536 bytes; the map is not 256 bytes; a map byte is over 1
+-- the image is not 65,536 bytes; the map is not 256 bytes; a map byte is over 2
 abbrev pub imageLength : ℕ
 imageLength = 1
 
@@ -56,6 +56,10 @@ jobLineBit = 19
 -- bytes are left over
 abbrev pub bytesLeft : ℕ
 bytesLeft = 20
+
+-- read-only pages: not rising, or not fitted
+abbrev pub readOnlyPage : ℕ
+readOnlyPage = 22
 
 -- ---- the functions for C: the bytes lent for a state or a tally are none
 abbrev pub noState : ℕ

@@ -1,6 +1,6 @@
 // The page's refusal numbers, by what they refuse. 6 to 10 are the text's: optext has them as the cases of its answers.
 
-// What the processor is lent: the image is not 65,536 bytes, the map not 256, a map byte is over 1; there are over 4,096 line
+// What the processor is lent: the image is not 65,536 bytes, the map not 256, a map byte is over 2; there are over 4,096 line
 // words (for the job reader: the line buffer is not 4,096 words), an unused bit of a line word is set.
 pub const IMAGE_LENGTH: u8 = 1;
 
@@ -35,6 +35,9 @@ pub const MANY_LINES: u8 = 18;
 pub const JOB_LINE_BIT: u8 = 19;
 
 pub const BYTES_LEFT: u8 = 20;
+
+// Its read-only pages: not rising, or not fitted.
+pub const READ_ONLY_PAGE: u8 = 22;
 
 // The functions for C: the bytes lent for a state or a tally are none.
 pub const NO_STATE: u8 = 21;

@@ -1,8 +1,7 @@
 -- The pages that are left, noted in the map as it is now, come to all of them noted in the map as lent.
 -- Assumes nothing.
-use Rattle.job.proofs.Laws.{noted-more, noted-end}
-use Rattle.job.specs.Job.{noted}
-use Rattle.job.specs.declared.Section.the-variants as section
+use Rattle.job.proofs.Laws.{marked-more, marked-end}
+use Rattle.job.specs.Job.{marked}
 use lib.ListN.{length, length-set}
 use borrow.Author.Needs.{needs}
 use native.Mathlib.Omega.{arith}
@@ -12,12 +11,12 @@ use Rattle.job.proofs.mark_pages.Statement.{statement}
 use Rattle.job.proofs.mark_pages.Tie as tie
 
 abbrev Inv-loop : tie.InvT-loop
-Inv-loop input from n map₀ at₀ left₀ map at left =
+Inv-loop value input from n map₀ at₀ left₀ map at left =
     (length map ≡ 256) × (at + left ≡ from + n)
-    × (noted section.Pages input left at map ≡ noted section.Pages input n from map₀)
+    × (marked value input left at map ≡ marked value input n from map₀)
 
 abbrev μ-loop : tie.MeasureT-loop
-μ-loop input from n map₀ at₀ left₀ map at left = left
+μ-loop value input from n map₀ at₀ left₀ map at left = left
 
 loop-holds : tie.Need-loop-holds Inv-loop μ-loop
 loop-holds c = (c .before .before .pre .1, refl, refl)
@@ -29,14 +28,14 @@ loop-again : tie.Need-loop-again Inv-loop μ-loop
 loop-again c = (
   simp length-set (c .before .before .loop .inv .0),
   omega arith,
-  noted-more _ _ _ _ _ (c .before .loop-test .taken) (c .byte-at .ensures) ∙ c .before .before .loop .inv .2,
+  marked-more _ _ _ _ _ _ (c .before .loop-test .taken) (c .byte-at .ensures) ∙ c .before .before .loop .inv .2,
 )
 
 same-length : tie.Need-same-length Inv-loop μ-loop
 same-length c = omega (arith, c .before .loop .inv .0, c .before .before .before .before .pre .1)
 
 returns : tie.Need-returns Inv-loop μ-loop
-returns c = noted-end (c .before .before .before .before .args .input .now) (c .before .loop .left) (c .before .loop .at) _ (omega (arith, c .loop-test .left)) ∙ c .before .loop .inv .2
+returns c = (marked-end _ (c .before .before .before .before .args .input .now) (c .before .loop .left) (c .before .loop .at) _ (omega (arith, c .loop-test .left)) ∙ c .before .loop .inv .2, c .before .loop .inv .0)
 
 pub mark-pages-spec : {M : Type 1} → statement M
 mark-pages-spec =

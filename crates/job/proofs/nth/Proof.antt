@@ -12,7 +12,11 @@ unfolding sections
 returns-2 c = rw (c .match .keys2)
 
 returns-3 : tie.Need-returns-3
-returns-3 c = nth-rest _ (c .match .rest .0 .1) (c .match .rest .1)
+unfolding sections
+returns-3 c = rw (c .match .keys3)
+
+returns-4 : tie.Need-returns-4
+returns-4 c = nth-rest _ (c .match .rest .0 .0 .1) (c .match .rest .0 .1) (c .match .rest .1)
 
 pub nth-spec : {M : Type 1} → statement M
-nth-spec = tie.close (tie.spec returns returns-2 returns-3)
+nth-spec = tie.close (tie.spec returns returns-2 returns-3 returns-4)
