@@ -17,7 +17,9 @@ use Rattle.machine.specs.declared.Stepped.{Stepped}
 use Rattle.machine.specs.declared.Stepped.the-variants as Stepped
 use Rattle.machine.specs.declared.Finished.{Finished}
 use Rattle.machine.specs.declared.Finished.the-variants as Finished
-use Rattle.machine.specs.Entry.{Page, refused, answered, Left, poweredPage, steppedPage, finishedPage, powerUpPage, stepPage, runPage}
+use Rattle.refusal.specs.Numbers.{noState}
+use Rattle.machine.specs.Numbers.{statePage, placeOf}
+use Rattle.machine.specs.Entry.{left, poweredPage, steppedPage, finishedPage, powerUpPage, stepPage, runPage}
 use Rattle.firmware.specs.Layout.{bytesOf, tallyBytes, stateFrom, refusedState, over}
 use Rattle.firmware.specs.Calls.{up, powerUpCall, went, stepCall, ended, runCall}
 
@@ -36,12 +38,12 @@ state-length b e = eqb-true _ _ (cond-false (eqb (length b) 20) (over b) e)
 
 -- ---- power-up
 
-pub up-short : (b image map : List ℕ) → (length b ≡ 20 → ⊥) → up 21 b ≡ powerUpCall b image map
+pub up-short : (b image map : List ℕ) → (length b ≡ 20 → ⊥) → up noState b ≡ powerUpCall b image map
 unfolding powerUpCall
 up-short b image map n = rw (ne-eqb _ _ n)
 
 pub up-done : (b image map b′ : List ℕ) (s : State) (r : Powered) → length b ≡ 20 → poweredPage r ≡ powerUpPage image map → r ≡ Powered.Up s
-    → b′ ≡ bytesOf s 0 → up 0 b′ ≡ powerUpCall b image map
+    → b′ ≡ bytesOf (statePage s) 0 → up 0 b′ ≡ powerUpCall b image map
 unfolding powerUpCall
 up-done b image map b′ s r l e h d = rw (eq-eqb _ _ l, ← e, h, d)
 
@@ -53,16 +55,16 @@ up-refused b image map why r l e h = rw (eq-eqb _ _ l, ← e, h)
 -- ---- one step
 
 module _ (b image map : List ℕ) (line : ℕ) where
-  pub went-bad : refusedState b ≡ true → went 21 b image ≡ stepCall b image map line
+  pub went-bad : refusedState b ≡ true → went noState b image ≡ stepCall b image map line
   unfolding stepCall
   went-bad e = rw e
 
-  pub went-done : (b′ m : List ℕ) (s : State) (t : Turn) (r : Stepped) → refusedState b ≡ false → s ≡ stateFrom b → steppedPage r m ≡ stepPage image map line s
-      → r ≡ Stepped.Done t → b′ ≡ bytesOf (t .state) (t .cause) → went 0 b′ m ≡ stepCall b image map line
+  pub went-done : (b′ m : List ℕ) (s : State) (t : Turn) (r : Stepped) → refusedState b ≡ false → s ≡ stateFrom b → left (steppedPage r) m ≡ stepPage image map line s
+      → r ≡ Stepped.Done t → b′ ≡ bytesOf (statePage (t .state)) (t .cause) → went 0 b′ m ≡ stepCall b image map line
   unfolding stepCall
   went-done b′ m s t r e f g h d = rw (e, ← f, ← g, h, d)
 
-  pub went-refused : (m : List ℕ) (s : State) (why : ℕ) (r : Stepped) → refusedState b ≡ false → s ≡ stateFrom b → steppedPage r m ≡ stepPage image map line s
+  pub went-refused : (m : List ℕ) (s : State) (why : ℕ) (r : Stepped) → refusedState b ≡ false → s ≡ stateFrom b → left (steppedPage r) m ≡ stepPage image map line s
       → r ≡ Stepped.Refused why → went why b m ≡ stepCall b image map line
   unfolding stepCall
   went-refused m s why r e f g h = rw (e, ← f, ← g, h)
@@ -70,21 +72,21 @@ module _ (b image map : List ℕ) (line : ℕ) where
 -- ---- a run
 
 module _ (b t image map lines : List ℕ) where
-  pub ended-bad : refusedState b ≡ true → ended 21 b t image ≡ runCall b t image map lines
+  pub ended-bad : refusedState b ≡ true → ended noState b t image ≡ runCall b t image map lines
   unfolding runCall
   ended-bad e = rw e
 
-  pub ended-short : refusedState b ≡ false → (length t ≡ 4 → ⊥) → ended 21 b t image ≡ runCall b t image map lines
+  pub ended-short : refusedState b ≡ false → (length t ≡ 4 → ⊥) → ended noState b t image ≡ runCall b t image map lines
   unfolding runCall
   ended-short e n = rw (e, ne-eqb _ _ n)
 
   pub ended-done : (b′ t′ m : List ℕ) (s : State) (ran : Ran) (r : Finished) → refusedState b ≡ false → length t ≡ 4 → s ≡ stateFrom b
-      → finishedPage r m ≡ runPage image map lines s → r ≡ Finished.Done ran → b′ ≡ bytesOf (ran .state) 0 → t′ ≡ tallyBytes (ran .tally)
+      → left (finishedPage r) m ≡ runPage image map lines s → r ≡ Finished.Done ran → b′ ≡ bytesOf (statePage (ran .state)) 0 → t′ ≡ tallyBytes (ran .tally .blanks) (placeOf (ran .tally .first))
       → ended 0 b′ t′ m ≡ runCall b t image map lines
   unfolding runCall
   ended-done b′ t′ m s ran r e n f g h d q = rw (e, eq-eqb _ _ n, ← f, ← g, h, d, q)
 
   pub ended-refused : (m : List ℕ) (s : State) (why : ℕ) (r : Finished) → refusedState b ≡ false → length t ≡ 4 → s ≡ stateFrom b
-      → finishedPage r m ≡ runPage image map lines s → r ≡ Finished.Refused why → ended why b t m ≡ runCall b t image map lines
+      → left (finishedPage r) m ≡ runPage image map lines s → r ≡ Finished.Refused why → ended why b t m ≡ runCall b t image map lines
   unfolding runCall
   ended-refused m s why r e n f g h = rw (e, eq-eqb _ _ n, ← f, ← g, h)

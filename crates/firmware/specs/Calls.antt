@@ -1,18 +1,15 @@
--- What the exported calls leave: the number that they answer, and the bytes that they were lent to write. 0 is no refusal.
+-- What the exported calls leave: the number that they answer, and the bytes that they were lent to write. 0 is no refusal;
+-- bytes that are no state's or no tally's are refused before all else.
 use Prim.Native.Nat.{ℕ}
 use mathlib.Core.Bool.{Bool, true, false, cond}
 use mathlib.Core.List.{List, [], _∷_}
 use lib.ListN.{length}
 use lib.Dec.{eqb}
-use Rattle.state.specs.declared.State.{State}
-use Rattle.step.specs.declared.Turn.{Turn}
-use Rattle.machine.specs.declared.Ran.{Ran}
-use Rattle.machine.specs.Entry.{Page, refused, answered, Left, powerUpPage, stepPage, runPage}
+use Rattle.refusal.specs.Numbers.{noState}
+use Rattle.refusal.specs.Page.{Page, refused, answered}
+use Rattle.machine.specs.Numbers.{StatePage, TurnPage, RanPage}
+use Rattle.machine.specs.Entry.{powerUpPage, stepPage, runPage}
 use Rattle.firmware.specs.Layout.{bytesOf, tallyBytes, stateFrom, refusedState}
-
--- 21: a buffer of the state or of the tally has another length, or the state's bytes are none; before all others
-abbrev pub badBuffer : ℕ
-badBuffer = 21
 
 -- ---- power-up: the state's bytes are only written, so only their number is asked for
 
@@ -23,12 +20,12 @@ pub record Up : Type 0 where
 abbrev pub up : ℕ → List ℕ → Up
 up n b = record { number = n; state = b }
 
-abbrev pub upFrom : List ℕ → Page State → Up
-upFrom b (answered s) = up 0 (bytesOf s 0)
+abbrev pub upFrom : List ℕ → Page StatePage → Up
+upFrom b (answered p) = up 0 (bytesOf p 0)
 upFrom b (refused why) = up why b
 
 unfoldable pub powerUpCall : List ℕ → List ℕ → List ℕ → Up
-powerUpCall b image map = cond (eqb (length b) 20) (upFrom b (powerUpPage image map)) (up badBuffer b)
+powerUpCall b image map = cond (eqb (length b) 20) (upFrom b (powerUpPage image map)) (up noState b)
 
 -- ---- one step
 
@@ -40,14 +37,14 @@ pub record Went : Type 0 where
 abbrev pub went : ℕ → List ℕ → List ℕ → Went
 went n b m = record { number = n; state = b; image = m }
 
-abbrev pub wentFrom : List ℕ → Page Turn → List ℕ → Went
-wentFrom b (answered t) m = went 0 (bytesOf (t .state) (t .cause)) m
+abbrev pub wentFrom : List ℕ → Page TurnPage → List ℕ → Went
+wentFrom b (answered p) m = went 0 (bytesOf (p .state) (p .cause)) m
 wentFrom b (refused why) m = went why b m
 
 unfoldable pub stepCall : List ℕ → List ℕ → List ℕ → ℕ → Went
 stepCall b image map line =
     let l = stepPage image map line (stateFrom b) in
-    cond (refusedState b) (went badBuffer b image) (wentFrom b (l .page) (l .image))
+    cond (refusedState b) (went noState b image) (wentFrom b (l .page) (l .image))
 
 -- ---- a run: the cause that it leaves is 0
 
@@ -60,11 +57,11 @@ pub record Ended : Type 0 where
 abbrev pub ended : ℕ → List ℕ → List ℕ → List ℕ → Ended
 ended n b t m = record { number = n; state = b; tally = t; image = m }
 
-abbrev pub endedFrom : List ℕ → List ℕ → Page Ran → List ℕ → Ended
-endedFrom b t (answered r) m = ended 0 (bytesOf (r .state) 0) (tallyBytes (r .tally)) m
+abbrev pub endedFrom : List ℕ → List ℕ → Page RanPage → List ℕ → Ended
+endedFrom b t (answered p) m = ended 0 (bytesOf (p .state) 0) (tallyBytes (p .blanks) (p .first)) m
 endedFrom b t (refused why) m = ended why b t m
 
 unfoldable pub runCall : List ℕ → List ℕ → List ℕ → List ℕ → List ℕ → Ended
 runCall b t image map lines =
     let l = runPage image map lines (stateFrom b) in
-    cond (refusedState b) (ended badBuffer b t image) (cond (eqb (length t) 4) (endedFrom b t (l .page) (l .image)) (ended badBuffer b t image))
+    cond (refusedState b) (ended noState b t image) (cond (eqb (length t) 4) (endedFrom b t (l .page) (l .image)) (ended noState b t image))

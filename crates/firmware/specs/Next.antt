@@ -16,7 +16,10 @@ use Rattle.step.specs.Causes.{cause-le}
 use Rattle.step.specs.Step.{kindOf, asked, workOf, busError, causeOf, errorCauseOf, After, after, orElse, errorOf, stepOf, powerUpOf}
 use Rattle.machine.specs.Run.{End, end, runOf}
 use Rattle.refusal.specs.Refusal.{boardRefusal, stepRefusal, runRefusal}
-use Rattle.machine.specs.Entry.{refused, answered, left, unless, turned, powerUpPage, stepPage, runPage}
+use Rattle.refusal.specs.Page.{refused, answered, unless}
+use Rattle.refusal.specs.Numbers.{noState}
+use Rattle.machine.specs.Numbers.{statePage}
+use Rattle.machine.specs.Entry.{left, turned, powerUpPage, stepPage, runPage}
 use Rattle.machine.specs.Entry as Entry
 use Rattle.firmware.specs.Layout.{refusedState, stateFrom}
 use Rattle.firmware.specs.Again.{state-taken}
@@ -24,11 +27,11 @@ use Rattle.firmware.specs.Calls.{Up, up, upFrom, powerUpCall, Went, went
 
 -- ---- from the pages to the calls
 
-up-page : (b : List ℕ) (why : ℕ) (s : State) → upFrom b (unless why (answered s) (refused why)) .number ≡ 0 → refusedState (upFrom b (unless why (answered s) (refused why)) .state) ≡ false
+up-page : (b : List ℕ) (why : ℕ) (s : State) → upFrom b (unless why (answered (statePage s)) (refused why)) .number ≡ 0 → refusedState (upFrom b (unless why (answered (statePage s)) (refused why)) .state) ≡ false
 up-page b zero s e = state-taken s 0 (omega arith)
 up-page b (suc k) s e = absurd (omega arith)
 
-up-cond : (r : Bool) (b : List ℕ) (w : Up) → (w .number ≡ 0 → refusedState (w .state) ≡ false) → cond r w (up 21 b) .number ≡ 0 → refusedState (cond r w (up 21 b) .state) ≡ false
+up-cond : (r : Bool) (b : List ℕ) (w : Up) → (w .number ≡ 0 → refusedState (w .state) ≡ false) → cond r w (up noState b) .number ≡ 0 → refusedState (cond r w (up noState b) .state) ≡ false
 up-cond true b w h e = h e
 up-cond false b w h e = absurd (omega arith)
 
@@ -43,7 +46,7 @@ went-page : (b image : List ℕ) (why : ℕ) (a : After) → a .cause ≤ 8
 went-page b image zero a h e = state-taken (a .state) (a .cause) h
 went-page b image (suc k) a h e = absurd (omega arith)
 
-went-cond : (r : Bool) (b m : List ℕ) (w : Went) → (w .number ≡ 0 → refusedState (w .state) ≡ false) → cond r (went 21 b m) w .number ≡ 0 → refusedState (cond r (went 21 b m) w .state) ≡ false
+went-cond : (r : Bool) (b m : List ℕ) (w : Went) → (w .number ≡ 0 → refusedState (w .state) ≡ false) → cond r (went noState b m) w .number ≡ 0 → refusedState (cond r (went noState b m) w .state) ≡ false
 went-cond true b m w h e = absurd (omega arith)
 went-cond false b m w h e = h e
 
@@ -60,7 +63,7 @@ ended-page b t image zero (end s m y) e = state-taken s 0 (omega arith)
 ended-page b t image (suc k) x e = absurd (omega arith)
 
 ended-cond : (r q : Bool) (b t m : List ℕ) (w : Ended) → (w .number ≡ 0 → refusedState (w .state) ≡ false)
-    → cond r (ended 21 b t m) (cond q w (ended 21 b t m)) .number ≡ 0 → refusedState (cond r (ended 21 b t m) (cond q w (ended 21 b t m)) .state) ≡ false
+    → cond r (ended noState b t m) (cond q w (ended noState b t m)) .number ≡ 0 → refusedState (cond r (ended noState b t m) (cond q w (ended noState b t m)) .state) ≡ false
 ended-cond true q b t m w h e = absurd (omega arith)
 ended-cond false true b t m w h e = h e
 ended-cond false false b t m w h e = absurd (omega arith)

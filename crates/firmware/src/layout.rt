@@ -8,7 +8,8 @@ ghost use mathlib.Core.Path.{_≡_};
 ghost use Prim.Native.Nat.{_+_, _≤_, _<_, _*_};
 ghost use lib.ListN.{length};
 ghost use Rattle.word.specs.Number.{digit};
-ghost use Rattle.word.specs.Status.{flagsOf};
+ghost use Rattle.machine.specs.Numbers as Page;
+ghost use Rattle.machine.specs.Back as Back;
 ghost use Rattle.firmware.specs.Layout as Spec;
 
 // The byte at a place, 0 past the end.
@@ -49,14 +50,14 @@ fn digit(b: bool) -> u8
 
 // N 8, Z 4, V 2, C 1.
 fn indicators(f: Flags) -> u8
-    ensures { λ r. ⌜ r ≡ Spec.indicators f ⌝ }
+    ensures { λ r. ⌜ r ≡ Page.indicators f ⌝ }
 {
     digit(f.n) * 8 + digit(f.z) * 4 + digit(f.v) * 2 + digit(f.c)
 }
 
 // A mode by its number.
 fn mode_of(n: u8) -> Mode
-    ensures { λ r. ⌜ r ≡ Spec.modeOf n ⌝ }
+    ensures { λ r. ⌜ r ≡ Back.modeOf n ⌝ }
 {
     match n {
         0 => Mode::Running,
@@ -86,7 +87,7 @@ pub(crate) fn refused_state(b: &[u8]) -> bool
 
 // R0 to R5, SP and PC.
 fn regs_from(b: &[u8]) -> State
-    ensures { λ r. ⌜ r ≡ Spec.regsFrom (now (b .entry)) ⌝ }
+    ensures { λ r. ⌜ r ≡ Back.fromRegisters (Spec.registersIn (now (b .entry))) ⌝ }
 {
     state::cleared()
         .with_reg(0, word_at(b, 0))
@@ -111,7 +112,7 @@ pub(crate) fn state_from(b: &[u8]) -> State
 
 // The bytes of a state and of the cause that led to it.
 fn state_bytes(s: State, cause: u8) -> [u8; 20]
-    ensures { λ r. ⌜ r ≡ Spec.bytesOf s cause ⌝ }
+    ensures { λ r. ⌜ r ≡ Spec.bytesOf (Page.statePage s) cause ⌝ }
 {
     let mode = s.mode;
     [
@@ -140,7 +141,7 @@ fn state_bytes(s: State, cause: u8) -> [u8; 20]
 
 pub(crate) fn put_state(b: &mut [u8], s: State, cause: u8)
     requires { ⌜ length (now b) ≡ 20 ⌝ }
-    ensures { λ _. ⌜ now (b .exit) ≡ Spec.bytesOf s cause ⌝ }
+    ensures { λ _. ⌜ now (b .exit) ≡ Spec.bytesOf (Page.statePage s) cause ⌝ }
 {
     let from = state_bytes(s, cause);
     bytes::copy(&from, b);
@@ -148,7 +149,7 @@ pub(crate) fn put_state(b: &mut [u8], s: State, cause: u8)
 
 // The place of the first blank, FFFF where there is none.
 fn place_of(first: First) -> u16
-    ensures { λ r. ⌜ r ≡ Spec.placeOf first ⌝ }
+    ensures { λ r. ⌜ r ≡ Spec.placeNumber (Page.placeOf first) ⌝ }
 {
     match first {
         First::At(place) => place,
@@ -158,7 +159,7 @@ fn place_of(first: First) -> u16
 
 // The blanks and the place of the first.
 fn tally_bytes(t: Tally) -> [u8; 4]
-    ensures { λ r. ⌜ r ≡ Spec.tallyBytes t ⌝ }
+    ensures { λ r. ⌜ r ≡ Spec.tallyBytes (t .blanks) (Page.placeOf (t .first)) ⌝ }
 {
     let first = t.first;
     let place = place_of(first);
@@ -167,7 +168,7 @@ fn tally_bytes(t: Tally) -> [u8; 4]
 
 pub(crate) fn put_tally(b: &mut [u8], t: Tally)
     requires { ⌜ length (now b) ≡ 4 ⌝ }
-    ensures { λ _. ⌜ now (b .exit) ≡ Spec.tallyBytes t ⌝ }
+    ensures { λ _. ⌜ now (b .exit) ≡ Spec.tallyBytes (t .blanks) (Page.placeOf (t .first)) ⌝ }
 {
     let from = tally_bytes(t);
     bytes::copy(&from, b);

@@ -6,6 +6,7 @@ use layout::state_from;
 use machine::Finished;
 use machine::Powered;
 use machine::Stepped;
+use refusal::number::NO_STATE;
 ghost use mathlib.Core.Path.{_≡_};
 ghost use Rattle.firmware.specs.Calls as Spec;
 
@@ -17,7 +18,7 @@ pub extern "C" fn wd16_power_up(state: &mut [u8], image: &[u8], map: &[u8]) -> u
     ensures { λ r. ⌜ Spec.up r (now (state .exit)) ≡ Spec.powerUpCall (now (state .entry)) (now (image .entry)) (now (map .entry)) ⌝ }
 {
     if state.len() != 20 {
-        return 21;
+        return NO_STATE;
     }
     match machine::power_up(image, map) {
         Powered::Up(s) => {
@@ -34,7 +35,7 @@ pub extern "C" fn wd16_step(state: &mut [u8], image: &mut [u8], map: &[u8], line
     ensures { λ r. ⌜ Spec.went r (now (state .exit)) (now (image .exit)) ≡ Spec.stepCall (now (state .entry)) (now (image .entry)) (now (map .entry)) line ⌝ }
 {
     if refused_state(state) {
-        return 21;
+        return NO_STATE;
     }
     match machine::step(state_from(state), image, map, line) {
         Stepped::Done(t) => {
@@ -58,10 +59,10 @@ pub extern "C" fn wd16_run(
     ensures { λ r. ⌜ Spec.ended r (now (state .exit)) (now (tally .exit)) (now (image .exit)) ≡ Spec.runCall (now (state .entry)) (now (tally .entry)) (now (image .entry)) (now (map .entry)) (now (lines .entry)) ⌝ }
 {
     if refused_state(state) {
-        return 21;
+        return NO_STATE;
     }
     if tally.len() != 4 {
-        return 21;
+        return NO_STATE;
     }
     match machine::run(state_from(state), image, map, lines) {
         Finished::Done(ran) => {

@@ -16,7 +16,10 @@ use borrow.Author.Tests.{le-leb, lt-leb, leb-true, eqb-true}
 use lib.Dec.{leb, eqb}
 use borrow.Author.Fill.{fill-more}
 use lib.Seq.{drop-cons, drop-length}
-use Rattle.job.specs.Job.{byteAt, wordAt, sections, sizeOf, mostOf, overOf, keyAt, note, first, cut, whyKey, whyEntry, whyEntries, noted, whyCount, whyLeft, whySections, stored, listed, wordsAt, linesAt, imageOf, mapOf, linesOf, Filled, pageOf, After, after, unless, whyRead, jobOf}
+use Rattle.refusal.specs.Numbers.{imageLength, mapLength, linesLength, jobEnds}
+use Rattle.refusal.specs.Page.{refused, answered, first, first-both, unless, unless-some}
+use Rattle.refusal.specs.Page as Page
+use Rattle.job.specs.Job.{byteAt, wordAt, sections, sizeOf, mostOf, overOf, keyAt, note, cut, whyKey, whyEntry, whyEntries, noted, whyCount, whyLeft, whySections, stored, listed, wordsAt, linesAt, imageOf, mapOf, linesOf, Filled, pageOf, After, after, whyRead, jobOf}
 
 -- from the third on, a section is the line words
 pub nth-rest : (i : ℕ) → (i ≡ 0 → ⊥) → (i ≡ 1 → ⊥) → section.Lines ≡ getD sections i section.Lines
@@ -34,7 +37,7 @@ word-past input at h =
     omega arith
 
 -- an entry or a count of this size is cut short, or is not
-cut-short : (input : List ℕ) (at size : ℕ) → length input - at < size → cut input at size ≡ 11
+cut-short : (input : List ℕ) (at size : ℕ) → length input - at < size → cut input at size ≡ jobEnds
 cut-short input at size h = simp (lt-leb (at + size) (length input) (omega arith))
 
 cut-none : (input : List ℕ) (at size : ℕ) → at ≤ length input → size ≤ length input - at → cut input at size ≡ 0
@@ -42,7 +45,7 @@ cut-none input at size b h = simp (le-leb (at + size) (length input) (omega arit
 
 -- the refusal of an entry
 pub entry-cut : (s : Section) (input : List ℕ) (at low : ℕ) (map : List ℕ) → length input - at < sizeOf s
-    → 11 ≡ whyEntry s input at low map
+    → jobEnds ≡ whyEntry s input at low map
 unfolding whyEntry
 entry-cut s input at low map h = rw (cut-short input at (sizeOf s) h) refl
 
@@ -53,7 +56,7 @@ entry-own s input at low map key why b h k e =
     rw (cut-none input at (sizeOf s) b h) (e ∙ ap (λ (x : ℕ). whyKey s map low x) k)
 
 -- the refusal of a count
-pub count-cut : (s : Section) (input : List ℕ) (at : ℕ) → length input - at < 2 → 11 ≡ whyCount s input at
+pub count-cut : (s : Section) (input : List ℕ) (at : ℕ) → length input - at < 2 → jobEnds ≡ whyCount s input at
 unfolding whyCount
 count-cut s input at h = rw (cut-short input at 2 h) refl
 
@@ -68,12 +71,8 @@ unfolding whyCount
 count-good s input at b h m = rw (cut-none input at 2 b h, le-leb (wordAt input at) (mostOf s) m) refl
 
 -- the first of two refusals
-first-is : (why later : ℕ) → (why ≡ 0 → ⊥) → why ≡ first why later
-first-is zero later n = absurd (n refl)
-first-is (suc k) later n = refl
-
 first-some : {why k : ℕ} (later : ℕ) → why ≡ k → (why ≡ 0 → ⊥) → why ≡ first k later
-first-some {why} {k} later e n = first-is why later n ∙ ap (λ (x : ℕ). first x later) e
+first-some {why} {k} later e n = Page.first-some why later n ∙ ap (λ (x : ℕ). first x later) e
 
 first-none : (why later : ℕ) → why ≡ 0 → first why later ≡ later
 first-none why later e = rw e refl
@@ -82,17 +81,13 @@ first-first : (a b later : ℕ) → first (first a b) later ≡ first a (first b
 first-first zero b later = refl
 first-first (suc a) b later = refl
 
-first-both : (a b : ℕ) → first a b ≡ 0 → (a ≡ 0) × (b ≡ 0)
-first-both zero b e = (refl, e)
-first-both (suc a) b e = absurd (omega (arith, e))
-
 cond-zero : (b : Bool) (k : ℕ) → (k ≡ 0 → ⊥) → cond b 0 k ≡ 0 → b ≡ true
 cond-zero true k n e = refl
 cond-zero false k n e = absurd (n e)
 
 cut-zero : (input : List ℕ) (at size : ℕ) → cut input at size ≡ 0 → at + size ≤ length input
 cut-zero input at size e =
-    leb-true (at + size) (length input) (cond-zero (leb (at + size) (length input)) 11 (λ h. omega arith) e)
+    leb-true (at + size) (length input) (cond-zero (leb (at + size) (length input)) jobEnds (λ h. omega arith) e)
 
 -- what is not cut short is there
 pub count-room : (s : Section) (input : List ℕ) (at : ℕ) → whyCount s input at ≡ 0 → at + 2 ≤ length input
@@ -259,28 +254,21 @@ pub read-lengths : (image map lines : ℕ) (input : List ℕ) → whyRead image 
     → (image ≡ 65536) × ((map ≡ 256) × (lines ≡ 4096))
 unfolding whyRead
 read-lengths image map lines input e =
-    let a = first-both (cond (eqb image 65536) 0 1) _ e in
-    let b = first-both (cond (eqb map 256) 0 2) _ (a .1) in
-    let c = first-both (cond (eqb lines 4096) 0 4) _ (b .1) in (
-      eqb-true _ _ (cond-zero (eqb image 65536) 1 (λ h. omega arith) (a .0)),
+    let a = first-both (cond (eqb image 65536) 0 imageLength) _ e in
+    let b = first-both (cond (eqb map 256) 0 mapLength) _ (a .1) in
+    let c = first-both (cond (eqb lines 4096) 0 linesLength) _ (b .1) in (
+      eqb-true _ _ (cond-zero (eqb image 65536) imageLength (λ h. omega arith) (a .0)),
       (
-        eqb-true _ _ (cond-zero (eqb map 256) 2 (λ h. omega arith) (b .0)),
-        eqb-true _ _ (cond-zero (eqb lines 4096) 4 (λ h. omega arith) (c .0)),
+        eqb-true _ _ (cond-zero (eqb map 256) mapLength (λ h. omega arith) (b .0)),
+        eqb-true _ _ (cond-zero (eqb lines 4096) linesLength (λ h. omega arith) (c .0)),
       ),
     )
-
-unless-is : (k : ℕ) (taken : After) (refused : ℕ → After) → (k ≡ 0 → ⊥) → refused k ≡ unless k taken refused
-unless-is zero taken refused n = absurd (n refl)
-unless-is (suc k) taken refused n = refl
-
-unless-some : {why k : ℕ} (taken : After) (refused : ℕ → After) → why ≡ k → (why ≡ 0 → ⊥) → refused why ≡ unless k taken refused
-unless-some {why} taken refused e n = unless-is why taken refused n ∙ ap (λ (x : ℕ). unless x taken refused) e
 
 -- a refused job, and an accepted one
 pub read-refused : (input image map lines : List ℕ) (why : ℕ) → why ≡ whyRead (length image) (length map) (length lines) input
     → (why ≡ 0 → ⊥) → after (pageOf (Refused why)) image map lines ≡ jobOf input image map lines
 unfolding jobOf
-read-refused input image map lines why e n = unless-some _ (λ (k : ℕ). after (pageOf (Refused k)) image map lines) e n
+read-refused input image map lines why e n = rw (← e, unless-some why (after (answered (wordAt input (linesAt input))) (imageOf input) (mapOf input) (linesOf input)) (after (refused why) image map lines) n)
 
 pub read-filled : (input image map lines image′ map′ lines′ : List ℕ) (count : ℕ)
     → whyRead (length image) (length map) (length lines) input ≡ 0 → Filled input image′ map′ lines′ count

@@ -6,16 +6,13 @@ use mathlib.Core.List.{List, [], _∷_}
 use mathlib.Core.Path.{_≡_}
 use lib.ListN.{length, getD, set, replicate}
 use lib.Dec.{eqb, leb}
+use Rattle.refusal.specs.Numbers.{imageLength, mapLength, linesLength, jobEnds, manyPages, pageNotRising, manyWords, addressOdd, addressNotRising, addressUnfitted, manyLines, jobLineBit, bytesLeft}
+use Rattle.refusal.specs.Page.{Page, refused, answered, first, unless}
 use Rattle.refusal.specs.Refusal.{plain}
 use Rattle.job.specs.declared.Answer.{Answer}
 use Rattle.job.specs.declared.Answer.the-variants.{Lines, Refused}
 use Rattle.job.specs.declared.Section.{Section}
 use Rattle.job.specs.declared.Section.the-variants as section
-
--- the first refusal met: 0 is none
-abbrev pub first : ℕ → ℕ → ℕ
-first zero later = later
-first (suc n) later = suc n
 
 -- the input: a byte, and a word, low byte first
 abbrev pub byteAt : List ℕ → ℕ → ℕ
@@ -41,9 +38,9 @@ mostOf section.Words = 4096
 mostOf section.Lines = 4096
 
 abbrev pub overOf : Section → ℕ
-overOf section.Pages = 12
-overOf section.Words = 14
-overOf section.Lines = 18
+overOf section.Pages = manyPages
+overOf section.Words = manyWords
+overOf section.Lines = manyLines
 
 -- what an entry's checks look at: the page, the address, the line word
 abbrev pub keyAt : Section → List ℕ → ℕ → ℕ
@@ -57,22 +54,22 @@ note section.Pages page map = set map page 1
 note section.Words page map = map
 note section.Lines page map = map
 
--- 11: the job ends inside a count or entry of this size
+-- the job ends inside a count or entry of this size
 abbrev pub cut : List ℕ → ℕ → ℕ → ℕ
-cut input at size = cond (leb (at + size) (length input)) 0 11
+cut input at size = cond (leb (at + size) (length input)) 0 jobEnds
 
 -- an entry's own checks, by number. `low` is the least that rises above the entry before
 abbrev pub whyPage : ℕ → ℕ → ℕ
-whyPage low page = cond (leb low page) 0 13
+whyPage low page = cond (leb low page) 0 pageNotRising
 
 unfoldable pub whyAddress : List ℕ → ℕ → ℕ → ℕ
 whyAddress map low address =
-    first (cond (eqb (address % 2) 0) 0 15)
-    (first (cond (leb low address) 0 16)
-    (cond (eqb (getD map (address / 256) 0) 1) 0 17))
+    first (cond (eqb (address % 2) 0) 0 addressOdd)
+    (first (cond (leb low address) 0 addressNotRising)
+    (cond (eqb (getD map (address / 256) 0) 1) 0 addressUnfitted))
 
 abbrev pub whyLine : ℕ → ℕ
-whyLine line = cond (plain line) 0 19
+whyLine line = cond (plain line) 0 jobLineBit
 
 abbrev pub whyKey : Section → List ℕ → ℕ → ℕ → ℕ
 whyKey section.Pages map low page = whyPage low page
@@ -102,9 +99,9 @@ whyCount s input at = first (cut input at 2) (cond (leb (wordAt input at) (mostO
 abbrev pub next : Section → List ℕ → ℕ → ℕ
 next s input at = at + 2 + wordAt input at * sizeOf s
 
--- 20: bytes left over
+-- bytes left over
 abbrev pub whyLeft : List ℕ → ℕ → ℕ
-whyLeft input at = cond (eqb at (length input)) 0 20
+whyLeft input at = cond (eqb at (length input)) 0 bytesLeft
 
 -- each section after its count; then nothing is left over
 unfoldable pub whySections : List Section → List ℕ → ℕ → List ℕ → ℕ
@@ -155,36 +152,33 @@ pub record Filled (input image map lines : List ℕ) (count : ℕ) : Type 0 wher
   pub lines-is : lines ≡ linesOf input
   pub count-is : count ≡ wordAt input (linesAt input)
 
--- an answer in the page's numbers: 0 and the number of line words, or the refusal's number alone
-abbrev pub pageOf : Answer → List ℕ
-pageOf (Lines n) = 0 ∷ n ∷ []
-pageOf (Refused why) = why ∷ []
+-- an answer in the page's numbers: the number of line words, or the refusal's number alone
+abbrev pub pageOf : Answer → Page ℕ
+pageOf (Lines n) = answered n
+pageOf (Refused why) = refused why
 
 -- an answer, and the lent buffers after it
 pub record After : Type 0 where
-  pub page : List ℕ
+  pub page : Page ℕ
   pub image : List ℕ
   pub map : List ℕ
   pub lines : List ℕ
 
-abbrev pub after : List ℕ → List ℕ → List ℕ → List ℕ → After
+abbrev pub after : Page ℕ → List ℕ → List ℕ → List ℕ → After
 after page image map lines = record { page = page; image = image; map = map; lines = lines }
 
 -- the first refusal that applies, or 0: the lent buffers' lengths, then the job in reading order
 unfoldable pub whyRead : ℕ → ℕ → ℕ → List ℕ → ℕ
 whyRead image map lines input =
-    first (cond (eqb image 65536) 0 1)
-    (first (cond (eqb map 256) 0 2)
-    (first (cond (eqb lines 4096) 0 4)
+    first (cond (eqb image 65536) 0 imageLength)
+    (first (cond (eqb map 256) 0 mapLength)
+    (first (cond (eqb lines 4096) 0 linesLength)
     (whyJob input)))
 
 -- a refusal returns its number alone and changes no buffer
-abbrev pub unless : ℕ → After → (ℕ → After) → After
-unless zero taken refused = taken
-unless (suc k) taken refused = refused (suc k)
-
 unfoldable pub jobOf : List ℕ → List ℕ → List ℕ → List ℕ → After
 jobOf input image map lines =
-    unless (whyRead (length image) (length map) (length lines) input)
-    (after (pageOf (Lines (wordAt input (linesAt input)))) (imageOf input) (mapOf input) (linesOf input))
-    (λ why. after (pageOf (Refused why)) image map lines)
+    let why = whyRead (length image) (length map) (length lines) input in
+    unless why
+    (after (answered (wordAt input (linesAt input))) (imageOf input) (mapOf input) (linesOf input))
+    (after (refused why) image map lines)

@@ -1,4 +1,5 @@
 // Reads a job: three sections, each after its count. First the whole input is checked, then the lent buffers are filled.
+use refusal::number;
 ghost use mathlib.Core.Path.{_≡_};
 ghost use Prim.Native.Nat.{_+_, _≤_, _<_};
 ghost use lib.ListN.{length, getD, set, replicate};
@@ -54,9 +55,9 @@ fn over(s: Section) -> u8
     ensures { λ r. ⌜ r ≡ overOf s ⌝ }
 {
     match s {
-        Section::Pages => 12,
-        Section::Words => 14,
-        Section::Lines => 18,
+        Section::Pages => number::MANY_PAGES,
+        Section::Words => number::MANY_WORDS,
+        Section::Lines => number::MANY_LINES,
     }
 }
 
@@ -108,7 +109,11 @@ fn note_page(s: Section, input: &[u8], at: usize, fitted: &mut [u8; 256])
 fn page_refusal(low: u32, page: u16) -> u8
     ensures { λ r. ⌜ r ≡ whyPage low page ⌝ }
 {
-    if low <= page as u32 { 0 } else { 13 }
+    if low <= page as u32 {
+        0
+    } else {
+        number::PAGE_NOT_RISING
+    }
 }
 
 // The refusal of a word's address, or 0: odd, not rising, in an unfitted page.
@@ -116,20 +121,28 @@ fn address_refusal(low: u32, address: u16, fitted: &[u8; 256]) -> u8
     ensures { λ r. ⌜ r ≡ whyAddress (now (fitted .entry)) low address ⌝ }
 {
     if address % 2 != 0 {
-        return 15;
+        return number::ADDRESS_ODD;
     }
     if (address as u32) < low {
-        return 16;
+        return number::ADDRESS_NOT_RISING;
     }
     let page = (address / 256) as usize;
-    if fitted[page] == 1 { 0 } else { 17 }
+    if fitted[page] == 1 {
+        0
+    } else {
+        number::ADDRESS_UNFITTED
+    }
 }
 
 // The refusal of a line word, or 0: bits 2, 4 to 6 and 12 to 15 are not used.
 fn line_refusal(line: u16) -> u8
     ensures { λ r. ⌜ r ≡ whyLine line ⌝ }
 {
-    if refusal::plain(line) { 0 } else { 19 }
+    if refusal::plain(line) {
+        0
+    } else {
+        number::JOB_LINE_BIT
+    }
 }
 
 // The refusal that an entry's own checks give, or 0.
@@ -149,7 +162,7 @@ fn entry_refusal(s: Section, input: &[u8], at: usize, low: u32, fitted: &[u8; 25
     ensures { λ r. ⌜ r ≡ whyEntry s (now (input .entry)) at low (now (fitted .entry)) ⌝ }
 {
     if input.len() - at < entry_size(s) {
-        return 11;
+        return number::JOB_ENDS;
     }
     key_refusal(s, low, key_at(s, input, at), fitted)
 }
@@ -160,7 +173,7 @@ fn count_refusal(s: Section, input: &[u8], at: usize) -> u8
     ensures { λ r. ⌜ r ≡ whyCount s (now (input .entry)) at ⌝ }
 {
     if input.len() - at < 2 {
-        return 11;
+        return number::JOB_ENDS;
     }
     if most(s) < word_at(input, at) {
         return over(s);
@@ -172,7 +185,11 @@ fn count_refusal(s: Section, input: &[u8], at: usize) -> u8
 fn rest_refusal(input: &[u8], at: usize) -> u8
     ensures { λ r. ⌜ r ≡ whyLeft (now (input .entry)) at ⌝ }
 {
-    if at == input.len() { 0 } else { 20 }
+    if at == input.len() {
+        0
+    } else {
+        number::BYTES_LEFT
+    }
 }
 
 // The number of the first refusal met, or 0. Nothing lent is written.
@@ -320,13 +337,13 @@ fn refusal(image: usize, map: usize, lines: usize, input: &[u8]) -> u8
     ensures { λ r. ⌜ r ≡ whyRead image map lines (now (input .entry)) ⌝ }
 {
     if image != 65536 {
-        return 1;
+        return number::IMAGE_LENGTH;
     }
     if map != 256 {
-        return 2;
+        return number::MAP_LENGTH;
     }
     if lines != 4096 {
-        return 4;
+        return number::LINES_LENGTH;
     }
     first_refusal(input)
 }

@@ -1,4 +1,9 @@
+pub mod Numbers
 pub mod Run
 pub mod Entry
+pub mod Back
 pub mod Alike
 pub mod Blind
+pub mod Trail
+pub mod Counted
+pub mod Answered

@@ -60,7 +60,7 @@ pub fn power_up(image: &[u8], map: &[u8]) -> Powered
 
 // One step over a line word: the state and the cause after it; or 1, 2, 3 or 5 and the image as lent.
 pub fn step(s: State, image: &mut [u8], map: &[u8], line: u16) -> Stepped
-    ensures { λ r. ⌜ Spec.steppedPage r (now (image .exit)) ≡ Spec.stepPage (now (image .entry)) (now (map .entry)) line s ⌝ }
+    ensures { λ r. ⌜ Spec.left (Spec.steppedPage r) (now (image .exit)) ≡ Spec.stepPage (now (image .entry)) (now (map .entry)) line s ⌝ }
 {
     let why = refusal::step_refusal(image.len(), map, line);
     if why != 0 {
@@ -78,7 +78,7 @@ pub fn step(s: State, image: &mut [u8], map: &[u8], line: u16) -> Stepped
 
 // A run over line words: the state, the blanks and the first place after it; or 1 to 5 and the image as lent.
 pub fn run(s: State, image: &mut [u8], map: &[u8], lines: &[u16]) -> Finished
-    ensures { λ r. ⌜ Spec.finishedPage r (now (image .exit)) ≡ Spec.runPage (now (image .entry)) (now (map .entry)) (now (lines .entry)) s ⌝ }
+    ensures { λ r. ⌜ Spec.left (Spec.finishedPage r) (now (image .exit)) ≡ Spec.runPage (now (image .entry)) (now (map .entry)) (now (lines .entry)) s ⌝ }
 {
     let why = refusal::run_refusal(image.len(), map, lines);
     if why != 0 {

@@ -1,5 +1,5 @@
 -- Refusals 1 to 5 of what the processor is lent, 0 for none; in this order.
-use Prim.Native.Nat.{ℕ, zero, suc, _+_, _/_, _%_, _<_, _≤_}
+use Prim.Native.Nat.{ℕ, _+_, _/_, _%_, _<_, _≤_}
 use mathlib.Core.Bool.{Bool, true, false, cond}
 use mathlib.Core.List.{List, [], _∷_}
 use mathlib.Core.Path.{_≡_, refl}
@@ -8,7 +8,9 @@ use native.Mathlib.Omega.{arith}
 use lib.ListN.{length, drop, getD}
 use lib.Seq.{drop-cons, drop-length}
 use lib.Dec.{eqb, ltb, leb}
-use borrow.Author.Tests.{eqb-true, leb-true, ne-eqb}
+use borrow.Author.Tests.{eqb-true, leb-true}
+use Rattle.refusal.specs.Numbers.{imageLength, mapLength, mapByte, linesLength, lineBit}
+use Rattle.refusal.specs.Page.{first, first-both}
 
 -- every element passes
 unfoldable pub allOf : (ℕ → Bool) → List ℕ → Bool
@@ -23,23 +25,21 @@ flat b = ltb b 2
 abbrev pub plain : ℕ → Bool
 plain x = eqb (x / 4 % 2 + x / 16 % 8 + x / 4096) 0
 
--- 1: image not 65,536 bytes. 2: map not 256 bytes. 3: map byte over 1
+-- each in its place of the order
 unfoldable pub boardRefusal : ℕ → List ℕ → ℕ
-boardRefusal size map = cond (eqb size 65536) (cond (eqb (length map) 256) (cond (allOf flat map) 0 3) 2) 1
+boardRefusal size map =
+    first (cond (eqb size 65536) 0 imageLength)
+    (first (cond (eqb (length map) 256) 0 mapLength)
+    (cond (allOf flat map) 0 mapByte))
 
--- 4: over 4,096 line words. 5: unused line bit set
 unfoldable pub linesRefusal : List ℕ → ℕ
-linesRefusal lines = cond (leb (length lines) 4096) (cond (allOf plain lines) 0 5) 4
-
--- the first that applies
-abbrev pub orThen : ℕ → ℕ → ℕ
-orThen why other = cond (eqb why 0) other why
+linesRefusal lines = first (cond (leb (length lines) 4096) 0 linesLength) (cond (allOf plain lines) 0 lineBit)
 
 unfoldable pub stepRefusal : ℕ → List ℕ → ℕ → ℕ
-stepRefusal size map line = orThen (boardRefusal size map) (cond (plain line) 0 5)
+stepRefusal size map line = first (boardRefusal size map) (cond (plain line) 0 lineBit)
 
 unfoldable pub runRefusal : ℕ → List ℕ → List ℕ → ℕ
-runRefusal size map lines = orThen (boardRefusal size map) (linesRefusal lines)
+runRefusal size map lines = first (boardRefusal size map) (linesRefusal lines)
 
 -- ---- scans
 
@@ -61,32 +61,30 @@ pub record Sound (size : ℕ) (map : List ℕ) : Type 0 where
   pub bytes : size ≡ 65536
   pub pages : length map ≡ 256
 
-cond-none : (b : Bool) (x k : ℕ) → (k ≡ 0 → ⊥) → cond b x k ≡ 0 → (b ≡ true) × (x ≡ 0)
-cond-none true x k n e = (refl, e)
-cond-none false x k n e = absurd (n e)
+cond-none : (b : Bool) (k : ℕ) → (k ≡ 0 → ⊥) → cond b 0 k ≡ 0 → b ≡ true
+cond-none true k n e = refl
+cond-none false k n e = absurd (n e)
 
 pub sound : (size : ℕ) (map : List ℕ) → boardRefusal size map ≡ 0 → Sound size map
 unfolding boardRefusal
 sound size map e =
-    let a = cond-none (eqb size 65536) _ 1 (λ h. omega arith) e in
-    let b = cond-none (eqb (length map) 256) _ 2 (λ h. omega arith) (a .1) in
-    record { bytes = eqb-true _ _ (a .0); pages = eqb-true _ _ (b .0) }
+    let a = first-both (cond (eqb size 65536) 0 imageLength) _ e in
+    let b = first-both (cond (eqb (length map) 256) 0 mapLength) _ (a .1) in
+    record {
+      bytes = eqb-true _ _ (cond-none (eqb size 65536) imageLength (λ h. omega arith) (a .0));
+      pages = eqb-true _ _ (cond-none (eqb (length map) 256) mapLength (λ h. omega arith) (b .0));
+    }
 
 pub short : (lines : List ℕ) → linesRefusal lines ≡ 0 → length lines ≤ 4096
 unfolding linesRefusal
-short lines e = leb-true _ _ (cond-none (leb (length lines) 4096) _ 4 (λ h. omega arith) e .0)
-
--- neither of two refusals
-then-none : (x y : ℕ) → orThen x y ≡ 0 → (x ≡ 0) × (y ≡ 0)
-then-none zero y e = (refl, e)
-then-none (suc x) y e = let h : suc x ≡ 0 = (rw (ne-eqb (suc x) 0 (λ z. omega arith)) at e) in absurd (omega arith)
+short lines e = leb-true _ _ (cond-none (leb (length lines) 4096) linesLength (λ h. omega arith) (first-both (cond (leb (length lines) 4096) 0 linesLength) _ e .0))
 
 pub step-sound : (size : ℕ) (map : List ℕ) (line : ℕ) → stepRefusal size map line ≡ 0 → Sound size map
 unfolding stepRefusal
-step-sound size map line e = sound size map (then-none (boardRefusal size map) _ e .0)
+step-sound size map line e = sound size map (first-both (boardRefusal size map) _ e .0)
 
 pub run-sound : (size : ℕ) (map lines : List ℕ) → runRefusal size map lines ≡ 0 → Sound size map × (length lines ≤ 4096)
 unfolding runRefusal
 run-sound size map lines e =
-    let both = then-none (boardRefusal size map) (linesRefusal lines) e in
+    let both = first-both (boardRefusal size map) (linesRefusal lines) e in
     (sound size map (both .0), short lines (both .1))

@@ -1,7 +1,8 @@
 // The refusals 1 to 5 of what the processor is lent, and 0 for none.
 ghost use mathlib.Core.Path.{_≡_};
-ghost use lib.ListN.{length};
 ghost use Rattle.refusal.specs.Refusal as Spec;
+
+pub mod number;
 
 fn flat(b: u8) -> bool
     ensures { λ r. ⌜ r ≡ Spec.flat b ⌝ }
@@ -49,13 +50,13 @@ pub fn board_refusal(size: usize, map: &[u8]) -> u8
     ensures { λ r. ⌜ r ≡ Spec.boardRefusal size (now (map .entry)) ⌝ }
 {
     if size != 65536 {
-        return 1;
+        return number::IMAGE_LENGTH;
     }
     if map.len() != 256 {
-        return 2;
+        return number::MAP_LENGTH;
     }
     if !all_flat(map) {
-        return 3;
+        return number::MAP_BYTE;
     }
     0
 }
@@ -64,10 +65,10 @@ fn lines_refusal(lines: &[u16]) -> u8
     ensures { λ r. ⌜ r ≡ Spec.linesRefusal (now (lines .entry)) ⌝ }
 {
     if 4096 < lines.len() {
-        return 4;
+        return number::LINES_LENGTH;
     }
     if !all_plain(lines) {
-        return 5;
+        return number::LINE_BIT;
     }
     0
 }
@@ -79,7 +80,7 @@ pub fn step_refusal(size: usize, map: &[u8], line: u16) -> u8
     if why != 0 {
         return why;
     }
-    if plain(line) { 0 } else { 5 }
+    if plain(line) { 0 } else { number::LINE_BIT }
 }
 
 pub fn run_refusal(size: usize, map: &[u8], lines: &[u16]) -> u8

@@ -8,7 +8,8 @@ use Rattle.state.specs.State.{modeNumber, psOf, heard}
 use Rattle.machine.specs.declared.Ran.{Ran}
 use Rattle.line.specs.declared.Place.{Place}
 use Rattle.line.specs.Line.{lineText, written, Left}
-use Rattle.report.specs.Report.{registers, placeOf, endText}
+use Rattle.machine.specs.Numbers.{registers}
+use Rattle.report.specs.Report.{placeOf, endText}
 
 pub end-is : (r : Ran) (text : List ℕ) (w : Left) (regs : List ℕ) (out : Outside) (ps mode : ℕ) (at : Place)
     → w ≡ written (lineText regs ps mode (r .tally .blanks) at) text

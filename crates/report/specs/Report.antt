@@ -1,18 +1,15 @@
 -- The line of a run's end: R0-R5, SP, PC, PS, mode digit, blanks, first place or ----.
 use Prim.Native.Nat.{ℕ}
 use mathlib.Core.Bool.{false}
-use mathlib.Core.List.{List, [], _∷_}
-use Rattle.state.specs.declared.State.{State}
+use mathlib.Core.List.{List}
 use Rattle.state.specs.State.{modeNumber, psOf, heard}
 use Rattle.machine.specs.declared.Ran.{Ran}
+use Rattle.machine.specs.Numbers.{registers}
 use Rattle.machine.specs.declared.First.{First}
 use Rattle.machine.specs.declared.First.the-variants as First
 use Rattle.line.specs.declared.Place.{Place}
 use Rattle.line.specs.declared.Place.the-variants as Place
 use Rattle.line.specs.Line.{lineText}
-
-abbrev pub registers : State → List ℕ
-registers s = s .regs .r0 ∷ s .regs .r1 ∷ s .regs .r2 ∷ s .regs .r3 ∷ s .regs .r4 ∷ s .regs .r5 ∷ s .regs .sp ∷ s .regs .pc ∷ []
 
 abbrev pub placeOf : First → Place
 placeOf (First.At place) = Place.At place

@@ -5,11 +5,12 @@ use machine::Ran;
 use state::State;
 ghost use mathlib.Core.Path.{_≡_};
 ghost use Rattle.line.specs.Line.{left, written};
+ghost use Rattle.machine.specs.Numbers.{registers};
 ghost use Rattle.report.specs.Report as Spec;
 
 // The registers in the line's order.
 fn registers(s: State) -> [u16; 8]
-    ensures { λ r. ⌜ r ≡ Spec.registers s ⌝ }
+    ensures { λ r. ⌜ r ≡ registers s ⌝ }
 {
     [
         s.regs.r0,

@@ -1,6 +1,6 @@
 use Rattle.state.specs.declared.Mode.the-variants.{Locked}
 use Rattle.codes.specs.Past.{past}
-use Rattle.firmware.specs.Layout.{modes}
+use Rattle.machine.specs.Back.{modes}
 use borrow.Author.Needs.{needs}
 use Rattle.firmware.proofs.layout.mode_of.Statement.{statement}
 use Rattle.firmware.proofs.layout.mode_of.Tie as tie

@@ -1,10 +1,11 @@
+use Rattle.machine.specs.Numbers.{statePage}
 use Rattle.firmware.specs.Layout.{bytesOf}
 use borrow.Author.Needs.{needs}
 use Rattle.firmware.proofs.layout.state_bytes.Statement.{statement}
 use Rattle.firmware.proofs.layout.state_bytes.Tie as tie
 
 returns : tie.Need-returns
-unfolding bytesOf
+unfolding bytesOf statePage
 returns c = rw (c .before .before .before .before .before .before .before .before .before .before .before .before .before .before .before .before .before .before .low .ensures, c .before .before .before .before .before .before .before .before .before .before .before .before .before .before .before .before .before .high .ensures, c .before .before .before .before .before .before .before .before .before .before .before .before .before .before .before .before .low2 .ensures, c .before .before .before .before .before .before .before .before .before .before .before .before .before .before .before .high2 .ensures, c .before .before .before .before .before .before .before .before .before .before .before .before .before .before .low3 .ensures, c .before .before .before .before .before .before .before .before .before .before .before .before .before .high3 .ensures, c .before .before .before .before .before .before .before .before .before .before .before .before .low4 .ensures, c .before .before .before .before .before .before .before .before .before .before .before .high4 .ensures, c .before .before .before .before .before .before .before .before .before .before .low5 .ensures, c .before .before .before .before .before .before .before .before .before .high5 .ensures, c .before .before .before .before .before .before .before .before .low6 .ensures, c .before .before .before .before .before .before .before .high6 .ensures, c .before .before .before .before .before .before .low7 .ensures, c .before .before .before .before .before .high7 .ensures, c .before .before .before .before .low8 .ensures, c .before .before .before .high8 .ensures, c .before .before .indicators .ensures, c .before .digit .ensures .0, c .mode-number .ensures)
 
 pub state-bytes-spec : {M : Type 1} → statement M

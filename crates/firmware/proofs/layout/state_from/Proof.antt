@@ -1,10 +1,11 @@
-use Rattle.firmware.specs.Layout.{stateFrom}
+use Rattle.machine.specs.Back.{stateOf}
+use Rattle.firmware.specs.Layout.{pageFrom}
 use borrow.Author.Needs.{needs}
 use Rattle.firmware.proofs.layout.state_from.Statement.{statement}
 use Rattle.firmware.proofs.layout.state_from.Tie as tie
 
 returns : tie.Need-returns
-unfolding stateFrom
+unfolding stateOf pageFrom
 returns c = rw (c .with-mode .ensures, c .before .mode-of .ensures, c .before .before .byte-at3 .ensures, c .before .before .before .with-i2 .ensures, c .before .before .before .before .byte-at2 .ensures, c .before .before .before .before .before .with-flags .ensures, c .before .before .before .before .before .before .flags-of .ensures, c .before .before .before .before .before .before .before .byte-at .ensures, c .before .before .before .before .before .before .before .before .regs-from .ensures)
 
 pub state-from-spec : {M : Type 1} → statement M

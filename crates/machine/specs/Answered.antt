@@ -1,0 +1,48 @@
+-- An answer that meets its contract and is no refusal is the definition's, in the page's numbers.
+use Prim.Native.Nat.{ℕ, zero, suc}
+use mathlib.Core.List.{List}
+use mathlib.Core.Path.{_≡_, refl, sym, ap, _∙_}
+use lib.ListN.{length}
+use Rattle.state.specs.declared.State.{State}
+use Rattle.state.specs.State.{heard}
+use Rattle.step.specs.Step.{after, stepOf, powerUpOf}
+use Rattle.refusal.specs.Page.{Page, refused, answered, unless, apart, answered-one}
+use Rattle.refusal.specs.Refusal.{boardRefusal, stepRefusal, runRefusal}
+use Rattle.machine.specs.Numbers.{StatePage, statePage, TurnPage, RanPage, placeOf}
+use Rattle.machine.specs.Run.{runOf}
+use Rattle.machine.specs.Trail.{trailOf, lastOf, blanksIn, firstIn}
+use Rattle.machine.specs.Counted.{run-trail}
+use Rattle.machine.specs.Entry.{powerUpPage, Left, left, turned, stepPage, ended, runPage}
+
+-- what is right where nothing is refused
+taken : {A : Type 0} (why : ℕ) {p : A} (m : List ℕ) {m′ : List ℕ} (x : Left A) → left (answered p) m′ ≡ unless why x (left (refused why) m)
+    → (why ≡ 0) × (left (answered p) m′ ≡ x)
+taken zero m x e = (refl, e)
+taken (suc why) m x e = absurd (apart (ap (λ z. z .page) e))
+
+pub power-answer : (m map : List ℕ) (p : StatePage) → answered p ≡ powerUpPage m map → (boardRefusal (length m) map ≡ 0) × (p ≡ statePage (powerUpOf map m))
+unfolding powerUpPage
+power-answer m map p e = split (boardRefusal (length m) map) e
+  where
+    split : (why : ℕ) → answered p ≡ unless why (answered (statePage (powerUpOf map m))) (refused why) → (why ≡ 0) × (p ≡ statePage (powerUpOf map m))
+    split zero e = (refl, answered-one e)
+    split (suc why) e = absurd (apart e)
+
+module _ (m map : List ℕ) (line : ℕ) (s : State) {p : TurnPage} {m′ : List ℕ} where
+  pub step-answer : left (answered p) m′ ≡ stepPage m map line s → (stepRefusal (length m) map line ≡ 0) × (left (answered p) m′ ≡ turned (stepOf map (heard line) s m))
+  unfolding stepPage
+  step-answer e = taken (stepRefusal (length m) map line) m (turned (stepOf map (heard line) s m)) e
+
+-- what a run shows that went along a trail from b
+abbrev pub shown : List ℕ → List ℕ → State → List ℕ → Left RanPage
+shown map lines s m =
+    let rs = trailOf map lines s m in
+    let b = lastOf (after s m 0) rs in
+    left (answered (record { state = statePage (b .state); blanks = blanksIn rs; first = placeOf (firstIn rs) })) (b .image)
+
+module _ (m map lines : List ℕ) (s : State) {p : RanPage} {m′ : List ℕ} where
+  pub run-answer : left (answered p) m′ ≡ runPage m map lines s → (runRefusal (length m) map lines ≡ 0) × (left (answered p) m′ ≡ shown map lines s m)
+  unfolding runPage
+  run-answer e =
+      let h = taken (runRefusal (length m) map lines) m (ended (runOf map lines s m)) e in
+      (h .0, h .1 ∙ ap ended (run-trail map lines s m 0))

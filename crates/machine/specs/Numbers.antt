@@ -1,0 +1,58 @@
+-- The answers of the public calls in the page's numbers.
+use Prim.Native.Nat.{ℕ, _+_, _*_}
+use mathlib.Core.List.{List, [], _∷_}
+use Rattle.word.specs.declared.Flags.{Flags}
+use Rattle.word.specs.Number.{digit}
+use Rattle.state.specs.declared.State.{State}
+use Rattle.state.specs.State.{modeNumber}
+use Rattle.step.specs.declared.Turn.{Turn}
+use Rattle.machine.specs.declared.Ran.{Ran}
+use Rattle.machine.specs.declared.First.{First}
+use Rattle.machine.specs.declared.First.the-variants.{At, Never}
+
+-- ---- a state
+
+-- R0 to R5, SP and PC
+abbrev pub registers : State → List ℕ
+registers s = s .regs .r0 ∷ s .regs .r1 ∷ s .regs .r2 ∷ s .regs .r3 ∷ s .regs .r4 ∷ s .regs .r5 ∷ s .regs .sp ∷ s .regs .pc ∷ []
+
+-- N 8, Z 4, V 2, C 1
+abbrev pub indicators : Flags → ℕ
+indicators f = digit (f .n) * 8 + digit (f .z) * 4 + digit (f .v) * 2 + digit (f .c)
+
+-- the registers, the indicators, I2, and the mode: 0 running, 1 waiting, 2 halted on power fail, 3 halted for the switch, 4 locked
+pub record StatePage : Type 0 where
+  pub registers : List ℕ
+  pub indicators : ℕ
+  pub i2 : ℕ
+  pub mode : ℕ
+
+unfoldable pub statePage : State → StatePage
+statePage s = record { registers = registers s; indicators = indicators (s .flags); i2 = digit (s .i2); mode = modeNumber (s .mode) }
+
+-- ---- after a step: the state and the cause
+
+pub record TurnPage : Type 0 where
+  pub state : StatePage
+  pub cause : ℕ
+
+abbrev pub turnPage : Turn → TurnPage
+turnPage t = record { state = statePage (t .state); cause = t .cause }
+
+-- ---- after a run: the state, the count of blanks, and the place of the first or none
+
+pub data Place : Type 0 where
+  place : ℕ → Place
+  none : Place
+
+abbrev pub placeOf : First → Place
+placeOf (At p) = place p
+placeOf Never = none
+
+pub record RanPage : Type 0 where
+  pub state : StatePage
+  pub blanks : ℕ
+  pub first : Place
+
+abbrev pub ranPage : Ran → RanPage
+ranPage r = record { state = statePage (r .state); blanks = r .tally .blanks; first = placeOf (r .tally .first) }

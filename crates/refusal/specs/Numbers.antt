@@ -1,0 +1,62 @@
+-- The page's refusal numbers, by what they refuse. 6 to 10 are the text's: optext Answer.
+use Prim.Native.Nat.{ℕ}
+
+-- ---- what the processor is lent
+
+-- the image is not 65,536 bytes; the map is not 256 bytes; a map byte is over 1
+abbrev pub imageLength : ℕ
+imageLength = 1
+
+abbrev pub mapLength : ℕ
+mapLength = 2
+
+abbrev pub mapByte : ℕ
+mapByte = 3
+
+-- over 4,096 line words (the job reader: the line buffer is not 4,096); an unused bit of a line word is set
+abbrev pub linesLength : ℕ
+linesLength = 4
+
+abbrev pub lineBit : ℕ
+lineBit = 5
+
+-- ---- a job
+
+-- it ends inside a count or an entry
+abbrev pub jobEnds : ℕ
+jobEnds = 11
+
+-- pages: over 256; not rising
+abbrev pub manyPages : ℕ
+manyPages = 12
+
+abbrev pub pageNotRising : ℕ
+pageNotRising = 13
+
+-- words: over 4,096; an address that is odd, not rising, in an unfitted page
+abbrev pub manyWords : ℕ
+manyWords = 14
+
+abbrev pub addressOdd : ℕ
+addressOdd = 15
+
+abbrev pub addressNotRising : ℕ
+addressNotRising = 16
+
+abbrev pub addressUnfitted : ℕ
+addressUnfitted = 17
+
+-- line words: over 4,096; an unused bit is set
+abbrev pub manyLines : ℕ
+manyLines = 18
+
+abbrev pub jobLineBit : ℕ
+jobLineBit = 19
+
+-- bytes are left over
+abbrev pub bytesLeft : ℕ
+bytesLeft = 20
+
+-- ---- the functions for C: the bytes lent for a state or a tally are none
+abbrev pub noState : ℕ
+noState = 21
