@@ -104,6 +104,26 @@ causeNumber (RestartBlank a) = 7
 causeNumber (LockedAt a) = 8
 causeNumber Cause.Locked = 8
 
+-- the address of a blank: the bus error's trap succeeded
+abbrev pub blankAt : Cause → Told
+blankAt Cause.OpCode = Nowhere
+blankAt Cause.Switch = Nowhere
+blankAt Cause.NonVectored = Nowhere
+blankAt Cause.Vectored = Nowhere
+blankAt Cause.Nothing = Nowhere
+blankAt (OpCodeBlank a) = At a
+blankAt (InterruptBlank a) = At a
+blankAt (RestartBlank a) = At a
+blankAt (LockedAt a) = Nowhere
+blankAt Cause.Locked = Nowhere
+
+abbrev pub isTold : Told → Bool
+isTold Nowhere = false
+isTold (At a) = true
+
+abbrev pub isBlank : Cause → Bool
+isBlank cause = isTold (blankAt cause)
+
 -- the address that a step tells: that of a blank, and that of a lock-up which is newly met
 abbrev pub addressOf : Cause → Told
 addressOf Cause.OpCode = Nowhere
@@ -116,23 +136,6 @@ addressOf (InterruptBlank a) = At a
 addressOf (RestartBlank a) = At a
 addressOf (LockedAt a) = At a
 addressOf Cause.Locked = Nowhere
-
--- a blank: the bus error's trap succeeded
-abbrev pub isBlank : Cause → Bool
-isBlank Cause.OpCode = false
-isBlank Cause.Switch = false
-isBlank Cause.NonVectored = false
-isBlank Cause.Vectored = false
-isBlank Cause.Nothing = false
-isBlank (OpCodeBlank a) = true
-isBlank (InterruptBlank a) = true
-isBlank (RestartBlank a) = true
-isBlank (LockedAt a) = false
-isBlank Cause.Locked = false
-
--- the address of a blank
-abbrev pub blankAt : Cause → Told
-blankAt cause = cond (isBlank cause) (addressOf cause) Nowhere
 
 -- the end of a halt is 1 after the switch, 0 after power fail
 abbrev pub causeOf : Kind → Cause

@@ -78,7 +78,25 @@ pub fn cause_number(cause: Cause) -> u8
     }
 }
 
-// The address that a step tells.
+// The address of a blank: the bus error's trap succeeded.
+pub fn blank_at(cause: Cause) -> Told
+    ensures { λ r. ⌜ r ≡ Spec.blankAt cause ⌝ }
+{
+    match cause {
+        Cause::OpCode => Told::Nowhere,
+        Cause::Switch => Told::Nowhere,
+        Cause::NonVectored => Told::Nowhere,
+        Cause::Vectored => Told::Nowhere,
+        Cause::Nothing => Told::Nowhere,
+        Cause::OpCodeBlank(at) => Told::At(at),
+        Cause::InterruptBlank(at) => Told::At(at),
+        Cause::RestartBlank(at) => Told::At(at),
+        Cause::LockedAt(_) => Told::Nowhere,
+        Cause::Locked => Told::Nowhere,
+    }
+}
+
+// The address that a step tells: that of a blank, and that of a lock-up which is newly met.
 pub fn address_of(cause: Cause) -> Told
     ensures { λ r. ⌜ r ≡ Spec.addressOf cause ⌝ }
 {
@@ -94,34 +112,6 @@ pub fn address_of(cause: Cause) -> Told
         Cause::LockedAt(a) => Told::At(a),
         Cause::Locked => Told::Nowhere,
     }
-}
-
-// A blank: the bus error's trap succeeded.
-fn is_blank(cause: Cause) -> bool
-    ensures { λ r. ⌜ r ≡ Spec.isBlank cause ⌝ }
-{
-    match cause {
-        Cause::OpCode => false,
-        Cause::Switch => false,
-        Cause::NonVectored => false,
-        Cause::Vectored => false,
-        Cause::Nothing => false,
-        Cause::OpCodeBlank(_) => true,
-        Cause::InterruptBlank(_) => true,
-        Cause::RestartBlank(_) => true,
-        Cause::LockedAt(_) => false,
-        Cause::Locked => false,
-    }
-}
-
-// The address of a blank.
-pub fn blank_at(cause: Cause) -> Told
-    ensures { λ r. ⌜ r ≡ Spec.blankAt cause ⌝ }
-{
-    if is_blank(cause) {
-        return address_of(cause);
-    }
-    Told::Nowhere
 }
 
 // 2. I1. 3. I0. 4. what a waiting or a running processor does.
