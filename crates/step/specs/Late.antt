@@ -5,15 +5,16 @@ use mathlib.Core.Bool.{Bool, true, false, not, _&&_, _||_, cond}
 use mathlib.Core.List.{List}
 use mathlib.Core.Path.{_≡_, refl, sym, ap, _∙_}
 use lib.Dec.{eqb}
-use Rattle.board.specs.Work.{give, fitted, wordAt, value, run}
+use Rattle.board.specs.Work.{give, fitted, writable, wordAt, value, run}
+use Rattle.board.specs.Alike.{found-value}
 use Rattle.board.specs.Bind.{_>>=_}
 use Rattle.state.specs.declared.State.{State}
 use Rattle.state.specs.declared.Outside.{Outside}
 use Rattle.state.specs.declared.Mode.the-variants.{Running}
 use Rattle.state.specs.State.{withReg, withPc, withMark, withI2}
 use Rattle.state.specs.Registers.{setReg}
-use Rattle.state.specs.Stack.{fetch}
-use Rattle.word.specs.Address.{plus}
+use Rattle.state.specs.Stack.{push, pushBoth, fromLoc, fetch}
+use Rattle.word.specs.Address.{plus, minus}
 use Rattle.plate.specs.Plate.{formatOf}
 use Rattle.control.specs.Low.{lowCodes}
 use Rattle.format1.specs.Format1.{ien, format1}
@@ -21,7 +22,7 @@ use Rattle.step.specs.declared.Kind.{Kind}
 use Rattle.step.specs.declared.Kind.the-variants.{OpCode, Switched, NonVectored, Vectored}
 use Rattle.step.specs.declared.Cause.the-variants as Cause
 use Rattle.step.specs.Execute.{execute, byFormat, further}
-use Rattle.step.specs.Xct.{begun, carry, traced, opWork}
+use Rattle.step.specs.Xct.{begun, trace, carry, traced, opWork}
 use Rattle.step.specs.Step.{After, after, raised, asked, hears, kindIn, kindOf, workOf, stepOf}
 use Rattle.step.specs.Ends.{step-well}
 
@@ -137,3 +138,14 @@ module _ {map : List ℕ} {out : Outside} {s : State} {m : List ℕ} (c : Comes 
       let e : stepOf map out s m ≡ after (ien (begins s)) m Cause.OpCode = ien-step c in
       let second : Comes 0 map next (ien (begins s)) m = record { runs = c .runs; kind = held (ien (begins s)) next (c .runs) (ap not was) quiet; there = there; code = code } in
       rw (e, nop-step second) (unmarked-hears (begins (ien (begins s))) last (c .runs) refl refl a)
+
+-- ---- under XCT
+
+-- The push to 20's routine leaves the mark as the op code left it: an IEN or SAVS that XCT executes is late too.
+pub trace-keeps : (map : List ℕ) (out : Outside) (s : State) (m : List ℕ) (t : State) (n : List ℕ) → run map (trace out s) m ≡ value t n → t .mark ≡ s .mark
+unfolding run trace pushBoth push fromLoc _>>=_ withReg setReg
+trace-keeps map out s m t n h =
+    let one = found-value (writable map (minus (s .regs .sp) 2)) (minus (s .regs .sp) 2) _ t n h in
+    let two = found-value (writable map (minus (minus (s .regs .sp) 2) 2)) (minus (minus (s .regs .sp) 2) 2) _ t n (one .1) in
+    let three = found-value (fitted map 0x20) 0x20 _ t n (two .1) in
+    cc
