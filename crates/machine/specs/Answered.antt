@@ -5,6 +5,7 @@ use mathlib.Core.Path.{_≡_, refl, sym, ap, _∙_}
 use lib.ListN.{length}
 use Rattle.state.specs.declared.State.{State}
 use Rattle.state.specs.State.{heard}
+use Rattle.step.specs.declared.Cause.the-variants as Cause
 use Rattle.step.specs.Step.{after, stepOf, powerUpOf}
 use Rattle.refusal.specs.Page.{Page, refused, answered, unless, apart, answered-one}
 use Rattle.refusal.specs.Refusal.{boardRefusal, stepRefusal, runRefusal}
@@ -37,7 +38,7 @@ module _ (m map : List ℕ) (line : ℕ) (s : State) {p : TurnPage} {m′ : List
 abbrev pub shown : List ℕ → List ℕ → State → List ℕ → Left RanPage
 shown map lines s m =
     let rs = trailOf map lines s m in
-    let b = lastOf (after s m 0) rs in
+    let b = lastOf (after s m Cause.Nothing) rs in
     left (answered (record { state = statePage (b .state); blanks = blanksIn rs; first = placeOf (firstIn rs) })) (b .image)
 
 module _ (m map lines : List ℕ) (s : State) {p : RanPage} {m′ : List ℕ} where
@@ -45,4 +46,4 @@ module _ (m map lines : List ℕ) (s : State) {p : RanPage} {m′ : List ℕ} wh
   unfolding runPage
   run-answer e =
       let h = taken (runRefusal (length m) map lines) m (ended (runOf map lines s m)) e in
-      (h .0, h .1 ∙ ap ended (run-trail map lines s m 0))
+      (h .0, h .1 ∙ ap ended (run-trail map lines s m Cause.Nothing))

@@ -11,9 +11,12 @@ use Rattle.word.specs.Status.{flagsOf}
 use Rattle.state.specs.declared.State.{State}
 use Rattle.state.specs.declared.Mode.{Mode}
 use Rattle.state.specs.declared.Mode.the-variants.{Running, Waiting, PowerHalt, SwitchHalt, Locked}
-use Rattle.state.specs.State.{modeNumber, cleared, withReg, withFlags, withI2, withMode}
+use Rattle.state.specs.State.{modeNumber, cleared, withReg, withFlags, withI2, withMode, withMark}
 use Rattle.state.specs.Registers.{setReg}
 use Rattle.step.specs.declared.Turn.{Turn}
+use Rattle.step.specs.declared.Cause.{Cause}
+use Rattle.step.specs.declared.Cause.the-variants as Cause
+use Rattle.step.specs.Step.{causeNumber, addressOf}
 use Rattle.machine.specs.declared.Ran.{Ran}
 use Rattle.machine.specs.declared.First.{First}
 use Rattle.machine.specs.declared.First.the-variants.{At, Never}
@@ -24,7 +27,7 @@ use Rattle.machine.specs.declared.Stepped.the-variants as Stepped
 use Rattle.machine.specs.declared.Finished.{Finished}
 use Rattle.machine.specs.declared.Finished.the-variants as Finished
 use Rattle.refusal.specs.Page.{Page, refused, answered}
-use Rattle.machine.specs.Numbers.{indicators, StatePage, statePage, TurnPage, turnPage, Place, place, none, placeOf, RanPage, ranPage}
+use Rattle.machine.specs.Numbers.{indicators, StatePage, statePage, Address, address, nowhere, toldOf, TurnPage, turnPage, Place, place, none, placeOf, RanPage, ranPage}
 use Rattle.machine.specs.Entry.{Left, left, poweredPage, steppedPage, finishedPage}
 
 -- what can be read back is one to one
@@ -53,7 +56,7 @@ fromRegisters l =
     withReg s 7 (getD l 7 0)
 
 unfoldable pub stateOf : StatePage → State
-stateOf p = withMode (withI2 (withFlags (fromRegisters (p .registers)) (flagsOf (p .indicators))) (eqb (p .i2) 1)) (modeOf (p .mode))
+stateOf p = withMark (withMode (withI2 (withFlags (fromRegisters (p .registers)) (flagsOf (p .indicators))) (eqb (p .i2) 1)) (modeOf (p .mode))) (eqb (p .mark) 1)
 
 bits-again : (n z v c : Bool) → flagsOf (digit n * 8 + digit z * 4 + digit v * 2 + digit c) ≡ record { n = n; z = z; v = v; c = c }
 bits-again true true true true = refl
@@ -89,26 +92,44 @@ mode-again Locked = refl
 
 -- A STATE'S PAGE GIVES IT BACK
 pub state-back : (s : State) → stateOf (statePage s) ≡ s
-unfolding stateOf statePage fromRegisters withReg setReg withFlags withI2 withMode cleared
-state-back s = rw (flags-again (s .flags), bool-again (s .i2), mode-again (s .mode))
+unfolding stateOf statePage fromRegisters withReg setReg withFlags withI2 withMode withMark cleared
+state-back s = rw (flags-again (s .flags), bool-again (s .i2), mode-again (s .mode), bool-again (s .mark))
 
 pub state-one : (s t : State) → statePage s ≡ statePage t → s ≡ t
 state-one = one stateOf state-back
 
 -- ---- an answer, from its page
 
+-- the causes in the order of their numbers; the last are the lock-ups
+abbrev causeOf : ℕ → Address → Cause
+causeOf k (address a) =
+    getD (Cause.OpCode ∷ Cause.Switch ∷ Cause.NonVectored ∷ Cause.Vectored ∷ Cause.Nothing ∷ Cause.OpCodeBlank a ∷ Cause.InterruptBlank a ∷ Cause.RestartBlank a ∷ []) k (Cause.LockedAt a)
+causeOf k nowhere = getD (Cause.OpCode ∷ Cause.Switch ∷ Cause.NonVectored ∷ Cause.Vectored ∷ Cause.Nothing ∷ []) k Cause.Locked
+
+cause-back : (c : Cause) → causeOf (causeNumber c) (toldOf (addressOf c)) ≡ c
+cause-back Cause.OpCode = refl
+cause-back Cause.Switch = refl
+cause-back Cause.NonVectored = refl
+cause-back Cause.Vectored = refl
+cause-back Cause.Nothing = refl
+cause-back (Cause.OpCodeBlank a) = refl
+cause-back (Cause.InterruptBlank a) = refl
+cause-back (Cause.RestartBlank a) = refl
+cause-back (Cause.LockedAt a) = refl
+cause-back Cause.Locked = refl
+
 abbrev turnOf : TurnPage → Turn
-turnOf p = record { state = stateOf (p .state); cause = p .cause }
+turnOf p = record { state = stateOf (p .state); cause = causeOf (p .cause) (p .told) }
 
 turn-back : (t : Turn) → turnOf (turnPage t) ≡ t
-turn-back t = rw (state-back (t .state))
+turn-back t = rw (state-back (t .state), cause-back (t .cause))
 
 abbrev firstOf : Place → First
-firstOf (place p) = At p
+firstOf (place p a) = At p a
 firstOf none = Never
 
 first-back : (f : First) → firstOf (placeOf f) ≡ f
-first-back (At p) = refl
+first-back (At p a) = refl
 first-back Never = refl
 
 abbrev ranOf : RanPage → Ran

@@ -1,25 +1,28 @@
--- A run's end is its trail's, its count of blanks the number of blanks on the trail, its first place the least of theirs.
+-- A run's end is its trail's, its count of blanks the number of blanks on the trail, its first place the least of theirs, with the address told there.
 use Prim.Native.Nat.{ℕ, zero, suc, _+_, _<_}
 use native.Mathlib.Omega.{arith}
-use mathlib.Core.Bool.{Bool, true, false, cond}
+use mathlib.Core.Bool.{false, cond}
 use mathlib.Core.List.{List, [], _∷_}
 use mathlib.Core.Path.{_≡_, refl, sym, ap, _∙_}
 use lib.ListN.{length, getD, take}
 use Rattle.state.specs.declared.State.{State}
 use Rattle.state.specs.State.{heard}
-use Rattle.step.specs.Step.{After, after, stepOf, isBlank}
+use Rattle.step.specs.declared.Cause.{Cause}
+use Rattle.step.specs.declared.Told.{Told}
+use Rattle.step.specs.declared.Told.the-variants as Told
+use Rattle.step.specs.Step.{After, after, stepOf, blankAt, isTold, isBlank}
 use Rattle.machine.specs.declared.Tally.{Tally}
 use Rattle.machine.specs.declared.First.{First}
 use Rattle.machine.specs.declared.First.the-variants.{At, Never}
 use Rattle.machine.specs.Numbers.{placeOf}
 use Rattle.machine.specs.Run.{End, end, rest, runOf, noted, noBlanks, firstOf}
-use Rattle.machine.specs.Trail.{trailOf, lastOf, blanksIn, moved, firstIn, tallyIn, causeAt, Least, least, nowhere}
+use Rattle.machine.specs.Trail.{trailOf, lastOf, blanksIn, moved, here, firstIn, tallyIn, causeAt, Least, least, nowhere}
 
 -- ---- tallies add up
 
--- the first of two places
+-- the first of two
 abbrev pub orFirst : First → First → First
-orFirst (At p) other = At p
+orFirst (At p a) other = At p a
 orFirst Never other = other
 
 -- The tally of steps that follow n steps: counts add up; the first blank is the first's, or else the second's moved on by n.
@@ -30,23 +33,23 @@ tally-is : {a b : ℕ} {f g : First} → a ≡ b → f ≡ g → _≡_ {A = Tall
 tally-is e h = cc
 
 or-never : (f : First) → orFirst f Never ≡ f
-or-never (At p) = refl
+or-never (At p a) = refl
 or-never Never = refl
 
 or-or : (f g h : First) → orFirst (orFirst f g) h ≡ orFirst f (orFirst g h)
-or-or (At p) g h = refl
+or-or (At p a) g h = refl
 or-or Never g h = refl
 
 moved-or : (n : ℕ) (f g : First) → moved n (orFirst f g) ≡ orFirst (moved n f) (moved n g)
-moved-or n (At p) g = refl
+moved-or n (At p a) g = refl
 moved-or n Never g = refl
 
 moved-moved : (n k : ℕ) (f : First) → moved n (moved k f) ≡ moved (n + k) f
-moved-moved n k (At p) = ap (λ z. At z) (omega arith)
+moved-moved n k (At p a) = ap (λ z. At z a) (omega arith)
 moved-moved n k Never = refl
 
 moved-none : (f : First) → moved 0 f ≡ f
-moved-none (At p) = ap (λ z. At z) (omega arith)
+moved-none (At p a) = ap (λ z. At z a) (omega arith)
 moved-none Never = refl
 
 pub joined-left : (t : Tally) → joined 0 noBlanks t ≡ t
@@ -66,28 +69,24 @@ joined-joined n k t u v =
     ∙ ap (λ z. orFirst (t .first) z) (sym (moved-or n (u .first) (moved k (v .first)))))
 
 -- one step, and the trail after it
-pub tally-cons : (a : After) (rs : List After) → tallyIn (a ∷ rs) ≡ joined 1 (noted noBlanks 0 (a .cause)) (tallyIn rs)
+pub tally-cons : (a : After) (rs : List After) → tallyIn (a ∷ rs) ≡ joined 1 (noted noBlanks 0 (blankAt (a .cause))) (tallyIn rs)
 unfolding blanksIn firstIn joined noted
-tally-cons a rs = split (isBlank (a .cause))
+tally-cons a rs = split (blankAt (a .cause))
   where
-    split : (b : Bool) → _≡_ {A = Tally} (record { blanks = cond b 1 0 + blanksIn rs; first = cond b (At 0) (moved 1 (firstIn rs)) })
-        (record { blanks = cond b (record { blanks = 0 + 1; first = firstOf Never 0 }) noBlanks .blanks + blanksIn rs; first = orFirst (cond b (record { blanks = 0 + 1; first = firstOf Never 0 }) noBlanks .first) (moved 1 (firstIn rs)) })
-    split true = refl
-    split false = refl
+    split : (b : Told) → _≡_ {A = Tally} (record { blanks = cond (isTold b) 1 0 + blanksIn rs; first = here b (firstIn rs) })
+        (record { blanks = noted noBlanks 0 b .blanks + blanksIn rs; first = orFirst (noted noBlanks 0 b .first) (moved 1 (firstIn rs)) })
+    split (Told.At x) = refl
+    split Told.Nowhere = refl
 
 -- the loop's tally
-noted-joined : (t : Tally) (n c : ℕ) → noted t n c ≡ joined n t (noted noBlanks 0 c)
+noted-joined : (t : Tally) (n : ℕ) (b : Told) → noted t n b ≡ joined n t (noted noBlanks 0 b)
 unfolding joined noted
-noted-joined t n c = split (isBlank c)
+noted-joined t n (Told.At a) = tally-is refl (first (t .first))
   where
-    first : (f : First) → firstOf f n ≡ orFirst f (At (n + 0))
-    first (At p) = refl
-    first Never = ap (λ z. At z) (omega arith)
-
-    split : (b : Bool) → cond b (record { blanks = t .blanks + 1; first = firstOf (t .first) n }) t
-        ≡ (record { blanks = t .blanks + cond b (record { blanks = 0 + 1; first = firstOf Never 0 }) noBlanks .blanks; first = orFirst (t .first) (moved n (cond b (record { blanks = 0 + 1; first = firstOf Never 0 }) noBlanks .first)) })
-    split true = tally-is refl (first (t .first))
-    split false = tally-is (omega arith) (sym (or-never (t .first)))
+    first : (f : First) → firstOf f n a ≡ orFirst f (At (n + 0) a)
+    first (At p x) = refl
+    first Never = ap (λ z. At z a) (omega arith)
+noted-joined t n Told.Nowhere = tally-is (omega arith) (sym (or-never (t .first)))
 
 -- ---- A RUN'S END AND TALLY ARE ITS TRAIL'S
 
@@ -95,21 +94,21 @@ noted-joined t n c = split (isBlank c)
 abbrev pub endOf : After → ℕ → Tally → List After → End
 endOf b n t rs = end (lastOf b rs .state) (lastOf b rs .image) (joined n t (tallyIn rs))
 
-pub rest-trail : (map : List ℕ) (place : ℕ) (lines : List ℕ) (s : State) (m : List ℕ) (t : Tally) (c : ℕ)
+pub rest-trail : (map : List ℕ) (place : ℕ) (lines : List ℕ) (s : State) (m : List ℕ) (t : Tally) (c : Cause)
     → rest map place lines s m t ≡ endOf (after s m c) place t (trailOf map lines s m)
 unfolding rest trailOf blanksIn firstIn
 rest-trail map place [] s m t c = ap (end s m) (sym (joined-right place t))
 rest-trail map place (x ∷ xs) s m t c =
     let a = stepOf map (heard x) s m in
     let rs = trailOf map xs (a .state) (a .image) in
-    rest-trail map (place + 1) xs (a .state) (a .image) (noted t place (a .cause)) (a .cause)
+    rest-trail map (place + 1) xs (a .state) (a .image) (noted t place (blankAt (a .cause))) (a .cause)
     ∙ ap (λ z. end (lastOf a rs .state) (lastOf a rs .image) z)
-    (ap (λ z. joined (place + 1) z (tallyIn rs)) (noted-joined t place (a .cause))
-    ∙ joined-joined place 1 t (noted noBlanks 0 (a .cause)) (tallyIn rs)
+    (ap (λ z. joined (place + 1) z (tallyIn rs)) (noted-joined t place (blankAt (a .cause)))
+    ∙ joined-joined place 1 t (noted noBlanks 0 (blankAt (a .cause))) (tallyIn rs)
     ∙ ap (joined place t) (sym (tally-cons a rs)))
 
 -- the whole run, from a state and an image; a cause before its first step is not asked for
-pub run-trail : (map lines : List ℕ) (s : State) (m : List ℕ) (c : ℕ)
+pub run-trail : (map lines : List ℕ) (s : State) (m : List ℕ) (c : Cause)
     → runOf map lines s m ≡ end (lastOf (after s m c) (trailOf map lines s m) .state) (lastOf (after s m c) (trailOf map lines s m) .image) (tallyIn (trailOf map lines s m))
 run-trail map lines s m c = rest-trail map 0 lines s m noBlanks c ∙ ap (λ z. end (lastOf (after s m c) (trailOf map lines s m) .state) (lastOf (after s m c) (trailOf map lines s m) .image) z) (joined-left (tallyIn (trailOf map lines s m)))
 
@@ -118,10 +117,10 @@ run-trail map lines s m c = rest-trail map 0 lines s m noBlanks c ∙ ap (λ z. 
 pub first-least : (rs : List After) → Least rs (placeOf (firstIn rs))
 unfolding firstIn
 first-least [] = nowhere (λ k h. absurd (omega arith))
-first-least (a ∷ rs) = split (isBlank (a .cause)) refl (firstIn rs) (first-least rs)
+first-least (a ∷ rs) = split (blankAt (a .cause)) refl (firstIn rs) (first-least rs)
   where
     later : (f : First) → isBlank (a .cause) ≡ false → Least rs (placeOf f) → Least (a ∷ rs) (placeOf (moved 1 f))
-    later (At p) e (least l h g) = rw (one-more p) (least {p = suc p} (omega arith) h before)
+    later (At p x) e (least l h g) = rw (one-more p) (least {p = suc p} (omega arith) h before)
       where
         one-more : (p : ℕ) → 1 + p ≡ suc p
         one-more p = omega arith
@@ -135,9 +134,9 @@ first-least (a ∷ rs) = split (isBlank (a .cause)) refl (firstIn rs) (first-lea
         every zero i = e
         every (suc k) i = g k (omega arith)
 
-    split : (b : Bool) → isBlank (a .cause) ≡ b → (f : First) → Least rs (placeOf f) → Least (a ∷ rs) (placeOf (cond b (At 0) (moved 1 f)))
-    split true e f h = least {p = 0} (omega arith) e (λ k i. absurd (omega arith))
-    split false e f h = later f e h
+    split : (b : Told) → blankAt (a .cause) ≡ b → (f : First) → Least rs (placeOf f) → Least (a ∷ rs) (placeOf (here b f))
+    split (Told.At x) e f h = least {p = 0} (omega arith) e (λ k i. absurd (omega arith))
+    split Told.Nowhere e f h = later f (ap isTold e) h
 
 -- ---- the trail, place by place
 
@@ -149,7 +148,7 @@ trail-length map (x ∷ xs) s m =
     ap suc (trail-length map xs (a .state) (a .image))
 
 -- the step at a place is the step over its line word from where the places before it end
-pub trail-at : (map lines : List ℕ) (s : State) (m : List ℕ) (c : ℕ) (d : After) (k : ℕ) → k < length lines
+pub trail-at : (map lines : List ℕ) (s : State) (m : List ℕ) (c : Cause) (d : After) (k : ℕ) → k < length lines
     → (let b = lastOf (after s m c) (take k (trailOf map lines s m)) in
     getD (trailOf map lines s m) k d ≡ stepOf map (heard (getD lines k 0)) (b .state) (b .image))
 unfolding trailOf

@@ -49,7 +49,7 @@ powerUpPage image map =
     unless why (answered (statePage (powerUpOf map image))) (refused why)
 
 abbrev pub turned : After → Left TurnPage
-turned a = left (answered (record { state = statePage (a .state); cause = a .cause })) (a .image)
+turned a = left (answered (turnPage (record { state = a .state; cause = a .cause }))) (a .image)
 
 unfoldable pub stepPage : List ℕ → List ℕ → ℕ → State → Left TurnPage
 stepPage image map line s =

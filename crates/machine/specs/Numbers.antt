@@ -6,6 +6,9 @@ use Rattle.word.specs.Number.{digit}
 use Rattle.state.specs.declared.State.{State}
 use Rattle.state.specs.State.{modeNumber}
 use Rattle.step.specs.declared.Turn.{Turn}
+use Rattle.step.specs.declared.Told.{Told}
+use Rattle.step.specs.declared.Told.the-variants as Told
+use Rattle.step.specs.Step.{causeNumber, addressOf}
 use Rattle.machine.specs.declared.Ran.{Ran}
 use Rattle.machine.specs.declared.First.{First}
 use Rattle.machine.specs.declared.First.the-variants.{At, Never}
@@ -20,33 +23,43 @@ registers s = s .regs .r0 ∷ s .regs .r1 ∷ s .regs .r2 ∷ s .regs .r3 ∷ s 
 abbrev pub indicators : Flags → ℕ
 indicators f = digit (f .n) * 8 + digit (f .z) * 4 + digit (f .v) * 2 + digit (f .c)
 
--- the registers, the indicators, I2, and the mode: 0 running, 1 waiting, 2 halted on power fail, 3 halted for the switch, 4 locked
+-- the registers, the indicators, I2, the mode (0 running, 1 waiting, 2 halted on power fail, 3 halted for the switch, 4 locked), and the mark of a late IEN
 pub record StatePage : Type 0 where
   pub registers : List ℕ
   pub indicators : ℕ
   pub i2 : ℕ
   pub mode : ℕ
+  pub mark : ℕ
 
 unfoldable pub statePage : State → StatePage
-statePage s = record { registers = registers s; indicators = indicators (s .flags); i2 = digit (s .i2); mode = modeNumber (s .mode) }
+statePage s = record { registers = registers s; indicators = indicators (s .flags); i2 = digit (s .i2); mode = modeNumber (s .mode); mark = digit (s .mark) }
 
--- ---- after a step: the state and the cause
+-- ---- after a step: the state, the cause, and the address that it tells or none
+
+pub data Address : Type 0 where
+  address : ℕ → Address
+  nowhere : Address
+
+abbrev pub toldOf : Told → Address
+toldOf (Told.At a) = address a
+toldOf Told.Nowhere = nowhere
 
 pub record TurnPage : Type 0 where
   pub state : StatePage
   pub cause : ℕ
+  pub told : Address
 
 abbrev pub turnPage : Turn → TurnPage
-turnPage t = record { state = statePage (t .state); cause = t .cause }
+turnPage t = record { state = statePage (t .state); cause = causeNumber (t .cause); told = toldOf (addressOf (t .cause)) }
 
--- ---- after a run: the state, the count of blanks, and the place of the first or none
+-- ---- after a run: the state, the count of blanks, and the place of the first with the address that it told, or none
 
 pub data Place : Type 0 where
-  place : ℕ → Place
+  place : ℕ → ℕ → Place
   none : Place
 
 abbrev pub placeOf : First → Place
-placeOf (At p) = place p
+placeOf (At p a) = place p a
 placeOf Never = none
 
 pub record RanPage : Type 0 where

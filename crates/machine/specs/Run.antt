@@ -1,7 +1,6 @@
 -- A run: one step for each line word.
 use Prim.Native.Nat.{ℕ, _+_, _<_}
 use mathlib.Core.List.{List, [], _∷_}
-use mathlib.Core.Bool.{cond}
 use mathlib.Core.Path.{_≡_, refl, ap}
 use native.Mathlib.Numerals.{add-one}
 use lib.ListN.{length, drop, getD}
@@ -14,16 +13,21 @@ use Rattle.machine.specs.declared.Last.{Last}
 use Rattle.machine.specs.declared.Tally.{Tally}
 use Rattle.machine.specs.declared.First.{First}
 use Rattle.machine.specs.declared.First.the-variants.{At, Never}
-use Rattle.step.specs.Step.{stepOf, After, after, isBlank}
+use Rattle.step.specs.declared.Cause.{Cause}
+use Rattle.step.specs.declared.Cause.the-variants as Cause
+use Rattle.step.specs.declared.Told.{Told}
+use Rattle.step.specs.declared.Told.the-variants as Told
+use Rattle.step.specs.Step.{stepOf, After, after, blankAt}
 
--- the place of the first blank: the earlier one stays
-abbrev pub firstOf : First → ℕ → First
-firstOf (At p) place = At p
-firstOf Never place = At place
+-- the place of the first blank and the address that it told: the earlier one stays
+abbrev pub firstOf : First → ℕ → ℕ → First
+firstOf (At p a) place address = At p a
+firstOf Never place address = At place address
 
--- the blanks counted, and the first place, after the step at this place
-unfoldable pub noted : Tally → ℕ → ℕ → Tally
-noted t place cause = cond (isBlank cause) (record { blanks = t .blanks + 1; first = firstOf (t .first) place }) t
+-- the blanks counted, and the first of them, after the step at this place
+unfoldable pub noted : Tally → ℕ → Told → Tally
+noted t place Told.Nowhere = t
+noted t place (Told.At a) = record { blanks = t .blanks + 1; first = firstOf (t .first) place a }
 
 abbrev pub noBlanks : Tally
 noBlanks = record { blanks = 0; first = Never }
@@ -37,7 +41,7 @@ unfoldable pub rest : List ℕ → ℕ → List ℕ → State → List ℕ → T
 rest map place [] s m t = end s m t
 rest map place (line ∷ lines) s m t =
     let a = stepOf map (heard line) s m in
-    rest map (place + 1) lines (a .state) (a .image) (noted t place (a .cause))
+    rest map (place + 1) lines (a .state) (a .image) (noted t place (blankAt (a .cause)))
 
 abbrev pub runOf : List ℕ → List ℕ → State → List ℕ → End
 runOf map lines s m = rest map 0 lines s m noBlanks
@@ -46,20 +50,20 @@ abbrev pub ranOf : Ran → List ℕ → End
 ranOf r m = end (r .state) m (r .tally)
 
 -- the cause of the last step, c where there is none
-unfoldable pub lastCause : List ℕ → List ℕ → State → List ℕ → ℕ → ℕ
+unfoldable pub lastCause : List ℕ → List ℕ → State → List ℕ → Cause → Cause
 lastCause map [] s m c = c
 lastCause map (line ∷ lines) s m c =
     let a = stepOf map (heard line) s m in
     lastCause map lines (a .state) (a .image) (a .cause)
 
 rest-cons : (map : List ℕ) (i x : ℕ) (xs : List ℕ) (s : State) (m : List ℕ) (t : Tally)
-    → rest map (i + 1) xs (stepOf map (heard x) s m .state) (stepOf map (heard x) s m .image) (noted t i (stepOf map (heard x) s m .cause)) ≡ rest map i (x ∷ xs) s m t
+    → rest map (i + 1) xs (stepOf map (heard x) s m .state) (stepOf map (heard x) s m .image) (noted t i (blankAt (stepOf map (heard x) s m .cause))) ≡ rest map i (x ∷ xs) s m t
 unfolding rest
 rest-cons map i x xs s m t = refl
 
 -- one step more
 pub rest-more : (map lines : List ℕ) (i : ℕ) (s : State) (m : List ℕ) (t t′ : Tally) (a : After)
-    → i < length lines → a ≡ stepOf map (heard (getD lines i 0)) s m → t′ ≡ noted t i (a .cause)
+    → i < length lines → a ≡ stepOf map (heard (getD lines i 0)) s m → t′ ≡ noted t i (blankAt (a .cause))
     → rest map (i + 1) (drop (i + 1) lines) (a .state) (a .image) t′ ≡ rest map i (drop i lines) s m t
 rest-more map lines i s m t t′ a l e d = rw (drop-cons lines i 0 l, ← add-one i, d, e) (rest-cons map i (getD lines i 0) (drop (i + 1) lines) s m t)
 
@@ -68,23 +72,23 @@ pub rest-none : (map lines : List ℕ) (i : ℕ) (s : State) (m : List ℕ) (t :
 unfolding rest
 rest-none map lines i s m t e = rw (e, drop-length lines)
 
-cause-cons : (map : List ℕ) (x : ℕ) (xs : List ℕ) (s : State) (m : List ℕ) (c : ℕ)
+cause-cons : (map : List ℕ) (x : ℕ) (xs : List ℕ) (s : State) (m : List ℕ) (c : Cause)
     → lastCause map xs (stepOf map (heard x) s m .state) (stepOf map (heard x) s m .image) (stepOf map (heard x) s m .cause) ≡ lastCause map (x ∷ xs) s m c
 unfolding lastCause
 cause-cons map x xs s m c = refl
 
-pub cause-more : (map lines : List ℕ) (i : ℕ) (s : State) (m : List ℕ) (c : ℕ) (a : After)
+pub cause-more : (map lines : List ℕ) (i : ℕ) (s : State) (m : List ℕ) (c : Cause) (a : After)
     → i < length lines → a ≡ stepOf map (heard (getD lines i 0)) s m
     → lastCause map (drop (i + 1) lines) (a .state) (a .image) (a .cause) ≡ lastCause map (drop i lines) s m c
 cause-more map lines i s m c a l e = rw (drop-cons lines i 0 l, ← add-one i, e) (cause-cons map (getD lines i 0) (drop (i + 1) lines) s m c)
 
-pub cause-none : (map lines : List ℕ) (i : ℕ) (s : State) (m : List ℕ) (c : ℕ) → i ≡ length lines → lastCause map (drop i lines) s m c ≡ c
+pub cause-none : (map lines : List ℕ) (i : ℕ) (s : State) (m : List ℕ) (c : Cause) → i ≡ length lines → lastCause map (drop i lines) s m c ≡ c
 unfolding lastCause
 cause-none map lines i s m c e = rw (e, drop-length lines)
 
 -- a run over one line word is a step
-pub run-of-one : (map : List ℕ) (line : ℕ) (s : State) (m : List ℕ) {t : State} {n : List ℕ} {y : Tally} {c : ℕ}
-    → end t n y ≡ runOf map (line ∷ []) s m → c ≡ lastCause map (line ∷ []) s m 4 → after t n c ≡ stepOf map (heard line) s m
+pub run-of-one : (map : List ℕ) (line : ℕ) (s : State) (m : List ℕ) {t : State} {n : List ℕ} {y : Tally} {c : Cause}
+    → end t n y ≡ runOf map (line ∷ []) s m → c ≡ lastCause map (line ∷ []) s m Cause.Nothing → after t n c ≡ stepOf map (heard line) s m
 unfolding rest lastCause
 run-of-one map line s m {t = t} {n = n} e d =
     let state : t ≡ stepOf map (heard line) s m .state = ap stateIn e in
@@ -100,5 +104,5 @@ run-of-one map line s m {t = t} {n = n} e d =
 -- what a run on a board promises: the end, and the last cause
 pub record Ended (map lines : List ℕ) (s : State) (m : List ℕ) (r : Last) (n : List ℕ) : Type 0 where
   pub same : ranOf (r .ran) n ≡ runOf map lines s m
-  pub cause : r .cause ≡ lastCause map lines s m 4
+  pub cause : r .cause ≡ lastCause map lines s m Cause.Nothing
   pub lent : Lent map n

@@ -1,12 +1,16 @@
 -- The trail of a run: what each of its steps leaves, in order; and the blanks that are read off it.
 use Prim.Native.Nat.{ℕ, zero, suc, _+_, _<_}
-use mathlib.Core.Bool.{true, false, cond}
+use mathlib.Core.Bool.{false, cond}
 use mathlib.Core.List.{List, [], _∷_}
 use mathlib.Core.Path.{_≡_}
 use lib.ListN.{length}
 use Rattle.state.specs.declared.State.{State}
 use Rattle.state.specs.State.{heard}
-use Rattle.step.specs.Step.{After, stepOf, isBlank}
+use Rattle.step.specs.declared.Cause.{Cause}
+use Rattle.step.specs.declared.Cause.the-variants as Cause
+use Rattle.step.specs.declared.Told.{Told}
+use Rattle.step.specs.declared.Told.the-variants as Told
+use Rattle.step.specs.Step.{After, stepOf, blankAt, isBlank}
 use Rattle.machine.specs.declared.First.{First}
 use Rattle.machine.specs.declared.First.the-variants.{At, Never}
 use Rattle.machine.specs.declared.Tally.{Tally}
@@ -24,30 +28,35 @@ abbrev pub lastOf : After → List After → After
 lastOf b [] = b
 lastOf b (a ∷ rs) = lastOf a rs
 
--- how many of its steps have a cause from 5 to 7
+-- how many of its steps are blanks
 unfoldable pub blanksIn : List After → ℕ
 blanksIn [] = 0
 blanksIn (a ∷ rs) = cond (isBlank (a .cause)) 1 0 + blanksIn rs
 
--- the place of the first of them: a place moved on by n steps
+-- the first of them: a place moved on by n steps
 abbrev pub moved : ℕ → First → First
-moved n (At p) = At (n + p)
+moved n (At p a) = At (n + p) a
 moved n Never = Never
+
+-- this step, where it is a blank, or else a later one
+abbrev pub here : Told → First → First
+here (Told.At a) later = At 0 a
+here Told.Nowhere later = moved 1 later
 
 unfoldable pub firstIn : List After → First
 firstIn [] = Never
-firstIn (a ∷ rs) = cond (isBlank (a .cause)) (At 0) (moved 1 (firstIn rs))
+firstIn (a ∷ rs) = here (blankAt (a .cause)) (firstIn rs)
 
 abbrev pub tallyIn : List After → Tally
 tallyIn rs = record { blanks = blanksIn rs; first = firstIn rs }
 
 -- the cause of the step at a place
-abbrev pub causeAt : List After → ℕ → ℕ
-causeAt [] k = 0
+abbrev pub causeAt : List After → ℕ → Cause
+causeAt [] k = Cause.Nothing
 causeAt (a ∷ rs) zero = a .cause
 causeAt (a ∷ rs) (suc k) = causeAt rs k
 
--- the least place with a blank: one stands there and none before it; or there is none at all
+-- the least place with a blank: one that tells this address stands there, and none before it; or there is none at all
 pub data Least (rs : List After) : Place → Type 0 where
-  least : {p : ℕ} → p < length rs → isBlank (causeAt rs p) ≡ true → ((k : ℕ) → k < p → isBlank (causeAt rs k) ≡ false) → Least rs (place p)
+  least : {p a : ℕ} → p < length rs → blankAt (causeAt rs p) ≡ Told.At a → ((k : ℕ) → k < p → isBlank (causeAt rs k) ≡ false) → Least rs (place p a)
   nowhere : ((k : ℕ) → k < length rs → isBlank (causeAt rs k) ≡ false) → Least rs none

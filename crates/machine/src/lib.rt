@@ -1,5 +1,6 @@
 // The processor: power-up, one step, and a run over a list of line words.
 use state::State;
+use step::Cause;
 use step::Turn;
 ghost use mathlib.Core.Path.{_≡_};
 ghost use Prim.Native.Nat.{_≤_};
@@ -8,9 +9,9 @@ ghost use Rattle.machine.specs.Entry as Spec;
 
 mod runs;
 
-// The place of the first blank step of a run.
+// The first blank step of a run: its place, and the address that it tells.
 pub enum First {
-    At(u16),
+    At(u16, u16),
     Never,
 }
 
@@ -29,7 +30,7 @@ pub struct Ran {
 // A run, and the cause of its last step.
 pub(crate) struct Last {
     pub ran: Ran,
-    pub cause: u8,
+    pub cause: Cause,
 }
 
 pub enum Powered {
@@ -70,13 +71,11 @@ pub fn step(s: State, image: &mut [u8], map: &[u8], line: u16) -> Stepped
     let last = runs::run_on(s, image, map, &lines);
     let ran = last.ran;
     let state = ran.state;
-    Stepped::Done(Turn {
-        state,
-        cause: last.cause,
-    })
+    let cause = last.cause;
+    Stepped::Done(Turn { state, cause })
 }
 
-// A run over line words: the state, the blanks and the first place after it; or 1 to 5 and the image as lent.
+// A run over line words: the state, the blanks and the first of them after it; or 1 to 5 and the image as lent.
 pub fn run(s: State, image: &mut [u8], map: &[u8], lines: &[u16]) -> Finished
     ensures { λ r. ⌜ Spec.left (Spec.finishedPage r) (now (image .exit)) ≡ Spec.runPage (now (image .entry)) (now (map .entry)) (now (lines .entry)) s ⌝ }
 {

@@ -5,6 +5,9 @@ use super::Ran;
 use super::Tally;
 use state::State;
 use state::hear;
+use step::Cause;
+use step::Told;
+use step::blank_at;
 use step::step_on;
 ghost use mathlib.Core.Path.{_≡_};
 ghost use Prim.Native.Nat.{_≤_, _+_};
@@ -12,30 +15,31 @@ ghost use lib.ListN.{length};
 ghost use Rattle.board.specs.Exec.{Lent};
 ghost use Rattle.machine.specs.Run as Spec;
 
-// The earlier place stays.
-fn first_of(first: First, place: u16) -> First
-    ensures { λ r. ⌜ r ≡ Spec.firstOf first place ⌝ }
+// The earlier one stays.
+fn first_of(first: First, place: u16, address: u16) -> First
+    ensures { λ r. ⌜ r ≡ Spec.firstOf first place address ⌝ }
 {
     match first {
-        First::At(_) => first,
-        First::Never => First::At(place),
+        First::At(_, _) => first,
+        First::Never => First::At(place, address),
     }
 }
 
-// The tally after the step at this place: causes 5 to 7 are blanks.
-fn noted(t: Tally, place: u16, cause: u8) -> Tally
+// The tally after the step at this place, which may have been a blank.
+fn noted(t: Tally, place: u16, blank: Told) -> Tally
     requires { ⌜ t .blanks ≤ 4096 ⌝ }
-    ensures { λ r. ⌜ (r ≡ Spec.noted t place cause) × (r .blanks ≤ t .blanks + 1) ⌝ }
+    ensures { λ r. ⌜ (r ≡ Spec.noted t place blank) × (r .blanks ≤ t .blanks + 1) ⌝ }
 {
-    let blank = (5 <= cause) & (cause <= 7);
-    if blank {
-        let first = t.first;
-        return Tally {
-            blanks: t.blanks + 1,
-            first: first_of(first, place),
-        };
+    match blank {
+        Told::At(address) => {
+            let first = t.first;
+            Tally {
+                blanks: t.blanks + 1,
+                first: first_of(first, place, address),
+            }
+        }
+        Told::Nowhere => t,
     }
-    t
 }
 
 // The log is made once and cleared for each step; the plate is laid out once.
@@ -50,13 +54,13 @@ pub(crate) fn run_on(s: State, image: &mut [u8], map: &[u8], lines: &[u16]) -> L
         blanks: 0,
         first: First::Never,
     };
-    let mut cause = 4u8;
+    let mut cause = Cause::Nothing;
     let mut i: usize = 0;
     while i < lines.len() {
         let turn = step_on(state, image, map, &mut log, hear(lines[i]), &sheet);
         state = turn.state;
         cause = turn.cause;
-        tally = noted(tally, i as u16, turn.cause);
+        tally = noted(tally, i as u16, blank_at(cause));
         i += 1;
     }
     Last {

@@ -6,11 +6,19 @@ use Rattle.machine.proofs.runs.noted.Tie as tie
 
 returns : tie.Need-returns
 unfolding noted
-returns c = (rw (c .before .before .if1 .taken, c .first-of .ensures), omega arith)
+returns c = (rw (c .before .before .before .blank .given .1, c .first-of .ensures), omega arith)
 
 returns-2 : tie.Need-returns-2
 unfolding noted
-returns-2 c = (rw (c .if1 .left), omega arith)
+returns-2 c = (rw (c .enum-told .given .1), omega arith)
 
 pub noted-spec : {M : Type 1} → statement M
-noted-spec = tie.close (tie.spec (λ c. search needs) (λ c κs. search needs) returns returns-2)
+noted-spec =
+    tie.close
+    (tie.spec
+    (λ c. search needs)
+    (λ c. search needs)
+    (λ c κs. search needs)
+    (λ c. search needs)
+    returns
+    returns-2)

@@ -5,13 +5,14 @@ use lib.ListN.{length, drop}
 use borrow.Author.Needs.{needs}
 use Rattle.board.specs.Exec.{beside, Board}
 use Rattle.plate.specs.Plate.{formatOf, entries, table}
+use Rattle.step.specs.declared.Cause.the-variants as Cause
 use Rattle.machine.specs.Run.{rest, runOf, rest-more, rest-none, lastCause, cause-more, cause-none}
 use Rattle.machine.proofs.runs.run_on.Statement.{statement}
 use Rattle.machine.proofs.runs.run_on.Tie as tie
 
 abbrev Inv-loop : tie.InvT-loop
 Inv-loop image₀ map lines log₀ sheet state₀ tally₀ cause₀ i₀ image log state tally cause i =
-    (i ≤ length lines) × (tally .blanks ≤ i) × (rest map i (drop i lines) state image tally ≡ runOf map lines state₀ image₀) × Board map (beside image log) × (sheet ≡ table) × (lastCause map (drop i lines) state image cause ≡ lastCause map lines state₀ image₀ 4)
+    (i ≤ length lines) × (tally .blanks ≤ i) × (rest map i (drop i lines) state image tally ≡ runOf map lines state₀ image₀) × Board map (beside image log) × (sheet ≡ table) × (lastCause map (drop i lines) state image cause ≡ lastCause map lines state₀ image₀ Cause.Nothing)
 
 abbrev μ-loop : tie.MeasureT-loop
 μ-loop image₀ map lines log₀ sheet state₀ tally₀ cause₀ i₀ image log state tally cause i = length lines - i
@@ -36,7 +37,7 @@ noted-requires : tie.Need-noted-requires Inv-loop μ-loop
 noted-requires c κs = omega arith
 
 add-i : tie.Need-add-i Inv-loop μ-loop
-add-i c = omega (arith, c .before .before .before .before .before .before .before .before .before .before .before .before .before .before .before .pre .1, c .before .before .before .before .before .before .before .before .before .before .loop-test .taken)
+add-i c = omega (arith, c .before .before .before .before .before .before .before .before .before .before .before .before .before .before .before .before .pre .1, c .before .before .before .before .before .before .before .before .before .before .before .loop-test .taken)
 
 loop-less : tie.Need-loop-less Inv-loop μ-loop
 loop-less c = omega arith
@@ -45,10 +46,10 @@ loop-again : tie.Need-loop-again Inv-loop μ-loop
 loop-again c = (
   omega arith,
   omega arith,
-  rest-more _ _ _ _ _ _ _ _ (c .before .before .before .before .before .before .before .before .before .before .loop-test .taken) (rw (c .before .before .before .before .before .before .hear .ensures) at (c .before .before .before .before .step-on .ensures .turn)) (c .noted .ensures .0) ∙ c .before .before .before .before .before .before .before .before .before .before .before .loop .inv .2,
-  c .before .before .before .before .step-on .ensures .board,
-  c .before .before .before .before .before .before .before .before .before .before .before .loop .inv .4,
-  cause-more _ _ _ _ _ _ _ (c .before .before .before .before .before .before .before .before .before .before .loop-test .taken) (rw (c .before .before .before .before .before .before .hear .ensures) at (c .before .before .before .before .step-on .ensures .turn)) ∙ c .before .before .before .before .before .before .before .before .before .before .before .loop .inv .5,
+  rest-more _ _ _ _ _ _ _ _ (c .before .before .before .before .before .before .before .before .before .before .before .loop-test .taken) (rw (c .before .before .before .before .before .before .before .hear .ensures) at (c .before .before .before .before .before .step-on .ensures .turn)) (rw (c .before .blank-at .ensures) at (c .noted .ensures .0)) ∙ c .before .before .before .before .before .before .before .before .before .before .before .before .loop .inv .2,
+  c .before .before .before .before .before .step-on .ensures .board,
+  c .before .before .before .before .before .before .before .before .before .before .before .before .loop .inv .4,
+  cause-more _ _ _ _ _ _ _ (c .before .before .before .before .before .before .before .before .before .before .before .loop-test .taken) (rw (c .before .before .before .before .before .before .before .hear .ensures) at (c .before .before .before .before .before .step-on .ensures .turn)) ∙ c .before .before .before .before .before .before .before .before .before .before .before .before .loop .inv .5,
 )
 
 same-length : tie.Need-same-length Inv-loop μ-loop
@@ -69,6 +70,7 @@ run-on-spec =
     (λ c κs. search needs)
     step-on-requires
     cast-noted
+    (λ c κs. search needs)
     noted-requires
     add-i
     loop-less
