@@ -8,6 +8,7 @@ use Rattle.board.specs.Work.{Work, Came, value, blank, run, writable}
 use Rattle.board.specs.Alike.{Agree, Alike, both, neither, alike, kept}
 use Rattle.state.specs.declared.State.{State}
 use Rattle.state.specs.declared.Outside.{Outside}
+use Rattle.state.specs.declared.Settings.{Settings}
 use Rattle.state.specs.State.{cleared}
 use Rattle.state.specs.Stack.{fromLoc}
 use Rattle.step.specs.declared.Cause.{Cause}
@@ -38,9 +39,9 @@ or-locked map (both l g) = refl
 or-locked map neither = refl
 
 -- the same state after power-up
-pub power-alike : (map m n : List ℕ) → length m ≡ length n → Agree map m n → powerUpOf map m ≡ powerUpOf map n
+pub power-alike : (settings : Settings) (map m n : List ℕ) → length m ≡ length n → Agree map m n → powerUpOf settings map m ≡ powerUpOf settings map n
 unfolding powerUpOf
-power-alike map m n l g = or-locked map (alike map (fromLoc cleared 0x16) m n l g)
+power-alike settings map m n l g = or-locked map (alike map (fromLoc cleared 0x16) m n l g)
 
 -- ---- bytes of unfitted and of read-only pages come back as lent
 

@@ -8,6 +8,7 @@ use Rattle.board.specs.Bind.{_>>=_, _>>_}
 use Rattle.board.specs.Exec.{Store, Board}
 use Rattle.state.specs.declared.State.{State}
 use Rattle.state.specs.declared.Outside.{Outside}
+use Rattle.state.specs.declared.Settings.{Settings}
 use Rattle.state.specs.declared.Mode.{Mode}
 use Rattle.state.specs.declared.Mode.the-variants.{Running, Waiting, PowerHalt, SwitchHalt, Locked}
 use Rattle.state.specs.State.{withPc, withMode, psOf, cleared}
@@ -183,14 +184,14 @@ stepOf map out s m =
     let k = kindOf s out in
     orElse (run map (workOf k out s) m) (causeOf k) (errorOf map k out s m)
 
--- ---- power-up: PC from 16; locked with PC 0 if page 0 is unfitted
+-- ---- power-up, the same at any setting: PC from 16; locked with PC 0 if page 0 is unfitted
 
 abbrev pub orLocked : Came State → State
 orLocked (value s m) = s
 orLocked (blank a) = withMode cleared Locked
 
-unfoldable pub powerUpOf : List ℕ → List ℕ → State
-powerUpOf map m = orLocked (run map (fromLoc cleared 0x16) m)
+unfoldable pub powerUpOf : Settings → List ℕ → List ℕ → State
+powerUpOf settings map m = orLocked (run map (fromLoc cleared 0x16) m)
 
 -- ---- what a step on a board promises
 

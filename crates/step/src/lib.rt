@@ -1,6 +1,7 @@
 // One step, and power-up.
 use state::Mode;
 use state::Outside;
+use state::Settings;
 use state::State;
 use state::Went;
 use word::address::plus;
@@ -344,10 +345,10 @@ pub fn step_on(
     }
 }
 
-// PC from 16; locked where page 0 is unfitted.
-pub fn power(image: &[u8], map: &[u8]) -> State
+// PC from 16, at any setting; locked where page 0 is unfitted.
+pub fn power(image: &[u8], map: &[u8], settings: Settings) -> State
     requires { ⌜ Lent (now map) (now image) ⌝ }
-    ensures { λ r. ⌜ r ≡ Spec.powerUpOf (now (map .entry)) (now (image .entry)) ⌝ }
+    ensures { λ r. ⌜ r ≡ Spec.powerUpOf settings (now (map .entry)) (now (image .entry)) ⌝ }
 {
     let s = state::cleared();
     if let Went::Done(t) = s.from_loc(image, map, 0x16) {

@@ -1,0 +1,106 @@
+-- Format 8, 0E00 to 0FFF: SRC in bits 5 to 3, DST in bits 2 to 0. One element of a block move is one step.
+use Prim.Native.Nat.{ℕ, _/_, _%_}
+use mathlib.Core.Bool.{Bool, true, false, cond}
+use mathlib.Core.List.{List, [], _∷_}
+use mathlib.Core.Path.{_≡_, refl, ap, _∙_}
+use lib.Dec.{eqb}
+use lib.ListN.{getD}
+use Rattle.board.specs.Work.{Work, give, readAt, write, Size, word, byte}
+use Rattle.board.specs.Bind.{_>>=_, _>>_}
+use Rattle.board.specs.Exec.{Store, Now, gone, stateOf, keptAs}
+use Rattle.board.specs.Laws.{kept-none}
+use Rattle.board.specs.declared.Word.{Word}
+use Rattle.board.specs.declared.Word.the-variants as Word
+use Rattle.board.specs.declared.Byte.{Byte}
+use Rattle.board.specs.declared.Byte.the-variants as Byte
+use Rattle.board.specs.declared.Kept.{Kept}
+use Rattle.board.specs.declared.Kept.the-variants as Kept
+use Rattle.word.specs.Address.{plus, minus}
+use Rattle.state.specs.declared.State.{State}
+use Rattle.state.specs.State.{reg, withReg, withPc}
+use Rattle.format8.specs.declared.Row.{Row}
+
+-- ---- the eight op codes: words or bytes; what is added to the source's register, and what to the destination's
+
+abbrev pub rowFrom : Bool → ℕ → ℕ → Row
+rowFrom bytes i j = record { bytes = bytes; source = i; destination = j }
+
+abbrev pub down : ℕ → ℕ
+down n = minus 0 n
+
+abbrev pub rows : List Row
+rows
+    = rowFrom false 2 2  -- 0E00 MBWU
+    ∷ rowFrom false (down 2) (down 2)  -- 0E40 MBWD
+    ∷ rowFrom true 1 1  -- 0E80 MBBU
+    ∷ rowFrom true (down 1) (down 1)  -- 0EC0 MBBD
+    ∷ rowFrom false 2 0  -- 0F00 MBWA
+    ∷ rowFrom true 1 0  -- 0F40 MBBA
+    ∷ rowFrom false 0 2  -- 0F80 MABW
+    ∷ []
+
+-- by number; the last is 0FC0 MABB
+abbrev pub rowAt : ℕ → Row
+rowAt k = getD rows k (rowFrom true 0 1)
+
+-- the row of an op code, and the registers of its source and its destination
+abbrev pub rowOf : ℕ → Row
+rowOf op = rowAt (op / 64 % 8)
+
+abbrev pub sourceOf : ℕ → ℕ
+sourceOf op = op / 8 % 8
+
+abbrev pub destinationOf : ℕ → ℕ
+destinationOf op = op % 8
+
+abbrev pub sizeOf : Bool → Size
+sizeOf bytes = cond bytes byte word
+
+-- ---- one element
+
+-- the word or byte at a is moved to b
+unfoldable pub transfer : Size → ℕ → ℕ → Work (Unit {0})
+transfer z a b = do
+  v ← readAt z a (λ v. give v)
+  write z b v
+
+-- REG ← REG + n
+unfoldable pub onward : State → ℕ → ℕ → State
+onward s k n = withReg s k (plus (reg s k) n)
+
+-- both registers move, the source's first; R0 ← R0 - 1
+unfoldable pub counted : Row → State → ℕ → ℕ → State
+counted r s i j = onward (onward (onward s i (r .source)) j (r .destination)) 0 (down 1)
+
+-- IF R0 is not 0, PC ← the op code's address: t with the PC of s, which stands past the op code, less 2
+unfoldable pub again : State → State → State
+again s t = cond (eqb (t .regs .r0) 0) t (withPc t (minus (s .regs .pc) 2))
+
+-- the source register i and the destination register j contain the addresses
+unfoldable pub element : Row → State → ℕ → ℕ → Work State
+element r s i j = do
+  transfer (sizeOf (r .bytes)) (reg s i) (reg s j)
+  give (again s (counted r s i j))
+
+abbrev pub format8 : State → ℕ → Work State
+format8 s op = element (rowOf op) s (sourceOf op) (destinationOf op)
+
+-- ---- what the answers say
+
+abbrev pub unmoved : Word → Kept
+unmoved (Word.Value v) = Kept.Done
+unmoved (Word.Blank a) = Kept.Blank a
+
+abbrev pub unmovedByte : Byte → Kept
+unmovedByte (Byte.Value v) = Kept.Done
+unmovedByte (Byte.Blank a) = Kept.Blank a
+
+pub kept-store : (r : Kept) {st : Store} → stateOf (keptAs r st) ≡ st
+kept-store Kept.Done = refl
+kept-store (Kept.Blank a) = refl
+
+pub word-unmoved : {r : Kept} {w : Word} {a : ℕ} {st : Store} → r ≡ unmoved w → w ≡ Word.Blank a → keptAs r st ≡ gone a st
+word-unmoved e h = kept-none (e ∙ ap unmoved h)
+
+pub byte-unmoved : {r : Kept} {b : Byte} {a : ℕ} {st : Store} → r ≡ unmovedByte b → b ≡ Byte.Blank a → keptAs r st ≡ gone a st
+byte-unmoved e h = kept-none (e ∙ ap unmovedByte h)

@@ -1,0 +1,239 @@
+-- A block move's steps, where its microm is fitted, nothing is heard, no element meets a blank, nothing is written over the op code, and
+-- neither register is R0 or PC. Assumes nothing.
+use Prim.Native.Nat.{ℕ, zero, suc, _*_, _/_, _%_, _<_, _≤_}
+use native.Mathlib.Omega.{arith}
+use native.Mathlib.Decide.{ℕ-discrete}
+use mathlib.Core.Bool.{Bool, true, false, cond}
+use mathlib.Core.List.{List}
+use mathlib.Core.Path.{_≡_, refl, sym, ap, _∙_}
+use lib.Dec.{eqb}
+use borrow.Author.Tests.{ne-eqb, eqb-true, eqb-false}
+use Rattle.plate.specs.Plate.{formatOf}
+use Rattle.word.specs.Address.{plus, minus}
+use Rattle.board.specs.Work.{Size, value, run, fitted, writable, wordAt, get, put}
+use Rattle.board.specs.Bind.{_>>=_}
+use Rattle.board.specs.Follows.{run-then, put-apart}
+use Rattle.state.specs.declared.State.{State}
+use Rattle.state.specs.declared.Outside.{Outside}
+use Rattle.state.specs.declared.Mode.the-variants.{Running}
+use Rattle.state.specs.State.{reg, withReg, withPc}
+use Rattle.state.specs.Registers.{regOf, setReg}
+use Rattle.state.specs.Answer.{taken}
+use Rattle.state.specs.Stack.{fetch}
+use Rattle.format8.specs.declared.Row.{Row}
+use Rattle.format8.specs.Format8.{rowOf, sourceOf, destinationOf, sizeOf, transfer, onward, counted, again, element, format8}
+use Rattle.format8.specs.Page.{Plain, countOf, sourceBy, destinationBy, along, carried, imageAfter, stateAfter}
+use Rattle.format8.specs.Moved.{onceMore, once-after, once-pc, once-count, once-source, once-destination, last-after, counted-count, past-source, past-destination}
+use Rattle.step.specs.declared.Kind.the-variants.{OpCode}
+use Rattle.step.specs.Execute.{further, byFormat, execute, reserved}
+use Rattle.step.specs.Xct.{code, begun, traced, carry, opWork}
+use Rattle.step.specs.Step.{after, kindOf, workOf, stepOf}
+use Rattle.step.specs.Ends.{step-well}
+
+-- ---- one element
+
+transfer-well : (map : List ℕ) (z : Size) (a b : ℕ) (m : List ℕ) → fitted map a ≡ true → writable map b ≡ true → run map (transfer z a b) m ≡ value tt (put z m b (get z m a))
+unfolding run transfer _>>=_
+transfer-well map z a b m e h = rw (e, h)
+
+element-well : (map : List ℕ) (r : Row) (s : State) (i j : ℕ) (m : List ℕ) → fitted map (reg s i) ≡ true → writable map (reg s j) ≡ true
+    → run map (element r s i j) m ≡ value (again s (counted r s i j)) (put (sizeOf (r .bytes)) m (reg s j) (get (sizeOf (r .bytes)) m (reg s i)))
+unfolding run element
+element-well map r s i j m e h = run-then map (transfer (sizeOf (r .bytes)) (reg s i) (reg s j)) _ m (transfer-well map (sizeOf (r .bytes)) (reg s i) (reg s j) m e h)
+
+-- 0E00 to 0FFF is format 8
+format-eight : (op : ℕ) → op / 512 ≡ 7 → formatOf (op / 256) ≡ 8
+unfolding formatOf
+format-eight op h = elim (ℕ-discrete (op / 256) 14) [ yes e ↦ eight (op / 256) 14 e refl | no d ↦ eight (op / 256) 15 (omega arith) refl ]
+  where
+    eight : (a b : ℕ) → a ≡ b → formatOf b ≡ 8 → formatOf a ≡ 8
+    eight a b e q = rw e q
+
+executes : (out : Outside) (s : State) (op : ℕ) → out .settings .blocks ≡ true → op / 512 ≡ 7 → execute out s op ≡ format8 s op
+unfolding byFormat further
+executes out s op e h = rw (format-eight op h, e)
+
+-- without the microm the page's step stands: the trap through 1A
+pub unfitted : (out : Outside) (s : State) (op : ℕ) → out .settings .blocks ≡ false → op / 512 ≡ 7 → execute out s op ≡ reserved out s
+unfolding byFormat further
+unfitted out s op e h = rw (format-eight op h, e)
+
+fetched : (map : List ℕ) (s : State) (m : List ℕ) (op : ℕ) → fitted map (s .regs .pc) ≡ true → wordAt m (s .regs .pc) ≡ op → run map (fetch s) m ≡ value (taken (withPc s (plus (s .regs .pc) 2)) op) m
+unfolding run fetch _>>=_
+fetched map s m op e h = rw (e, h)
+
+begun-well : (map : List ℕ) (out : Outside) (s : State) (op : ℕ) (m : List ℕ) → op / 512 ≡ 7 → run map (begun out s op) m ≡ value (code s op false) m
+unfolding run begun
+begun-well map out s op m h = rw (ne-eqb op 5 (λ e. omega arith))
+
+-- ---- the addresses of the elements
+
+-- the source's address at the element k from here on, and the destination's
+abbrev pub readsAt : ℕ → State → ℕ → ℕ
+readsAt op s k = along (sourceBy (rowOf op) (sourceOf op) (destinationOf op)) k (reg s (sourceOf op))
+
+abbrev pub writesAt : ℕ → State → ℕ → ℕ
+writesAt op s k = along (destinationBy (rowOf op) (sourceOf op) (destinationOf op)) k (reg s (destinationOf op))
+
+-- the image with an element moved
+abbrev pub elementIn : ℕ → State → List ℕ → List ℕ
+elementIn op s m = put (sizeOf (rowOf op .bytes)) m (reg s (destinationOf op)) (get (sizeOf (rowOf op .bytes)) m (reg s (sourceOf op)))
+
+-- A state at the op code with n elements to go, on an image where none of them meets a blank or writes over the op code.
+pub record Ready (map : List ℕ) (op n : ℕ) (s : State) (m : List ℕ) : Type 0 where
+  pub running : s .mode ≡ Running
+  pub address : s .regs .pc < 65536
+  pub here : fitted map (s .regs .pc) ≡ true
+  pub code : wordAt m (s .regs .pc) ≡ op
+  pub reads : (k : ℕ) → k < n → fitted map (readsAt op s k) ≡ true
+  pub writes : (k : ℕ) → k < n → writable map (writesAt op s k) ≡ true
+  pub apart : (k : ℕ) → k < n → writesAt op s k / 2 ≡ s .regs .pc / 2 → ⊥
+
+-- R0 says that n elements are left
+pub record Left (n : ℕ) (s : State) : Type 0 where
+  pub togo : reg s 0 ≡ n % 65536
+  pub some : 1 ≤ n
+  pub most : n ≤ 65536
+
+pub all-left : (s : State) → reg s 0 < 65536 → Left (countOf (reg s 0)) s
+all-left s h = counting (reg s 0) (eqb (reg s 0) 0) refl h refl
+  where
+    counting : (c : ℕ) (b : Bool) → eqb c 0 ≡ b → c < 65536 → reg s 0 ≡ c → Left (cond b 65536 c) s
+    counting c true e h i = let z = eqb-true c 0 e in record { togo = omega arith; some = omega arith; most = omega arith }
+    counting c false e h i = let z = eqb-false c 0 e in record { togo = omega arith; some = omega (arith, z); most = omega arith }
+
+-- the address of the element k, in numbers
+pub along-is : (d k a : ℕ) → a < 65536 → along d k a ≡ plus a (k * d)
+unfolding along
+along-is d zero a h = omega arith
+along-is d (suc k) a h = along-is d k (plus a d) (omega arith) ∙ sum d k a
+  where
+    sum : (d k a : ℕ) → plus (plus a d) (k * d) ≡ plus a (suc k * d)
+    sum d k a = omega arith
+
+-- nothing is heard in the step of a running processor: no I3, and neither I1 nor I0 where I2 is set
+abbrev pub Unheard : Bool → Outside → Type 0
+Unheard i2 out = kindOf Running i2 out ≡ OpCode
+
+pub unheard-disabled : (out : Outside) → out .i3 ≡ false → Unheard false out
+unfolding kindOf
+unheard-disabled out e = rw e
+
+pub unheard-quiet : (i2 : Bool) (out : Outside) → out .i3 ≡ false → out .i1 ≡ false → out .i0 ≡ false → Unheard i2 out
+unfolding kindOf
+unheard-quiet true out e f g = rw (e, f, g)
+unheard-quiet false out e f g = rw e
+
+module _ {map : List ℕ} {op : ℕ} (p : Plain (sourceOf op) (destinationOf op)) (eight : op / 512 ≡ 7) (out : Outside) (fit : out .settings .blocks ≡ true) {s : State} {m : List ℕ} where
+  work-well : {n : ℕ} → 1 ≤ n → Ready map op n s m
+      → (let t = withPc s (plus (s .regs .pc) 2) in
+      run map (opWork out s) m ≡ value (again t (counted (rowOf op) t (sourceOf op) (destinationOf op))) (elementIn op s m))
+  unfolding opWork carry traced run along
+  work-well some a =
+      let t = withPc s (plus (s .regs .pc) 2) in
+      let from : reg t (sourceOf op) ≡ reg s (sourceOf op) = past-source (rowOf op) p s in
+      let to : reg t (destinationOf op) ≡ reg s (destinationOf op) = past-destination (rowOf op) p s in
+      let moved : run map (execute out t op) m ≡ value (again t (counted (rowOf op) t (sourceOf op) (destinationOf op))) (elementIn op t m) =
+      rw (executes out t op fit eight)
+      (element-well map (rowOf op) t (sourceOf op) (destinationOf op) m (rw from (a .reads 0 (omega arith))) (rw to (a .writes 0 (omega arith)))) in
+      run-then map (fetch s) _ m (fetched map s m op (a .here) (a .code))
+      ∙ run-then map (begun out t op) _ m (begun-well map out t op m eight)
+      ∙ run-then map (execute out t op) _ m moved
+      ∙ rw (from, to)
+
+-- PC less 2, past the op code
+back : (x : ℕ) → x < 65536 → minus (plus x 2) 2 ≡ x
+back x h = omega arith
+
+-- R0 is 0 after the last element alone
+zero-left : (c n : ℕ) → c ≡ n % 65536 → n ≡ 1 → plus c 65535 ≡ 0
+zero-left c n e h = omega arith
+
+some-left : (c n : ℕ) → c ≡ n % 65536 → 2 ≤ n → n ≤ 65536 → plus c 65535 ≡ 0 → ⊥
+some-left c n e h l z = omega arith
+
+one-less : (c k : ℕ) → c ≡ suc (suc k) % 65536 → plus c 65535 ≡ suc k % 65536
+one-less c k e = omega arith
+
+again-last : (s t : State) → reg t 0 ≡ 0 → again s t ≡ t
+unfolding again reg regOf
+again-last s t e = rw e
+
+again-more : (s t : State) → (reg t 0 ≡ 0 → ⊥) → again s t ≡ withPc t (minus (s .regs .pc) 2)
+unfolding again reg regOf
+again-more s t d = rw (ne-eqb (t .regs .r0) 0 d)
+
+pc-past : (s : State) → withPc s (plus (s .regs .pc) 2) .regs .pc ≡ plus (s .regs .pc) 2
+unfolding withReg setReg
+pc-past s = refl
+
+once-kept : (r : Row) (i j : ℕ) (s : State) (pc v : ℕ) → (withPc (counted r (withPc s v) i j) pc .mode ≡ s .mode) × (withPc (counted r (withPc s v) i j) pc .i2 ≡ s .i2)
+unfolding counted onward withReg
+once-kept r i j s pc v = (refl, refl)
+
+-- the state after an element that is not the last
+abbrev pub afterOne : ℕ → State → State
+afterOne op s = onceMore (rowOf op) (sourceOf op) (destinationOf op) s
+
+module _ {map : List ℕ} {op : ℕ} (p : Plain (sourceOf op) (destinationOf op)) (eight : op / 512 ≡ 7) (out : Outside) (fit : out .settings .blocks ≡ true)
+    {s : State} {m : List ℕ} (quiet : Unheard (s .i2) out) where
+  kind-is : {n : ℕ} → Ready map op n s m → OpCode ≡ kindOf (s .mode) (s .i2) out
+  kind-is a = sym (rw (a .running) quiet)
+
+  -- an element that is not the last
+  pub step-once : {k : ℕ} → Left (suc (suc k)) s → Ready map op (suc (suc k)) s m → stepOf map out s m ≡ after (afterOne op s) (elementIn op s m) 0
+  unfolding workOf
+  step-once {k} l a =
+      let t = withPc s (plus (s .regs .pc) 2) in
+      let c = counted (rowOf op) t (sourceOf op) (destinationOf op) in
+      let more : reg c 0 ≡ 0 → ⊥ = λ z. some-left (reg s 0) (suc (suc k)) (l .togo) (omega arith) (l .most)
+      (sym (counted-count (rowOf op) p s) ∙ z) in
+      let there : again t c ≡ afterOne op s = again-more t c more ∙ ap (λ x. withPc c x) (ap (λ x. minus x 2) (pc-past s) ∙ back (s .regs .pc) (a .address)) in
+      sym (step-well map out s m {k = OpCode} (kind-is a) (rw there at (work-well p eight out fit (omega arith) a)) refl)
+
+  -- the last
+  pub step-last : Left 1 s → Ready map op 1 s m → stepOf map out s m ≡ after (stateAfter (rowOf op) (sourceOf op) (destinationOf op) 1 s) (elementIn op s m) 0
+  unfolding workOf
+  step-last l a =
+      let t = withPc s (plus (s .regs .pc) 2) in
+      let c = counted (rowOf op) t (sourceOf op) (destinationOf op) in
+      let none : plus (reg s 0) 65535 ≡ 0 = zero-left (reg s 0) 1 (l .togo) refl in
+      let there : again t c ≡ stateAfter (rowOf op) (sourceOf op) (destinationOf op) 1 s =
+      again-last t c (counted-count (rowOf op) p s ∙ none)
+      ∙ last-after (rowOf op) p s none in
+      sym (step-well map out s m {k = OpCode} (kind-is a) (rw there at (work-well p eight out fit (omega arith) a)) refl)
+
+-- ---- what is left after an element comes to what the whole comes to
+
+module _ {map : List ℕ} {op : ℕ} (p : Plain (sourceOf op) (destinationOf op)) {s : State} {m : List ℕ} where
+  pub ready-on : {k : ℕ} → Ready map op (suc (suc k)) s m → Ready map op (suc k) (afterOne op s) (elementIn op s m)
+  unfolding along
+  ready-on a =
+      let pc : afterOne op s .regs .pc ≡ s .regs .pc = once-pc (rowOf op) p s in
+      record {
+        running = once-kept (rowOf op) (sourceOf op) (destinationOf op) s (s .regs .pc) (plus (s .regs .pc) 2) .0 ∙ a .running;
+        address = rw pc (a .address);
+        here = rw pc (a .here);
+        code = rw pc (put-apart (sizeOf (rowOf op .bytes)) m (reg s (destinationOf op)) _ (s .regs .pc) (a .apart 0 (omega arith)) ∙ a .code);
+        reads = λ i l. rw (once-source (rowOf op) p s) (a .reads (suc i) (omega arith));
+        writes = λ i l. rw (once-destination (rowOf op) p s) (a .writes (suc i) (omega arith));
+        apart = λ i l. rw (once-destination (rowOf op) p s, pc) (a .apart (suc i) (omega arith));
+      }
+
+module _ (op : ℕ) (p : Plain (sourceOf op) (destinationOf op)) (s : State) where
+  pub left-on : (k : ℕ) → Left (suc (suc k)) s → Left (suc k) (afterOne op s)
+  left-on k l = record { togo = once-count (rowOf op) p s ∙ one-less (reg s 0) k (l .togo); some = omega arith; most = omega (arith, l .most) }
+
+  pub image-on : (k : ℕ) (m : List ℕ) → imageAfter (rowOf op) (sourceOf op) (destinationOf op) (suc k) (afterOne op s) (elementIn op s m) ≡ imageAfter (rowOf op) (sourceOf op) (destinationOf op) (suc (suc k)) s m
+  unfolding carried
+  image-on k m = rw (once-source (rowOf op) p s, once-destination (rowOf op) p s)
+
+  pub state-on : (k : ℕ) → stateAfter (rowOf op) (sourceOf op) (destinationOf op) (suc k) (afterOne op s) ≡ stateAfter (rowOf op) (sourceOf op) (destinationOf op) (suc (suc k)) s
+  state-on k = once-after (rowOf op) p s k
+
+  pub enable-on : afterOne op s .i2 ≡ s .i2
+  enable-on = once-kept (rowOf op) (sourceOf op) (destinationOf op) s (s .regs .pc) (plus (s .regs .pc) 2) .1
+
+  pub image-last : (m : List ℕ) → imageAfter (rowOf op) (sourceOf op) (destinationOf op) 1 s m ≡ elementIn op s m
+  unfolding carried
+  image-last m = refl
