@@ -16,7 +16,7 @@ use Rattle.board.specs.Follows.{run-then, put-apart}
 use Rattle.state.specs.declared.State.{State}
 use Rattle.state.specs.declared.Outside.{Outside}
 use Rattle.state.specs.declared.Mode.the-variants.{Running}
-use Rattle.state.specs.State.{reg, withReg, withPc}
+use Rattle.state.specs.State.{reg, withReg, withMark, withPc}
 use Rattle.state.specs.Registers.{regOf, setReg}
 use Rattle.state.specs.Answer.{taken}
 use Rattle.state.specs.Stack.{fetch}
@@ -27,7 +27,8 @@ use Rattle.format8.specs.Moved.{onceMore, once-after, once-pc, once-count, once
 use Rattle.step.specs.declared.Kind.the-variants.{OpCode}
 use Rattle.step.specs.Execute.{further, byFormat, execute, reserved}
 use Rattle.step.specs.Xct.{code, begun, traced, carry, opWork}
-use Rattle.step.specs.Step.{after, kindOf, workOf, stepOf}
+use Rattle.step.specs.declared.Cause.the-variants as Cause
+use Rattle.step.specs.Step.{after, hears, kindIn, kindOf, workOf, stepOf}
 use Rattle.step.specs.Ends.{step-well}
 
 -- ---- one element
@@ -79,9 +80,10 @@ writesAt op s k = along (destinationBy (rowOf op) (sourceOf op) (destinationOf o
 abbrev pub elementIn : ℕ → State → List ℕ → List ℕ
 elementIn op s m = put (sizeOf (rowOf op .bytes)) m (reg s (destinationOf op)) (get (sizeOf (rowOf op .bytes)) m (reg s (sourceOf op)))
 
--- A state at the op code with n elements to go, on an image where none of them meets a blank or writes over the op code.
+-- A running state at the op code with n elements to go (a marked one is unmarked by its first element), on an image where none of them meets a blank or writes over the op code.
 pub record Ready (map : List ℕ) (op n : ℕ) (s : State) (m : List ℕ) : Type 0 where
   pub running : s .mode ≡ Running
+  pub unmarked : s .mark ≡ false
   pub address : s .regs .pc < 65536
   pub here : fitted map (s .regs .pc) ≡ true
   pub code : wordAt m (s .regs .pc) ≡ op
@@ -111,18 +113,27 @@ along-is d (suc k) a h = along-is d k (plus a d) (omega arith) ∙ sum d k a
     sum : (d k a : ℕ) → plus (plus a d) (k * d) ≡ plus a (suc k * d)
     sum d k a = omega arith
 
--- nothing is heard in the step of a running processor: no I3, and neither I1 nor I0 where I2 is set
+-- nothing is heard in the step of a running processor: no I3, and neither I1 nor I0 where they are heard
 abbrev pub Unheard : Bool → Outside → Type 0
-Unheard i2 out = kindOf Running i2 out ≡ OpCode
+Unheard hearing out = kindIn Running hearing out ≡ OpCode
 
 pub unheard-disabled : (out : Outside) → out .i3 ≡ false → Unheard false out
-unfolding kindOf
+unfolding kindIn
 unheard-disabled out e = rw e
 
-pub unheard-quiet : (i2 : Bool) (out : Outside) → out .i3 ≡ false → out .i1 ≡ false → out .i0 ≡ false → Unheard i2 out
-unfolding kindOf
+pub unheard-quiet : (hearing : Bool) (out : Outside) → out .i3 ≡ false → out .i1 ≡ false → out .i0 ≡ false → Unheard hearing out
+unfolding kindIn
 unheard-quiet true out e f g = rw (e, f, g)
 unheard-quiet false out e f g = rw e
+
+-- an unmarked state is not changed where the mark is cleared
+unmarked-is : (s : State) → s .mark ≡ false → withMark s false ≡ s
+unfolding withMark
+unmarked-is s e = ap (λ b. withMark s b) (sym e)
+
+past-unmarked : (s : State) (v : ℕ) → s .mark ≡ false → withPc s v .mark ≡ false
+unfolding withReg
+past-unmarked s v e = e
 
 module _ {map : List ℕ} {op : ℕ} (p : Plain (sourceOf op) (destinationOf op)) (eight : op / 512 ≡ 7) (out : Outside) (fit : out .settings .blocks ≡ true) {s : State} {m : List ℕ} where
   work-well : {n : ℕ} → 1 ≤ n → Ready map op n s m
@@ -136,9 +147,10 @@ module _ {map : List ℕ} {op : ℕ} (p : Plain (sourceOf op) (destinationOf op)
       let moved : run map (execute out t op) m ≡ value (again t (counted (rowOf op) t (sourceOf op) (destinationOf op))) (elementIn op t m) =
       rw (executes out t op fit eight)
       (element-well map (rowOf op) t (sourceOf op) (destinationOf op) m (rw from (a .reads 0 (omega arith))) (rw to (a .writes 0 (omega arith)))) in
+      let off : withMark t false ≡ t = unmarked-is t (past-unmarked s _ (a .unmarked)) in
       run-then map (fetch s) _ m (fetched map s m op (a .here) (a .code))
       ∙ run-then map (begun out t op) _ m (begun-well map out t op m eight)
-      ∙ run-then map (execute out t op) _ m moved
+      ∙ run-then map (execute out (withMark t false) op) _ m (ap (λ u. run map (execute out u op) m) off ∙ moved)
       ∙ rw (from, to)
 
 -- PC less 2, past the op code
@@ -167,21 +179,22 @@ pc-past : (s : State) → withPc s (plus (s .regs .pc) 2) .regs .pc ≡ plus (s 
 unfolding withReg setReg
 pc-past s = refl
 
-once-kept : (r : Row) (i j : ℕ) (s : State) (pc v : ℕ) → (withPc (counted r (withPc s v) i j) pc .mode ≡ s .mode) × (withPc (counted r (withPc s v) i j) pc .i2 ≡ s .i2)
+once-kept : (r : Row) (i j : ℕ) (s : State) (pc v : ℕ)
+    → (withPc (counted r (withPc s v) i j) pc .mode ≡ s .mode) × (withPc (counted r (withPc s v) i j) pc .mark ≡ s .mark) × (hears (withPc (counted r (withPc s v) i j) pc) ≡ hears s)
 unfolding counted onward withReg
-once-kept r i j s pc v = (refl, refl)
+once-kept r i j s pc v = (refl, refl, refl)
 
 -- the state after an element that is not the last
 abbrev pub afterOne : ℕ → State → State
 afterOne op s = onceMore (rowOf op) (sourceOf op) (destinationOf op) s
 
 module _ {map : List ℕ} {op : ℕ} (p : Plain (sourceOf op) (destinationOf op)) (eight : op / 512 ≡ 7) (out : Outside) (fit : out .settings .blocks ≡ true)
-    {s : State} {m : List ℕ} (quiet : Unheard (s .i2) out) where
-  kind-is : {n : ℕ} → Ready map op n s m → OpCode ≡ kindOf (s .mode) (s .i2) out
+    {s : State} {m : List ℕ} (quiet : Unheard (hears s) out) where
+  kind-is : {n : ℕ} → Ready map op n s m → OpCode ≡ kindOf s out
   kind-is a = sym (rw (a .running) quiet)
 
   -- an element that is not the last
-  pub step-once : {k : ℕ} → Left (suc (suc k)) s → Ready map op (suc (suc k)) s m → stepOf map out s m ≡ after (afterOne op s) (elementIn op s m) 0
+  pub step-once : {k : ℕ} → Left (suc (suc k)) s → Ready map op (suc (suc k)) s m → stepOf map out s m ≡ after (afterOne op s) (elementIn op s m) Cause.OpCode
   unfolding workOf
   step-once {k} l a =
       let t = withPc s (plus (s .regs .pc) 2) in
@@ -192,7 +205,7 @@ module _ {map : List ℕ} {op : ℕ} (p : Plain (sourceOf op) (destinationOf op)
       sym (step-well map out s m {k = OpCode} (kind-is a) (rw there at (work-well p eight out fit (omega arith) a)) refl)
 
   -- the last
-  pub step-last : Left 1 s → Ready map op 1 s m → stepOf map out s m ≡ after (stateAfter (rowOf op) (sourceOf op) (destinationOf op) 1 s) (elementIn op s m) 0
+  pub step-last : Left 1 s → Ready map op 1 s m → stepOf map out s m ≡ after (stateAfter (rowOf op) (sourceOf op) (destinationOf op) 1 s) (elementIn op s m) Cause.OpCode
   unfolding workOf
   step-last l a =
       let t = withPc s (plus (s .regs .pc) 2) in
@@ -212,6 +225,7 @@ module _ {map : List ℕ} {op : ℕ} (p : Plain (sourceOf op) (destinationOf op)
       let pc : afterOne op s .regs .pc ≡ s .regs .pc = once-pc (rowOf op) p s in
       record {
         running = once-kept (rowOf op) (sourceOf op) (destinationOf op) s (s .regs .pc) (plus (s .regs .pc) 2) .0 ∙ a .running;
+        unmarked = once-kept (rowOf op) (sourceOf op) (destinationOf op) s (s .regs .pc) (plus (s .regs .pc) 2) .1 ∙ a .unmarked;
         address = rw pc (a .address);
         here = rw pc (a .here);
         code = rw pc (put-apart (sizeOf (rowOf op .bytes)) m (reg s (destinationOf op)) _ (s .regs .pc) (a .apart 0 (omega arith)) ∙ a .code);
@@ -231,8 +245,8 @@ module _ (op : ℕ) (p : Plain (sourceOf op) (destinationOf op)) (s : State) whe
   pub state-on : (k : ℕ) → stateAfter (rowOf op) (sourceOf op) (destinationOf op) (suc k) (afterOne op s) ≡ stateAfter (rowOf op) (sourceOf op) (destinationOf op) (suc (suc k)) s
   state-on k = once-after (rowOf op) p s k
 
-  pub enable-on : afterOne op s .i2 ≡ s .i2
-  enable-on = once-kept (rowOf op) (sourceOf op) (destinationOf op) s (s .regs .pc) (plus (s .regs .pc) 2) .1
+  pub hearing-on : hears (afterOne op s) ≡ hears s
+  hearing-on = once-kept (rowOf op) (sourceOf op) (destinationOf op) s (s .regs .pc) (plus (s .regs .pc) 2) .2
 
   pub image-last : (m : List ℕ) → imageAfter (rowOf op) (sourceOf op) (destinationOf op) 1 s m ≡ elementIn op s m
   unfolding carried
