@@ -58,14 +58,14 @@ fresh-none b = record { board = record { lent = b; whole = refl; few = omega ari
 bounded-power : (s : State) → Bounded 15 (fromLoc s 0x16)
 bounded-power s = bounded-more (omega arith) (bounded-fromLoc s 0x16)
 
-pub powered : {settings : Settings} {map m : List ℕ} {s t : State} {r : Went} → Lent map m → s ≡ cleared → Saw map (fromLoc s 0x16) m (wentAs r) → r ≡ Done t → t ≡ powerUpOf settings map m
+pub powered : (settings : Settings) {map m : List ℕ} {s t : State} {r : Went} → Lent map m → s ≡ cleared → Saw map (fromLoc s 0x16) m (wentAs r) → r ≡ Done t → t ≡ powerUpOf settings map m
 unfolding powerUpOf
-powered {settings} {map} {m} {s} b e w d =
+powered settings {map} {m} {s} b e w d =
     let came = ended-well (fresh-none b) (bounded-power s) (w .got {l = replicate 32 0}) (went-is d) in
     sym (ap orLocked (rw e at came))
 
-pub unpowered : {settings : Settings} {map m : List ℕ} {s t : State} {r : Went} {a : ℕ} → Lent map m → s ≡ cleared → Saw map (fromLoc s 0x16) m (wentAs r) → r ≡ Blank a → t ≡ withMode s Locked → t ≡ powerUpOf settings map m
+pub unpowered : (settings : Settings) {map m : List ℕ} {s t : State} {r : Went} {a : ℕ} → Lent map m → s ≡ cleared → Saw map (fromLoc s 0x16) m (wentAs r) → r ≡ Blank a → t ≡ withMode s Locked → t ≡ powerUpOf settings map m
 unfolding powerUpOf
-unpowered {settings} {map} {m} {s} b e w d h =
+unpowered settings {map} {m} {s} b e w d h =
     let came = ended-blank (fresh-none b) (bounded-power s) (w .got {l = replicate 32 0}) (went-none d) in
     h ∙ ap (λ z. withMode z Locked) e ∙ sym (ap orLocked (rw e at came))
