@@ -4,6 +4,7 @@ use mathlib.Core.List.{List}
 use mathlib.Core.Path.{_≡_, refl, sym, ap, _∙_}
 use lib.ListN.{length}
 use Rattle.state.specs.declared.State.{State}
+use Rattle.state.specs.declared.Settings.{Settings}
 use Rattle.state.specs.State.{heard}
 use Rattle.step.specs.declared.Cause.the-variants as Cause
 use Rattle.step.specs.Step.{after, stepOf, powerUpOf}
@@ -21,29 +22,29 @@ taken : {A : Type 0} (why : ℕ) {p : A} (m : List ℕ) {m′ : List ℕ} (x : L
 taken zero m x e = (refl, e)
 taken (suc why) m x e = absurd (apart (ap (λ z. z .page) e))
 
-pub power-answer : (m map : List ℕ) (p : StatePage) → answered p ≡ powerUpPage m map → (boardRefusal (length m) map ≡ 0) × (p ≡ statePage (powerUpOf map m))
+pub power-answer : (settings : Settings) (m map : List ℕ) (p : StatePage) → answered p ≡ powerUpPage settings m map → (boardRefusal (length m) map ≡ 0) × (p ≡ statePage (powerUpOf settings map m))
 unfolding powerUpPage
-power-answer m map p e = split (boardRefusal (length m) map) e
+power-answer settings m map p e = split (boardRefusal (length m) map) e
   where
-    split : (why : ℕ) → answered p ≡ unless why (answered (statePage (powerUpOf map m))) (refused why) → (why ≡ 0) × (p ≡ statePage (powerUpOf map m))
+    split : (why : ℕ) → answered p ≡ unless why (answered (statePage (powerUpOf settings map m))) (refused why) → (why ≡ 0) × (p ≡ statePage (powerUpOf settings map m))
     split zero e = (refl, answered-one e)
     split (suc why) e = absurd (apart e)
 
-module _ (m map : List ℕ) (line : ℕ) (s : State) {p : TurnPage} {m′ : List ℕ} where
-  pub step-answer : left (answered p) m′ ≡ stepPage m map line s → (stepRefusal (length m) map line ≡ 0) × (left (answered p) m′ ≡ turned (stepOf map (heard line) s m))
+module _ (settings : Settings) (m map : List ℕ) (line : ℕ) (s : State) {p : TurnPage} {m′ : List ℕ} where
+  pub step-answer : left (answered p) m′ ≡ stepPage settings m map line s → (stepRefusal (length m) map line ≡ 0) × (left (answered p) m′ ≡ turned (stepOf map (heard settings line) s m))
   unfolding stepPage
-  step-answer e = taken (stepRefusal (length m) map line) m (turned (stepOf map (heard line) s m)) e
+  step-answer e = taken (stepRefusal (length m) map line) m (turned (stepOf map (heard settings line) s m)) e
 
 -- what a run shows that went along a trail from b
-abbrev pub shown : List ℕ → List ℕ → State → List ℕ → Left RanPage
-shown map lines s m =
-    let rs = trailOf map lines s m in
+abbrev pub shown : Settings → List ℕ → List ℕ → State → List ℕ → Left RanPage
+shown settings map lines s m =
+    let rs = trailOf settings map lines s m in
     let b = lastOf (after s m Cause.Nothing) rs in
     left (answered (record { state = statePage (b .state); blanks = blanksIn rs; first = placeOf (firstIn rs) })) (b .image)
 
-module _ (m map lines : List ℕ) (s : State) {p : RanPage} {m′ : List ℕ} where
-  pub run-answer : left (answered p) m′ ≡ runPage m map lines s → (runRefusal (length m) map lines ≡ 0) × (left (answered p) m′ ≡ shown map lines s m)
+module _ (settings : Settings) (m map lines : List ℕ) (s : State) {p : RanPage} {m′ : List ℕ} where
+  pub run-answer : left (answered p) m′ ≡ runPage settings m map lines s → (runRefusal (length m) map lines ≡ 0) × (left (answered p) m′ ≡ shown settings map lines s m)
   unfolding runPage
   run-answer e =
-      let h = taken (runRefusal (length m) map lines) m (ended (runOf map lines s m)) e in
-      (h .0, h .1 ∙ ap ended (run-trail map lines s m Cause.Nothing))
+      let h = taken (runRefusal (length m) map lines) m (ended (runOf settings map lines s m)) e in
+      (h .0, h .1 ∙ ap ended (run-trail settings map lines s m Cause.Nothing))

@@ -5,6 +5,7 @@ use mathlib.Core.Path.{_≡_, refl, sym, ap, _∙_}
 use lib.ListN.{length, getD}
 use Rattle.board.specs.Alike.{Agree}
 use Rattle.state.specs.declared.State.{State}
+use Rattle.state.specs.declared.Settings.{Settings}
 use Rattle.state.specs.State.{heard}
 use Rattle.step.specs.Step.{After, stepOf}
 use Rattle.step.specs.Alike.{power-alike, Same, step-alike, Untouched, step-untouched}
@@ -37,30 +38,30 @@ unless-untouched : {A : Type 0} (map m : List ℕ) (why : ℕ) (x : Left A) → 
 unless-untouched map m zero x h = h
 unless-untouched map m (suc k) x h = λ a e. refl
 
-module _ (map lines : List ℕ) (s : State) where
-  pub run-same : (m n : List ℕ) → length m ≡ length n → Agree map m n → SameLeft map (runPage m map lines s) (runPage n map lines s)
+module _ (settings : Settings) (map lines : List ℕ) (s : State) where
+  pub run-same : (m n : List ℕ) → length m ≡ length n → Agree map m n → SameLeft map (runPage settings m map lines s) (runPage settings n map lines s)
   unfolding runPage
-  run-same m n l g = rw l (unless-same m n (runRefusal (length n) map lines) g (ended-same (run-alike map 0 lines s m n noBlanks l g)))
+  run-same m n l g = rw l (unless-same m n (runRefusal (length n) map lines) g (ended-same (run-alike settings map 0 lines s m n noBlanks l g)))
 
-  pub run-kept : (m : List ℕ) → Untouched map m (runPage m map lines s .image)
+  pub run-kept : (m : List ℕ) → Untouched map m (runPage settings m map lines s .image)
   unfolding runPage
-  run-kept m = unless-untouched map m (runRefusal (length m) map lines) (ended (runOf map lines s m)) (end-kept (runOf map lines s m) (run-untouched map 0 lines s m noBlanks))
+  run-kept m = unless-untouched map m (runRefusal (length m) map lines) (ended (runOf settings map lines s m)) (end-kept (runOf settings map lines s m) (run-untouched settings map 0 lines s m noBlanks))
     where
       end-kept : (x : End) → Untouched map m (imageOf x) → Untouched map m (ended x .image)
       end-kept (end t n y) h = h
 
-module _ (map : List ℕ) (line : ℕ) (s : State) where
-  pub step-same : (m n : List ℕ) → length m ≡ length n → Agree map m n → SameLeft map (stepPage m map line s) (stepPage n map line s)
+module _ (settings : Settings) (map : List ℕ) (line : ℕ) (s : State) where
+  pub step-same : (m n : List ℕ) → length m ≡ length n → Agree map m n → SameLeft map (stepPage settings m map line s) (stepPage settings n map line s)
   unfolding stepPage
-  step-same m n l g = rw l (unless-same m n (stepRefusal (length n) map line) g (turned-same (step-alike map (heard line) s m n l g)))
+  step-same m n l g = rw l (unless-same m n (stepRefusal (length n) map line) g (turned-same (step-alike map (heard settings line) s m n l g)))
 
-  pub step-kept : (m : List ℕ) → Untouched map m (stepPage m map line s .image)
+  pub step-kept : (m : List ℕ) → Untouched map m (stepPage settings m map line s .image)
   unfolding stepPage
-  step-kept m = unless-untouched map m (stepRefusal (length m) map line) (turned (stepOf map (heard line) s m)) (step-untouched map (heard line) s m)
+  step-kept m = unless-untouched map m (stepRefusal (length m) map line) (turned (stepOf map (heard settings line) s m)) (step-untouched map (heard settings line) s m)
 
-pub power-same : (map m n : List ℕ) → length m ≡ length n → Agree map m n → powerUpPage m map ≡ powerUpPage n map
+pub power-same : (settings : Settings) (map m n : List ℕ) → length m ≡ length n → Agree map m n → powerUpPage settings m map ≡ powerUpPage settings n map
 unfolding powerUpPage
-power-same map m n l g = rw (l, power-alike map m n l g)
+power-same settings map m n l g = rw (l, power-alike settings map m n l g)
 
 -- ---- two calls
 

@@ -6,6 +6,7 @@ use mathlib.Core.List.{List, [], _∷_}
 use mathlib.Core.Path.{_≡_, refl, sym, ap, _∙_}
 use lib.ListN.{length, getD, take}
 use Rattle.state.specs.declared.State.{State}
+use Rattle.state.specs.declared.Settings.{Settings}
 use Rattle.state.specs.State.{heard}
 use Rattle.step.specs.declared.Cause.{Cause}
 use Rattle.step.specs.declared.Told.{Told}
@@ -94,23 +95,23 @@ noted-joined t n Told.Nowhere = tally-is (omega arith) (sym (or-never (t .first)
 abbrev pub endOf : After → ℕ → Tally → List After → End
 endOf b n t rs = end (lastOf b rs .state) (lastOf b rs .image) (joined n t (tallyIn rs))
 
-pub rest-trail : (map : List ℕ) (place : ℕ) (lines : List ℕ) (s : State) (m : List ℕ) (t : Tally) (c : Cause)
-    → rest map place lines s m t ≡ endOf (after s m c) place t (trailOf map lines s m)
+pub rest-trail : (settings : Settings) (map : List ℕ) (place : ℕ) (lines : List ℕ) (s : State) (m : List ℕ) (t : Tally) (c : Cause)
+    → rest settings map place lines s m t ≡ endOf (after s m c) place t (trailOf settings map lines s m)
 unfolding rest trailOf blanksIn firstIn
-rest-trail map place [] s m t c = ap (end s m) (sym (joined-right place t))
-rest-trail map place (x ∷ xs) s m t c =
-    let a = stepOf map (heard x) s m in
-    let rs = trailOf map xs (a .state) (a .image) in
-    rest-trail map (place + 1) xs (a .state) (a .image) (noted t place (blankAt (a .cause))) (a .cause)
+rest-trail settings map place [] s m t c = ap (end s m) (sym (joined-right place t))
+rest-trail settings map place (x ∷ xs) s m t c =
+    let a = stepOf map (heard settings x) s m in
+    let rs = trailOf settings map xs (a .state) (a .image) in
+    rest-trail settings map (place + 1) xs (a .state) (a .image) (noted t place (blankAt (a .cause))) (a .cause)
     ∙ ap (λ z. end (lastOf a rs .state) (lastOf a rs .image) z)
     (ap (λ z. joined (place + 1) z (tallyIn rs)) (noted-joined t place (blankAt (a .cause)))
     ∙ joined-joined place 1 t (noted noBlanks 0 (blankAt (a .cause))) (tallyIn rs)
     ∙ ap (joined place t) (sym (tally-cons a rs)))
 
 -- the whole run, from a state and an image; a cause before its first step is not asked for
-pub run-trail : (map lines : List ℕ) (s : State) (m : List ℕ) (c : Cause)
-    → runOf map lines s m ≡ end (lastOf (after s m c) (trailOf map lines s m) .state) (lastOf (after s m c) (trailOf map lines s m) .image) (tallyIn (trailOf map lines s m))
-run-trail map lines s m c = rest-trail map 0 lines s m noBlanks c ∙ ap (λ z. end (lastOf (after s m c) (trailOf map lines s m) .state) (lastOf (after s m c) (trailOf map lines s m) .image) z) (joined-left (tallyIn (trailOf map lines s m)))
+pub run-trail : (settings : Settings) (map lines : List ℕ) (s : State) (m : List ℕ) (c : Cause)
+    → runOf settings map lines s m ≡ end (lastOf (after s m c) (trailOf settings map lines s m) .state) (lastOf (after s m c) (trailOf settings map lines s m) .image) (tallyIn (trailOf settings map lines s m))
+run-trail settings map lines s m c = rest-trail settings map 0 lines s m noBlanks c ∙ ap (λ z. end (lastOf (after s m c) (trailOf settings map lines s m) .state) (lastOf (after s m c) (trailOf settings map lines s m) .image) z) (joined-left (tallyIn (trailOf settings map lines s m)))
 
 -- ---- THE FIRST PLACE IS THE LEAST
 
@@ -140,20 +141,20 @@ first-least (a ∷ rs) = split (blankAt (a .cause)) refl (firstIn rs) (first-lea
 
 -- ---- the trail, place by place
 
-pub trail-length : (map lines : List ℕ) (s : State) (m : List ℕ) → length (trailOf map lines s m) ≡ length lines
+pub trail-length : (settings : Settings) (map lines : List ℕ) (s : State) (m : List ℕ) → length (trailOf settings map lines s m) ≡ length lines
 unfolding trailOf
-trail-length map [] s m = refl
-trail-length map (x ∷ xs) s m =
-    let a = stepOf map (heard x) s m in
-    ap suc (trail-length map xs (a .state) (a .image))
+trail-length settings map [] s m = refl
+trail-length settings map (x ∷ xs) s m =
+    let a = stepOf map (heard settings x) s m in
+    ap suc (trail-length settings map xs (a .state) (a .image))
 
 -- the step at a place is the step over its line word from where the places before it end
-pub trail-at : (map lines : List ℕ) (s : State) (m : List ℕ) (c : Cause) (d : After) (k : ℕ) → k < length lines
-    → (let b = lastOf (after s m c) (take k (trailOf map lines s m)) in
-    getD (trailOf map lines s m) k d ≡ stepOf map (heard (getD lines k 0)) (b .state) (b .image))
+pub trail-at : (settings : Settings) (map lines : List ℕ) (s : State) (m : List ℕ) (c : Cause) (d : After) (k : ℕ) → k < length lines
+    → (let b = lastOf (after s m c) (take k (trailOf settings map lines s m)) in
+    getD (trailOf settings map lines s m) k d ≡ stepOf map (heard settings (getD lines k 0)) (b .state) (b .image))
 unfolding trailOf
-trail-at map [] s m c d k h = absurd (omega arith)
-trail-at map (x ∷ xs) s m c d zero h = refl
-trail-at map (x ∷ xs) s m c d (suc k) h =
-    let a = stepOf map (heard x) s m in
-    trail-at map xs (a .state) (a .image) (a .cause) d k (omega arith)
+trail-at settings map [] s m c d k h = absurd (omega arith)
+trail-at settings map (x ∷ xs) s m c d zero h = refl
+trail-at settings map (x ∷ xs) s m c d (suc k) h =
+    let a = stepOf map (heard settings x) s m in
+    trail-at settings map xs (a .state) (a .image) (a .cause) d k (omega arith)

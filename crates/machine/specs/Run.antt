@@ -7,6 +7,7 @@ use lib.ListN.{length, drop, getD}
 use lib.Seq.{drop-cons, drop-length}
 use Rattle.board.specs.Exec.{Lent}
 use Rattle.state.specs.declared.State.{State}
+use Rattle.state.specs.declared.Settings.{Settings}
 use Rattle.state.specs.State.{heard}
 use Rattle.machine.specs.declared.Ran.{Ran}
 use Rattle.machine.specs.declared.Last.{Last}
@@ -37,62 +38,62 @@ pub data End : Type 0 where
   end : State → List ℕ → Tally → End
 
 -- the rest of a run: from a place, over the line words that are left, with the tally so far
-unfoldable pub rest : List ℕ → ℕ → List ℕ → State → List ℕ → Tally → End
-rest map place [] s m t = end s m t
-rest map place (line ∷ lines) s m t =
-    let a = stepOf map (heard line) s m in
-    rest map (place + 1) lines (a .state) (a .image) (noted t place (blankAt (a .cause)))
+unfoldable pub rest : Settings → List ℕ → ℕ → List ℕ → State → List ℕ → Tally → End
+rest settings map place [] s m t = end s m t
+rest settings map place (line ∷ lines) s m t =
+    let a = stepOf map (heard settings line) s m in
+    rest settings map (place + 1) lines (a .state) (a .image) (noted t place (blankAt (a .cause)))
 
-abbrev pub runOf : List ℕ → List ℕ → State → List ℕ → End
-runOf map lines s m = rest map 0 lines s m noBlanks
+abbrev pub runOf : Settings → List ℕ → List ℕ → State → List ℕ → End
+runOf settings map lines s m = rest settings map 0 lines s m noBlanks
 
 abbrev pub ranOf : Ran → List ℕ → End
 ranOf r m = end (r .state) m (r .tally)
 
 -- the cause of the last step, c where there is none
-unfoldable pub lastCause : List ℕ → List ℕ → State → List ℕ → Cause → Cause
-lastCause map [] s m c = c
-lastCause map (line ∷ lines) s m c =
-    let a = stepOf map (heard line) s m in
-    lastCause map lines (a .state) (a .image) (a .cause)
+unfoldable pub lastCause : Settings → List ℕ → List ℕ → State → List ℕ → Cause → Cause
+lastCause settings map [] s m c = c
+lastCause settings map (line ∷ lines) s m c =
+    let a = stepOf map (heard settings line) s m in
+    lastCause settings map lines (a .state) (a .image) (a .cause)
 
-rest-cons : (map : List ℕ) (i x : ℕ) (xs : List ℕ) (s : State) (m : List ℕ) (t : Tally)
-    → rest map (i + 1) xs (stepOf map (heard x) s m .state) (stepOf map (heard x) s m .image) (noted t i (blankAt (stepOf map (heard x) s m .cause))) ≡ rest map i (x ∷ xs) s m t
+rest-cons : (settings : Settings) (map : List ℕ) (i x : ℕ) (xs : List ℕ) (s : State) (m : List ℕ) (t : Tally)
+    → rest settings map (i + 1) xs (stepOf map (heard settings x) s m .state) (stepOf map (heard settings x) s m .image) (noted t i (blankAt (stepOf map (heard settings x) s m .cause))) ≡ rest settings map i (x ∷ xs) s m t
 unfolding rest
-rest-cons map i x xs s m t = refl
+rest-cons settings map i x xs s m t = refl
 
 -- one step more
-pub rest-more : (map lines : List ℕ) (i : ℕ) (s : State) (m : List ℕ) (t t′ : Tally) (a : After)
-    → i < length lines → a ≡ stepOf map (heard (getD lines i 0)) s m → t′ ≡ noted t i (blankAt (a .cause))
-    → rest map (i + 1) (drop (i + 1) lines) (a .state) (a .image) t′ ≡ rest map i (drop i lines) s m t
-rest-more map lines i s m t t′ a l e d = rw (drop-cons lines i 0 l, ← add-one i, d, e) (rest-cons map i (getD lines i 0) (drop (i + 1) lines) s m t)
+pub rest-more : (settings : Settings) (map lines : List ℕ) (i : ℕ) (s : State) (m : List ℕ) (t t′ : Tally) (a : After)
+    → i < length lines → a ≡ stepOf map (heard settings (getD lines i 0)) s m → t′ ≡ noted t i (blankAt (a .cause))
+    → rest settings map (i + 1) (drop (i + 1) lines) (a .state) (a .image) t′ ≡ rest settings map i (drop i lines) s m t
+rest-more settings map lines i s m t t′ a l e d = rw (drop-cons lines i 0 l, ← add-one i, d, e) (rest-cons settings map i (getD lines i 0) (drop (i + 1) lines) s m t)
 
 -- no step left
-pub rest-none : (map lines : List ℕ) (i : ℕ) (s : State) (m : List ℕ) (t : Tally) → i ≡ length lines → rest map i (drop i lines) s m t ≡ end s m t
+pub rest-none : (settings : Settings) (map lines : List ℕ) (i : ℕ) (s : State) (m : List ℕ) (t : Tally) → i ≡ length lines → rest settings map i (drop i lines) s m t ≡ end s m t
 unfolding rest
-rest-none map lines i s m t e = rw (e, drop-length lines)
+rest-none settings map lines i s m t e = rw (e, drop-length lines)
 
-cause-cons : (map : List ℕ) (x : ℕ) (xs : List ℕ) (s : State) (m : List ℕ) (c : Cause)
-    → lastCause map xs (stepOf map (heard x) s m .state) (stepOf map (heard x) s m .image) (stepOf map (heard x) s m .cause) ≡ lastCause map (x ∷ xs) s m c
+cause-cons : (settings : Settings) (map : List ℕ) (x : ℕ) (xs : List ℕ) (s : State) (m : List ℕ) (c : Cause)
+    → lastCause settings map xs (stepOf map (heard settings x) s m .state) (stepOf map (heard settings x) s m .image) (stepOf map (heard settings x) s m .cause) ≡ lastCause settings map (x ∷ xs) s m c
 unfolding lastCause
-cause-cons map x xs s m c = refl
+cause-cons settings map x xs s m c = refl
 
-pub cause-more : (map lines : List ℕ) (i : ℕ) (s : State) (m : List ℕ) (c : Cause) (a : After)
-    → i < length lines → a ≡ stepOf map (heard (getD lines i 0)) s m
-    → lastCause map (drop (i + 1) lines) (a .state) (a .image) (a .cause) ≡ lastCause map (drop i lines) s m c
-cause-more map lines i s m c a l e = rw (drop-cons lines i 0 l, ← add-one i, e) (cause-cons map (getD lines i 0) (drop (i + 1) lines) s m c)
+pub cause-more : (settings : Settings) (map lines : List ℕ) (i : ℕ) (s : State) (m : List ℕ) (c : Cause) (a : After)
+    → i < length lines → a ≡ stepOf map (heard settings (getD lines i 0)) s m
+    → lastCause settings map (drop (i + 1) lines) (a .state) (a .image) (a .cause) ≡ lastCause settings map (drop i lines) s m c
+cause-more settings map lines i s m c a l e = rw (drop-cons lines i 0 l, ← add-one i, e) (cause-cons settings map (getD lines i 0) (drop (i + 1) lines) s m c)
 
-pub cause-none : (map lines : List ℕ) (i : ℕ) (s : State) (m : List ℕ) (c : Cause) → i ≡ length lines → lastCause map (drop i lines) s m c ≡ c
+pub cause-none : (settings : Settings) (map lines : List ℕ) (i : ℕ) (s : State) (m : List ℕ) (c : Cause) → i ≡ length lines → lastCause settings map (drop i lines) s m c ≡ c
 unfolding lastCause
-cause-none map lines i s m c e = rw (e, drop-length lines)
+cause-none settings map lines i s m c e = rw (e, drop-length lines)
 
 -- a run over one line word is a step
-pub run-of-one : (map : List ℕ) (line : ℕ) (s : State) (m : List ℕ) {t : State} {n : List ℕ} {y : Tally} {c : Cause}
-    → end t n y ≡ runOf map (line ∷ []) s m → c ≡ lastCause map (line ∷ []) s m Cause.Nothing → after t n c ≡ stepOf map (heard line) s m
+pub run-of-one : (settings : Settings) (map : List ℕ) (line : ℕ) (s : State) (m : List ℕ) {t : State} {n : List ℕ} {y : Tally} {c : Cause}
+    → end t n y ≡ runOf settings map (line ∷ []) s m → c ≡ lastCause settings map (line ∷ []) s m Cause.Nothing → after t n c ≡ stepOf map (heard settings line) s m
 unfolding rest lastCause
-run-of-one map line s m {t = t} {n = n} e d =
-    let state : t ≡ stepOf map (heard line) s m .state = ap stateIn e in
-    let image : n ≡ stepOf map (heard line) s m .image = ap imageIn e in
+run-of-one settings map line s m {t = t} {n = n} e d =
+    let state : t ≡ stepOf map (heard settings line) s m .state = ap stateIn e in
+    let image : n ≡ stepOf map (heard settings line) s m .image = ap imageIn e in
     rw (state, image, d)
   where
     stateIn : End → State
@@ -102,7 +103,7 @@ run-of-one map line s m {t = t} {n = n} e d =
     imageIn (end t n y) = n
 
 -- what a run on a board promises: the end, and the last cause
-pub record Ended (map lines : List ℕ) (s : State) (m : List ℕ) (r : Last) (n : List ℕ) : Type 0 where
-  pub same : ranOf (r .ran) n ≡ runOf map lines s m
-  pub cause : r .cause ≡ lastCause map lines s m Cause.Nothing
+pub record Ended (settings : Settings) (map lines : List ℕ) (s : State) (m : List ℕ) (r : Last) (n : List ℕ) : Type 0 where
+  pub same : ranOf (r .ran) n ≡ runOf settings map lines s m
+  pub cause : r .cause ≡ lastCause settings map lines s m Cause.Nothing
   pub lent : Lent map n

@@ -5,6 +5,7 @@ use mathlib.Core.List.{List, [], _∷_}
 use mathlib.Core.Path.{_≡_}
 use lib.ListN.{length}
 use Rattle.state.specs.declared.State.{State}
+use Rattle.state.specs.declared.Settings.{Settings}
 use Rattle.state.specs.State.{heard}
 use Rattle.step.specs.declared.Cause.{Cause}
 use Rattle.step.specs.declared.Cause.the-variants as Cause
@@ -17,11 +18,11 @@ use Rattle.machine.specs.declared.Tally.{Tally}
 use Rattle.machine.specs.Numbers.{Place, place, none}
 
 -- the state, the image and the cause after each step
-unfoldable pub trailOf : List ℕ → List ℕ → State → List ℕ → List After
-trailOf map [] s m = []
-trailOf map (line ∷ lines) s m =
-    let a = stepOf map (heard line) s m in
-    a ∷ trailOf map lines (a .state) (a .image)
+unfoldable pub trailOf : Settings → List ℕ → List ℕ → State → List ℕ → List After
+trailOf settings map [] s m = []
+trailOf settings map (line ∷ lines) s m =
+    let a = stepOf map (heard settings line) s m in
+    a ∷ trailOf settings map lines (a .state) (a .image)
 
 -- where a trail ends: after its last step, or at b where it has none
 abbrev pub lastOf : After → List After → After

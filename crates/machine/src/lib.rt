@@ -1,4 +1,5 @@
 // The processor: power-up, one step, and a run over a list of line words.
+use state::Settings;
 use state::State;
 use step::Cause;
 use step::Turn;
@@ -48,27 +49,27 @@ pub enum Finished {
     Refused(u8),
 }
 
-// The state after power-up; or 1, 2 or 3.
-pub fn power_up(image: &[u8], map: &[u8]) -> Powered
-    ensures { λ r. ⌜ Spec.poweredPage r ≡ Spec.powerUpPage (now (image .entry)) (now (map .entry)) ⌝ }
+// The state after power-up of a board that is set up so; or 1, 2 or 3.
+pub fn power_up(image: &[u8], map: &[u8], settings: Settings) -> Powered
+    ensures { λ r. ⌜ Spec.poweredPage r ≡ Spec.powerUpPage settings (now (image .entry)) (now (map .entry)) ⌝ }
 {
     let why = refusal::board_refusal(image.len(), map);
     if why != 0 {
         return Powered::Refused(why);
     }
-    Powered::Up(step::power(image, map))
+    Powered::Up(step::power(image, map, settings))
 }
 
 // One step over a line word: the state and the cause after it; or 1, 2, 3 or 5 and the image as lent.
-pub fn step(s: State, image: &mut [u8], map: &[u8], line: u16) -> Stepped
-    ensures { λ r. ⌜ Spec.left (Spec.steppedPage r) (now (image .exit)) ≡ Spec.stepPage (now (image .entry)) (now (map .entry)) line s ⌝ }
+pub fn step(s: State, image: &mut [u8], map: &[u8], settings: Settings, line: u16) -> Stepped
+    ensures { λ r. ⌜ Spec.left (Spec.steppedPage r) (now (image .exit)) ≡ Spec.stepPage settings (now (image .entry)) (now (map .entry)) line s ⌝ }
 {
     let why = refusal::step_refusal(image.len(), map, line);
     if why != 0 {
         return Stepped::Refused(why);
     }
     let lines = [line];
-    let last = runs::run_on(s, image, map, &lines);
+    let last = runs::run_on(s, image, map, settings, &lines);
     let ran = last.ran;
     let state = ran.state;
     let cause = last.cause;
@@ -76,14 +77,14 @@ pub fn step(s: State, image: &mut [u8], map: &[u8], line: u16) -> Stepped
 }
 
 // A run over line words: the state, the blanks and the first of them after it; or 1 to 5 and the image as lent.
-pub fn run(s: State, image: &mut [u8], map: &[u8], lines: &[u16]) -> Finished
-    ensures { λ r. ⌜ Spec.left (Spec.finishedPage r) (now (image .exit)) ≡ Spec.runPage (now (image .entry)) (now (map .entry)) (now (lines .entry)) s ⌝ }
+pub fn run(s: State, image: &mut [u8], map: &[u8], settings: Settings, lines: &[u16]) -> Finished
+    ensures { λ r. ⌜ Spec.left (Spec.finishedPage r) (now (image .exit)) ≡ Spec.runPage settings (now (image .entry)) (now (map .entry)) (now (lines .entry)) s ⌝ }
 {
     let why = refusal::run_refusal(image.len(), map, lines);
     if why != 0 {
         return Finished::Refused(why);
     }
-    let last = runs::run_on(s, image, map, lines);
+    let last = runs::run_on(s, image, map, settings, lines);
     let ran = last.ran;
     Finished::Done(ran)
 }

@@ -3,6 +3,7 @@ use super::First;
 use super::Last;
 use super::Ran;
 use super::Tally;
+use state::Settings;
 use state::State;
 use state::hear;
 use step::Cause;
@@ -43,9 +44,15 @@ fn noted(t: Tally, place: u16, blank: Told) -> Tally
 }
 
 // The log is made once and cleared for each step; the plate is laid out once.
-pub(crate) fn run_on(s: State, image: &mut [u8], map: &[u8], lines: &[u16]) -> Last
+pub(crate) fn run_on(
+    s: State,
+    image: &mut [u8],
+    map: &[u8],
+    settings: Settings,
+    lines: &[u16],
+) -> Last
     requires { ⌜ (Lent (now map) (now image)) × (length (now lines) ≤ 4096) ⌝ }
-    ensures { λ r. ⌜ Spec.Ended (now (map .entry)) (now (lines .entry)) s (now (image .entry)) r (now (image .exit)) ⌝ }
+    ensures { λ r. ⌜ Spec.Ended settings (now (map .entry)) (now (lines .entry)) s (now (image .entry)) r (now (image .exit)) ⌝ }
 {
     let mut log = [0u16; 32];
     let sheet = plate::PLATE;
@@ -57,7 +64,14 @@ pub(crate) fn run_on(s: State, image: &mut [u8], map: &[u8], lines: &[u16]) -> L
     let mut cause = Cause::Nothing;
     let mut i: usize = 0;
     while i < lines.len() {
-        let turn = step_on(state, image, map, &mut log, hear(lines[i]), &sheet);
+        let turn = step_on(
+            state,
+            image,
+            map,
+            &mut log,
+            hear(settings, lines[i]),
+            &sheet,
+        );
         state = turn.state;
         cause = turn.cause;
         tally = noted(tally, i as u16, blank_at(cause));

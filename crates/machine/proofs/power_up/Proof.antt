@@ -8,7 +8,7 @@ use Rattle.machine.proofs.power_up.Statement.{statement}
 use Rattle.machine.proofs.power_up.Tie as tie
 
 returns : tie.Need-returns
-returns c = power-refused _ _ _ (c .before .board-refusal .ensures) (c .if1 .taken)
+returns c = power-refused _ _ _ _ (c .before .board-refusal .ensures) (c .if1 .taken)
 
 power-requires : tie.Need-power-requires
 power-requires c κs =
@@ -16,7 +16,7 @@ power-requires c κs =
     record { pages = k .pages; size = k .bytes; bytes = λ i. omega (arith, c .before .before .before .shared-slice-known .given i) }
 
 returns-2 : tie.Need-returns-2
-returns-2 c = power-answered _ _ _ (sym (c .before .before .board-refusal .ensures) ∙ c .before .if1 .left) (c .power .ensures)
+returns-2 c = power-answered _ _ _ _ (sym (c .before .before .board-refusal .ensures) ∙ c .before .if1 .left) (c .power .ensures)
 
 pub power-up-spec : {M : Type 1} → statement M
 power-up-spec = tie.close (tie.spec (λ c κs. search needs) returns power-requires returns-2)

@@ -11,11 +11,11 @@ use Rattle.machine.proofs.runs.run_on.Statement.{statement}
 use Rattle.machine.proofs.runs.run_on.Tie as tie
 
 abbrev Inv-loop : tie.InvT-loop
-Inv-loop image₀ map lines log₀ sheet state₀ tally₀ cause₀ i₀ image log state tally cause i =
-    (i ≤ length lines) × (tally .blanks ≤ i) × (rest map i (drop i lines) state image tally ≡ runOf map lines state₀ image₀) × Board map (beside image log) × (sheet ≡ table) × (lastCause map (drop i lines) state image cause ≡ lastCause map lines state₀ image₀ Cause.Nothing)
+Inv-loop image₀ map settings lines log₀ sheet state₀ tally₀ cause₀ i₀ image log state tally cause i =
+    (i ≤ length lines) × (tally .blanks ≤ i) × (rest settings map i (drop i lines) state image tally ≡ runOf settings map lines state₀ image₀) × Board map (beside image log) × (sheet ≡ table) × (lastCause settings map (drop i lines) state image cause ≡ lastCause settings map lines state₀ image₀ Cause.Nothing)
 
 abbrev μ-loop : tie.MeasureT-loop
-μ-loop image₀ map lines log₀ sheet state₀ tally₀ cause₀ i₀ image log state tally cause i = length lines - i
+μ-loop image₀ map settings lines log₀ sheet state₀ tally₀ cause₀ i₀ image log state tally cause i = length lines - i
 
 loop-holds : tie.Need-loop-holds Inv-loop μ-loop
 unfolding table entries formatOf
@@ -46,17 +46,17 @@ loop-again : tie.Need-loop-again Inv-loop μ-loop
 loop-again c = (
   omega arith,
   omega arith,
-  rest-more _ _ _ _ _ _ _ _ (c .before .before .before .before .before .before .before .before .before .before .before .loop-test .taken) (rw (c .before .before .before .before .before .before .before .hear .ensures) at (c .before .before .before .before .before .step-on .ensures .turn)) (rw (c .before .blank-at .ensures) at (c .noted .ensures .0)) ∙ c .before .before .before .before .before .before .before .before .before .before .before .before .loop .inv .2,
+  rest-more _ _ _ _ _ _ _ _ _ (c .before .before .before .before .before .before .before .before .before .before .before .loop-test .taken) (rw (c .before .before .before .before .before .before .before .hear .ensures) at (c .before .before .before .before .before .step-on .ensures .turn)) (rw (c .before .blank-at .ensures) at (c .noted .ensures .0)) ∙ c .before .before .before .before .before .before .before .before .before .before .before .before .loop .inv .2,
   c .before .before .before .before .before .step-on .ensures .board,
   c .before .before .before .before .before .before .before .before .before .before .before .before .loop .inv .4,
-  cause-more _ _ _ _ _ _ _ (c .before .before .before .before .before .before .before .before .before .before .before .loop-test .taken) (rw (c .before .before .before .before .before .before .before .hear .ensures) at (c .before .before .before .before .before .step-on .ensures .turn)) ∙ c .before .before .before .before .before .before .before .before .before .before .before .before .loop .inv .5,
+  cause-more _ _ _ _ _ _ _ _ (c .before .before .before .before .before .before .before .before .before .before .before .loop-test .taken) (rw (c .before .before .before .before .before .before .before .hear .ensures) at (c .before .before .before .before .before .step-on .ensures .turn)) ∙ c .before .before .before .before .before .before .before .before .before .before .before .before .loop .inv .5,
 )
 
 same-length : tie.Need-same-length Inv-loop μ-loop
 same-length c = c .before .loop .inv .3 .lent .size ∙ sym (c .before .before .before .before .before .pre .0 .size)
 
 returns : tie.Need-returns Inv-loop μ-loop
-returns c = record { same = sym (rest-none _ _ _ _ _ _ (omega arith)) ∙ c .before .loop .inv .2; cause = sym (cause-none _ (c .before .before .before .before .before .args .lines .now) (c .before .loop .i) _ _ _ (omega arith)) ∙ c .before .loop .inv .5; lent = c .before .loop .inv .3 .lent }
+returns c = record { same = sym (rest-none _ _ _ _ _ _ _ (omega arith)) ∙ c .before .loop .inv .2; cause = sym (cause-none _ _ (c .before .before .before .before .before .args .lines .now) (c .before .loop .i) _ _ _ (omega arith)) ∙ c .before .loop .inv .5; lent = c .before .loop .inv .3 .lent }
 
 pub run-on-spec : {M : Type 1} → statement M
 run-on-spec =
