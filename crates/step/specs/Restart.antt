@@ -1,5 +1,6 @@
 -- WHY CAUSE 7 IS NEVER GIVEN: a step that can't fetch 16 can't fetch 12 either. Both lie on page 0, and a read asks only that the page is fitted; so its bus error fails too, and it locks.
 use Prim.Native.Nat.{ℕ}
+use native.Mathlib.Omega.{arith}
 use mathlib.Core.Bool.{Bool, true, false}
 use mathlib.Core.List.{List}
 use mathlib.Core.Path.{_≡_, refl, sym, ap, _∙_}
@@ -31,10 +32,7 @@ found-not true a c e = e
 found-not false a c e = refl
 
 found-unfitted : (b : Bool) (a : ℕ) (c : Came State) → b ≡ false → done (found b a c) ≡ false
-found-unfitted true a c e = absurd (apart e)
-  where
-    apart : true ≡ false → ⊥
-    apart d = let z : _≡_ {A = ℕ} 0 1 = cc in absurd cc
+found-unfitted true a c e = let z : _≡_ {A = ℕ} 0 1 = cc in absurd (omega arith)
 found-unfitted false a c e = refl
 
 -- a trap whose location can't be read fails, wherever the stack lies
@@ -49,10 +47,10 @@ restart-unfitted map s m {a} h = by (fitted map 0x16) refl
   where
     by : (b : Bool) → fitted map 0x16 ≡ b → fitted map 0x16 ≡ false
     by false e = e
-    by true e = let z : _≡_ {A = ℕ} 0 1 = cc in absurd cc
+    by true e = let z : _≡_ {A = ℕ} 0 1 = cc in absurd (omega arith)
 
 else-not : (c : Came State) (k : Cause) (r : After) → done c ≡ false → orElse c k (λ _. r) ≡ r
-else-not (value s m) k r e = let z : _≡_ {A = ℕ} 0 1 = cc in absurd cc
+else-not (value s m) k r e = let z : _≡_ {A = ℕ} 0 1 = cc in absurd (omega arith)
 else-not (blank a) k r e = refl
 
 -- A STEP THAT CAN'T FETCH 16 LOCKS, with the address that it reached
