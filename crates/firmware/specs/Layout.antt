@@ -1,30 +1,13 @@
 -- The lent bytes of a state and of a tally.
-use Prim.Native.Nat.{ℕ, _+_, _*_, _/_, _%_}
-use mathlib.Core.Bool.{Bool, true, false, _||_, cond}
+use Prim.Native.Nat.{ℕ}
+use mathlib.Core.Bool.{Bool, true, _||_, cond}
 use mathlib.Core.List.{List, [], _∷_, _++_}
-use lib.ListN.{length, getD}
+use lib.ListN.{length}
 use lib.Dec.{eqb, ltb}
+use Rattle.words.specs.Words.{byteAt, wordAt, bytesIn}
 use Rattle.state.specs.declared.State.{State}
 use Rattle.machine.specs.Numbers.{StatePage, Place, place, none}
 use Rattle.machine.specs.Back.{stateOf}
-
--- ---- words, low byte first
-
-abbrev pub byteAt : List ℕ → ℕ → ℕ
-byteAt b at = getD b at 0
-
-abbrev pub wordAt : List ℕ → ℕ → ℕ
-wordAt b at = byteAt b at + byteAt b (at + 1) * 256
-
-abbrev pub low : ℕ → ℕ
-low v = v % 256
-
-abbrev pub high : ℕ → ℕ
-high v = v / 256
-
-abbrev pub bytesIn : List ℕ → List ℕ
-bytesIn [] = []
-bytesIn (v ∷ vs) = low v ∷ high v ∷ bytesIn vs
 
 -- ---- 20 bytes: R0 to R5, SP and PC; 16 the indicators; 17 I2; 18 the mode; 19 the cause
 

@@ -4,6 +4,10 @@ use machine::Tally;
 use state::Mode;
 use state::State;
 use word::Flags;
+use words::byte_at;
+use words::high;
+use words::low;
+use words::word_at;
 ghost use mathlib.Core.Path.{_≡_};
 ghost use Prim.Native.Nat.{_+_, _≤_, _<_, _*_};
 ghost use lib.ListN.{length};
@@ -11,35 +15,6 @@ ghost use Rattle.word.specs.Number.{digit};
 ghost use Rattle.machine.specs.Numbers as Page;
 ghost use Rattle.machine.specs.Back as Back;
 ghost use Rattle.firmware.specs.Layout as Spec;
-
-// The byte at a place, 0 past the end.
-fn byte_at(b: &[u8], at: usize) -> u8
-    ensures { λ r. ⌜ r ≡ Spec.byteAt (now (b .entry)) at ⌝ }
-{
-    if at < b.len() { b[at] } else { 0 }
-}
-
-// The word at a place, low byte first.
-fn word_at(b: &[u8], at: usize) -> u16
-    requires { ⌜ at < 65536 ⌝ }
-    ensures { λ r. ⌜ r ≡ Spec.wordAt (now (b .entry)) at ⌝ }
-{
-    let low = byte_at(b, at);
-    let high = byte_at(b, at + 1);
-    low as u16 + high as u16 * 256
-}
-
-fn low(v: u16) -> u8
-    ensures { λ r. ⌜ r ≡ Spec.low v ⌝ }
-{
-    (v % 256) as u8
-}
-
-fn high(v: u16) -> u8
-    ensures { λ r. ⌜ r ≡ Spec.high v ⌝ }
-{
-    (v / 256) as u8
-}
 
 // 1 for true, 0 for false.
 fn digit(b: bool) -> u8

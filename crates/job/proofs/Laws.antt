@@ -4,7 +4,7 @@ use Prim.Native.Nat.{ℕ, zero, suc, _+_, _-_, _*_, _<_, _≤_}
 use mathlib.Core.Bool.{Bool, true, false, cond}
 use mathlib.Core.List.{List, [], _∷_, _++_, append-nil}
 use mathlib.Core.Path.{_≡_, refl, sym, ap, _∙_}
-use lib.ListN.{length, getD, set, drop, replicate, List·getD-eq-default}
+use lib.ListN.{length, getD, set, drop, replicate}
 use Rattle.job.specs.declared.Answer.{Answer}
 use Rattle.job.specs.declared.Answer.the-variants.{Lines, Refused}
 use Rattle.job.specs.declared.Section.{Section}
@@ -16,10 +16,11 @@ use borrow.Author.Tests.{le-leb, lt-leb, leb-true, eqb-true}
 use lib.Dec.{leb, eqb}
 use borrow.Author.Fill.{fill-more}
 use lib.Seq.{drop-cons, drop-length}
+use Rattle.words.specs.Words.{byteAt, wordAt}
 use Rattle.refusal.specs.Numbers.{imageLength, mapLength, linesLength, jobEnds}
 use Rattle.refusal.specs.Page.{refused, answered, first, first-both, unless, unless-some}
 use Rattle.refusal.specs.Page as Page
-use Rattle.job.specs.Job.{byteAt, wordAt, sections, sizeOf, mostOf, overOf, keyAt, note, cut, whyKey, whyEntry, whyEntries, noted, whyCount, whyLeft, whySections, stored, listed, marked, absent, wordsAt, linesAt, readOnlyAt, imageOf, mapOf, linesOf, Filled, pageOf, After, after, whyRead, jobOf}
+use Rattle.job.specs.Job.{sections, sizeOf, mostOf, overOf, keyAt, note, cut, whyKey, whyEntry, whyEntries, noted, whyCount, whyLeft, whySections, stored, listed, marked, absent, wordsAt, linesAt, readOnlyAt, imageOf, mapOf, linesOf, Filled, pageOf, After, after, whyRead, jobOf}
 
 -- from the fourth on, a section is the read-only pages
 pub nth-rest : (i : ℕ) → (i ≡ 0 → ⊥) → (i ≡ 1 → ⊥) → (i ≡ 2 → ⊥) → section.ReadOnly ≡ getD sections i section.ReadOnly
@@ -29,13 +30,6 @@ nth-rest (suc zero) n m k = absurd (m refl)
 nth-rest (suc (suc zero)) n m k = absurd (k refl)
 nth-rest (suc (suc (suc zero))) n m k = refl
 nth-rest (suc (suc (suc (suc i)))) n m k = refl
-
--- past the end of the input a word is 0
-pub word-past : (input : List ℕ) (at : ℕ) → length input ≤ at → 0 ≡ wordAt input at
-word-past input at h =
-    let low = List·getD-eq-default input 0 h in
-    let high : getD input (at + 1) 0 ≡ 0 = List·getD-eq-default input 0 (omega arith) in
-    omega arith
 
 -- an entry or a count of this size is cut short, or is not
 cut-short : (input : List ℕ) (at size : ℕ) → length input - at < size → cut input at size ≡ jobEnds

@@ -4,8 +4,9 @@ use Prim.Native.Nat.{ℕ, zero, suc, _+_, _*_, _/_, _%_}
 use mathlib.Core.Bool.{Bool, false, cond}
 use mathlib.Core.List.{List, [], _∷_}
 use mathlib.Core.Path.{_≡_}
-use lib.ListN.{length, getD, set, replicate}
+use lib.ListN.{length, getD, set, take, replicate}
 use lib.Dec.{eqb, leb}
+use Rattle.words.specs.Words.{byteAt, wordAt}
 use Rattle.refusal.specs.Numbers.{imageLength, mapLength, linesLength, jobEnds, manyPages, pageNotRising, manyWords, addressOdd, addressNotRising, addressUnfitted, manyLines, jobLineBit, bytesLeft, readOnlyPage}
 use Rattle.refusal.specs.Page.{Page, refused, answered, first, unless}
 use Rattle.refusal.specs.Refusal.{plain}
@@ -13,13 +14,6 @@ use Rattle.job.specs.declared.Answer.{Answer}
 use Rattle.job.specs.declared.Answer.the-variants.{Lines, Refused}
 use Rattle.job.specs.declared.Section.{Section}
 use Rattle.job.specs.declared.Section.the-variants as section
-
--- the input: a byte, and a word, low byte first
-abbrev pub byteAt : List ℕ → ℕ → ℕ
-byteAt input at = getD input at 0
-
-abbrev pub wordAt : List ℕ → ℕ → ℕ
-wordAt input at = byteAt input at + byteAt input (at + 1) * 256
 
 -- "Three sections": fitted pages, words, line words. "A job may have a fourth section": read-only pages
 unfoldable pub sections : List Section
@@ -170,6 +164,10 @@ imageOf input = stored input (wordAt input (wordsAt input)) (wordsAt input + 2) 
 
 unfoldable pub linesOf : List ℕ → List ℕ
 linesOf input = listed input (wordAt input (linesAt input)) (linesAt input + 2) 0 (replicate 4096 0)
+
+-- the job's line words, without the unused rest of the line buffer
+unfoldable pub lineWords : List ℕ → List ℕ
+lineWords input = take (wordAt input (linesAt input)) (linesOf input)
 
 -- the buffers and the number of line words of an accepted job
 pub record Filled (input image map lines : List ℕ) (count : ℕ) : Type 0 where

@@ -1,10 +1,12 @@
 // Reads a job: three sections, each after its count, and perhaps a fourth. First the whole input is checked, then the lent buffers are filled.
 use refusal::number;
+use words::byte_at;
+use words::word_at;
 ghost use mathlib.Core.Path.{_≡_};
 ghost use Prim.Native.Nat.{_+_, _≤_, _<_};
 ghost use lib.ListN.{length, getD, set, replicate};
 ghost use Rattle.job.specs.Job as Spec;
-ghost use Rattle.job.specs.Job.{byteAt, wordAt, sections, sizeOf, mostOf, overOf, keyAt, note, whyPage, whyAddress, whyLine, whyKey, whyEntry, whyCount, whyLeft, whyJob, noted, stored, listed, Filled, whyRead, pageOf, after, jobOf};
+ghost use Rattle.job.specs.Job.{sections, sizeOf, mostOf, overOf, keyAt, note, whyPage, whyAddress, whyLine, whyKey, whyEntry, whyCount, whyLeft, whyJob, noted, stored, listed, Filled, whyRead, pageOf, after, jobOf};
 
 // What the job reader answers: how many line words there are, or why the job is refused.
 pub enum Answer {
@@ -77,25 +79,6 @@ fn over(s: Section) -> u8
         Section::Lines => number::MANY_LINES,
         Section::ReadOnly => number::MANY_PAGES,
     }
-}
-
-// The byte at a place of the input, 0 past its end.
-fn byte_at(input: &[u8], at: usize) -> u8
-    ensures { λ r. ⌜ r ≡ byteAt (now (input .entry)) at ⌝ }
-{
-    if at < input.len() { input[at] } else { 0 }
-}
-
-// The word at a place of the input, low byte first; bytes past its end are 0.
-fn word_at(input: &[u8], at: usize) -> u16
-    ensures { λ r. ⌜ r ≡ wordAt (now (input .entry)) at ⌝ }
-{
-    if input.len() <= at {
-        return 0;
-    }
-    let low = byte_at(input, at);
-    let high = byte_at(input, at + 1);
-    low as u16 + high as u16 * 256
 }
 
 // What an entry's checks look at: the page, the address or the line word.

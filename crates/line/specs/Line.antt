@@ -10,13 +10,15 @@ use Rattle.letters.specs.Over.{over}
 use Rattle.line.specs.declared.Place.{Place}
 use Rattle.line.specs.declared.Place.the-variants.{At, Nowhere}
 
--- four letters
-abbrev pub four : ℕ → ℕ → ℕ → ℕ → List ℕ
-four a b c d = a ∷ b ∷ c ∷ d ∷ []
+abbrev pub space : List ℕ
+space = 32 ∷ []
+
+abbrev pub dashes : List ℕ
+dashes = 45 ∷ 45 ∷ 45 ∷ 45 ∷ []
 
 -- four digits and a space
 unfoldable pub field : ℕ → List ℕ
-field x = hex4 x ++ (32 ∷ [])
+field x = hex4 x ++ space
 
 -- the first n of the values, one field after the other
 unfoldable pub fields : List ℕ → ℕ → List ℕ
@@ -25,12 +27,12 @@ fields values (suc n) = fields values n ++ field (getD values n 0)
 
 -- one digit and a space
 unfoldable pub modeText : ℕ → List ℕ
-modeText mode = hexOf (mode % 16) ∷ 32 ∷ []
+modeText mode = hexOf (mode % 16) ∷ space
 
 -- the first blank's place, or ----
 unfoldable pub placeText : Place → List ℕ
 placeText (At x) = hex4 x
-placeText Nowhere = four 45 45 45 45
+placeText Nowhere = dashes
 
 -- PS has bits 15 and 14 clear
 unfoldable pub lineText : List ℕ → ℕ → ℕ → ℕ → Place → List ℕ

@@ -1,9 +1,10 @@
 // The one line that bench prints, written into a lent text buffer from plain numbers.
 use letters::hex;
+use letters::put_hex4;
 ghost use mathlib.Core.Path.{_≡_};
 ghost use Prim.Native.Nat.{_+_, _*_, _≤_, _<_};
 ghost use lib.ListN.{length};
-ghost use Rattle.line.specs.Line.{field, four, fields, modeText, placeText, lineText, name, decimal, refusedText, left, written};
+ghost use Rattle.line.specs.Line.{space, dashes, field, fields, modeText, placeText, lineText, name, decimal, refusedText, left, written};
 ghost use Rattle.letters.specs.Over.{Wrote, WroteAt};
 
 // Where the first blank was: a place in the list of line words, or none.
@@ -12,17 +13,29 @@ pub enum Place {
     Nowhere,
 }
 
+// A space, and the same in its place of the text.
+fn put_space(out: &mut [u8]) -> usize
+    requires { ⌜ 1 ≤ length (now out) ⌝ }
+    ensures { λ n. ⌜ Wrote space (now (out .entry)) (now (out .exit)) n ⌝ }
+{
+    out[0] = b' ';
+    1
+}
+
+fn space_at(text: &mut [u8], at: usize) -> usize
+    requires { ⌜ at + 1 ≤ length (now text) ⌝ }
+    ensures { λ n. ⌜ WroteAt at space (now (text .entry)) (now (text .exit)) n ⌝ }
+{
+    at + put_space(&mut text[at..])
+}
+
 // Four hex digits and a space.
 fn put_field(out: &mut [u8], x: u16) -> usize
     requires { ⌜ 5 ≤ length (now out) ⌝ }
     ensures { λ n. ⌜ Wrote (field x) (now (out .entry)) (now (out .exit)) n ⌝ }
 {
-    out[0] = hex(x / 4096);
-    out[1] = hex(x / 256 % 16);
-    out[2] = hex(x / 16 % 16);
-    out[3] = hex(x % 16);
-    out[4] = b' ';
-    5
+    let n = put_hex4(out, x);
+    space_at(out, n)
 }
 
 // The mode's digit and a space.
@@ -35,15 +48,15 @@ fn put_mode(out: &mut [u8], mode: u8) -> usize
     2
 }
 
-// Four characters.
-fn put_four(out: &mut [u8], a: u8, b: u8, c: u8, d: u8) -> usize
+// Four dashes.
+fn put_dashes(out: &mut [u8]) -> usize
     requires { ⌜ 4 ≤ length (now out) ⌝ }
-    ensures { λ n. ⌜ Wrote (four a b c d) (now (out .entry)) (now (out .exit)) n ⌝ }
+    ensures { λ n. ⌜ Wrote dashes (now (out .entry)) (now (out .exit)) n ⌝ }
 {
-    out[0] = a;
-    out[1] = b;
-    out[2] = c;
-    out[3] = d;
+    out[0] = b'-';
+    out[1] = b'-';
+    out[2] = b'-';
+    out[3] = b'-';
     4
 }
 
@@ -53,14 +66,8 @@ fn put_place(out: &mut [u8], place: Place) -> usize
     ensures { λ n. ⌜ Wrote (placeText place) (now (out .entry)) (now (out .exit)) n ⌝ }
 {
     match place {
-        Place::At(x) => put_four(
-            out,
-            hex(x / 4096),
-            hex(x / 256 % 16),
-            hex(x / 16 % 16),
-            hex(x % 16),
-        ),
-        Place::Nowhere => put_four(out, b'-', b'-', b'-', b'-'),
+        Place::At(x) => put_hex4(out, x),
+        Place::Nowhere => put_dashes(out),
     }
 }
 

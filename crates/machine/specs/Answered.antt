@@ -10,11 +10,14 @@ use Rattle.step.specs.declared.Cause.the-variants as Cause
 use Rattle.step.specs.Step.{after, stepOf, powerUpOf}
 use Rattle.refusal.specs.Page.{Page, refused, answered, unless, apart, answered-one}
 use Rattle.refusal.specs.Refusal.{boardRefusal, stepRefusal, runRefusal}
-use Rattle.machine.specs.Numbers.{StatePage, statePage, TurnPage, RanPage, placeOf}
-use Rattle.machine.specs.Run.{runOf}
+use Rattle.machine.specs.declared.Ran.{Ran}
+use Rattle.machine.specs.declared.Finished.the-variants as Finished
+use Rattle.machine.specs.Numbers.{StatePage, statePage, TurnPage, RanPage, ranPage, placeOf}
+use Rattle.machine.specs.Run.{End, end, runOf, ranOf}
 use Rattle.machine.specs.Trail.{trailOf, lastOf, blanksIn, firstIn}
 use Rattle.machine.specs.Counted.{run-trail}
-use Rattle.machine.specs.Entry.{powerUpPage, Left, left, turned, stepPage, ended, runPage}
+use Rattle.machine.specs.Back.{ran-one}
+use Rattle.machine.specs.Entry.{powerUpPage, Left, left, turned, stepPage, finishedPage, ended, runPage}
 
 -- what is right where nothing is refused
 taken : {A : Type 0} (why : ℕ) {p : A} (m : List ℕ) {m′ : List ℕ} (x : Left A) → left (answered p) m′ ≡ unless why x (left (refused why) m)
@@ -48,3 +51,17 @@ module _ (settings : Settings) (m map lines : List ℕ) (s : State) {p : RanPage
   run-answer e =
       let h = taken (runRefusal (length m) map lines) m (ended (runOf settings map lines s m)) e in
       (h .0, h .1 ∙ ap ended (run-trail settings map lines s m Cause.Nothing))
+
+-- the same in the program's own terms
+pub run-done : (settings : Settings) (m map lines : List ℕ) (s : State) (a : Ran) (m′ : List ℕ) → left (finishedPage (Finished.Done a)) m′ ≡ runPage settings m map lines s
+    → (runRefusal (length m) map lines ≡ 0) × (ranOf a m′ ≡ runOf settings map lines s m)
+unfolding runPage
+run-done settings m map lines s a m′ e =
+    let h = taken (runRefusal (length m) map lines) m (ended (runOf settings map lines s m)) e in
+    (h .0, at (runOf settings map lines s m) (h .1))
+  where
+    at : (x : End) → left (answered (ranPage a)) m′ ≡ ended x → ranOf a m′ ≡ x
+    at (end t k y) e =
+        let same : a ≡ record { state = t; tally = y } = ran-one a (record { state = t; tally = y }) (answered-one (ap (λ z. z .page) e)) in
+        let image : m′ ≡ k = ap (λ z. z .image) e in
+        rw (same, image)

@@ -7,9 +7,9 @@
 use libc::STDIN_FILENO;
 use libc::STDOUT_FILENO;
 use std::num::wrapping_add_u64;
-use text::byte_at;
 use text::find;
 use vector::tried;
+use words::byte_at;
 
 mod place;
 mod text;

@@ -1,8 +1,10 @@
 // What a vector sets and looks at: words of the image, and the bytes of a state as c/hitchbriar.h lays them out.
 use super::text::NO_NUMBER;
-use super::text::byte_at;
 use super::text::hex;
 use libc::STDOUT_FILENO;
+use words::byte_at;
+use words::high;
+use words::low;
 
 pub enum Place {
     // A word of the image.
@@ -71,13 +73,13 @@ fn byte(buffer: &mut [u8], at: usize, value: u8, wanted: bool) -> bool {
 
 // The same of the low byte of a value and of its high byte.
 pub(crate) fn word(buffer: &mut [u8], at: u16, value: u16, wanted: bool) -> bool {
-    let low = byte(buffer, at as usize, (value % 256) as u8, wanted);
-    let high = byte(buffer, at as usize + 1, (value / 256) as u8, wanted);
-    low & high
+    let first = byte(buffer, at as usize, low(value), wanted);
+    let second = byte(buffer, at as usize + 1, high(value), wanted);
+    first & second
 }
 
 // A value of one byte.
 pub(crate) fn small(buffer: &mut [u8], at: u16, value: u16, wanted: bool) -> bool {
-    let low = byte(buffer, at as usize, (value % 256) as u8, wanted);
-    low & (value < 256)
+    let right = byte(buffer, at as usize, low(value), wanted);
+    right & (value < 256)
 }

@@ -5,11 +5,6 @@ ghost use lib.ListN.{length};
 // What is no number of the table. It is even.
 pub const NO_NUMBER: u32 = 0x1_0000;
 
-// The byte at a place, or 0.
-pub(crate) fn byte_at(text: &[u8], at: usize) -> u8 {
-    if at < text.len() { text[at] } else { 0 }
-}
-
 // The place of the next mark, or the end of the text.
 pub(crate) fn find(text: &[u8], from: usize, mark: u8) -> usize
     requires { ⌜ from ≤ length (now text) ⌝ }

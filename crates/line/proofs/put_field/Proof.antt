@@ -1,40 +1,25 @@
-use Rattle.letters.specs.Laid.{wrote-sets}
+use Rattle.letters.specs.Laid.{then}
 use Rattle.letters.specs.Digits.{hex4}
 use Rattle.line.specs.Line.{field}
-use lib.ListN.{length-set}
 use native.Mathlib.Omega.{arith}
+use mathlib.Core.Path.{_∙_}
 use borrow.Author.Needs.{needs}
 use Rattle.line.proofs.put_field.Statement.{statement}
 use Rattle.line.proofs.put_field.Tie as tie
 
-slice-write-out-2 : tie.Need-slice-write-out-2
-slice-write-out-2 c = simp length-set (omega arith)
+put-hex4-requires : tie.Need-put-hex4-requires
+put-hex4-requires c κs = omega arith
 
-slice-write-out-3 : tie.Need-slice-write-out-3
-slice-write-out-3 c = simp length-set (omega arith)
+space-at-requires : tie.Need-space-at-requires
+unfolding hex4
+space-at-requires c κs = omega (arith, c .before .before .before .put-hex4 .kept .0, c .before .before .before .put-hex4 .ensures .count)
 
-slice-write-out-4 : tie.Need-slice-write-out-4
-slice-write-out-4 c = simp length-set (omega arith)
+same-length : tie.Need-same-length
+same-length c = c .before .before .space-at .kept .0 ∙ c .before .before .before .before .before .before .put-hex4 .kept .0
 
 returns : tie.Need-returns
-unfolding field hex4
-returns c =
-    let a = c .before .before .before .before .before .args in
-    rw (c .before .before .before .hex .ensures, c .before .before .hex2 .ensures, c .before .hex3 .ensures, c .hex4 .ensures)
-    (wrote-sets (field (a .x)) (a .out .now) (omega arith))
+unfolding field
+returns c = then _ _ _ _ _ _ _ (c .before .before .before .before .before .before .put-hex4 .ensures) (c .before .before .space-at .ensures)
 
 pub put-field-spec : {M : Type 1} → statement M
-put-field-spec =
-    tie.close
-    (tie.spec
-    (λ c κs. search needs)
-    (λ c. search needs)
-    (λ c κs. search needs)
-    slice-write-out-2
-    (λ c κs. search needs)
-    slice-write-out-3
-    (λ c κs. search needs)
-    slice-write-out-4
-    (λ c. search needs)
-    (λ c. search needs)
-    returns)
+put-field-spec = tie.close (tie.spec put-hex4-requires space-at-requires same-length returns)

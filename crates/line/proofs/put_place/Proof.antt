@@ -1,26 +1,21 @@
-use Rattle.letters.specs.Digits.{hex4}
 use Rattle.line.specs.Line.{placeText}
 use borrow.Author.Needs.{needs}
 use Rattle.line.proofs.put_place.Statement.{statement}
 use Rattle.line.proofs.put_place.Tie as tie
 
 returns : tie.Need-returns
-unfolding placeText hex4
-returns c = rw (c .before .before .before .before .before .before .before .before .before .place .given .1, ← c .before .before .before .before .before .before .hex .ensures, ← c .before .before .before .before .before .hex2 .ensures, ← c .before .before .before .before .hex3 .ensures, ← c .before .before .before .hex4 .ensures) (c .before .before .put-four .ensures)
+unfolding placeText
+returns c = rw (c .before .before .before .before .before .place .given .1) (c .before .before .put-hex4 .ensures)
 
 returns-2 : tie.Need-returns-2
 unfolding placeText
-returns-2 c = rw (c .before .before .before .before .enum-told .given .1) (c .before .before .put-four2 .ensures)
+returns-2 c = rw (c .before .before .before .before .enum-told .given .1) (c .before .before .put-dashes .ensures)
 
 pub put-place-spec : {M : Type 1} → statement M
 put-place-spec =
     tie.close
     (tie.spec
     (λ c. search needs)
-    (λ c κs. search needs)
-    (λ c κs. search needs)
-    (λ c κs. search needs)
-    (λ c κs. search needs)
     (λ c κs. search needs)
     (λ c. search needs)
     (λ c κs. search needs)

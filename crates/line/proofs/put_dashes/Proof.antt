@@ -1,10 +1,10 @@
 use Rattle.letters.specs.Laid.{wrote-sets}
-use Rattle.line.specs.Line.{four}
+use Rattle.line.specs.Line.{dashes}
 use lib.ListN.{length-set}
 use native.Mathlib.Omega.{arith}
 use borrow.Author.Needs.{needs}
-use Rattle.line.proofs.put_four.Statement.{statement}
-use Rattle.line.proofs.put_four.Tie as tie
+use Rattle.line.proofs.put_dashes.Statement.{statement}
+use Rattle.line.proofs.put_dashes.Tie as tie
 
 slice-write-out-2 : tie.Need-slice-write-out-2
 slice-write-out-2 c = simp length-set (omega arith)
@@ -13,10 +13,10 @@ slice-write-out-3 : tie.Need-slice-write-out-3
 slice-write-out-3 c = simp length-set (omega arith)
 
 returns : tie.Need-returns
-returns c = wrote-sets (four (c .args .a) (c .args .b) (c .args .c) (c .args .d)) (c .args .out .now) (omega arith)
+returns c = wrote-sets dashes (c .args .out .now) (omega arith)
 
-pub put-four-spec : {M : Type 1} → statement M
-put-four-spec =
+pub put-dashes-spec : {M : Type 1} → statement M
+put-dashes-spec =
     tie.close
     (tie.spec
     (λ c. search needs)
