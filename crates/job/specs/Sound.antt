@@ -13,7 +13,7 @@ use Rattle.refusal.specs.Numbers.{imageLength, mapLength, linesLength, manyLine
 use Rattle.refusal.specs.Page.{first, first-both}
 use Rattle.refusal.specs.Refusal.{allOf, flat, plain, boardRefusal, linesRefusal, runRefusal}
 use Rattle.job.specs.declared.Section.the-variants as section
-use Rattle.job.specs.Job.{sections, sizeOf, keyAt, note, cut, next, whyEntry, whyEntries, noted, whyCount, whyLeft, whySections, whyJob, stored, listed, wordsAt, linesAt, imageOf, mapOf, linesOf, lineWords, whyRead}
+use Rattle.job.specs.Job.{sections, sizeOf, keyAt, note, cut, next, whyEntry, whyEntries, noted, whyCount, whyLeft, whySections, whyJob, stored, listed, marked, readOnlyAt, wordsAt, linesAt, imageOf, mapOf, linesOf, lineWords, whyRead}
 
 -- ---- a test that every element passes
 
@@ -45,15 +45,15 @@ all-same p (suc n) v h = all-cons p v (replicate n v) h (all-same p n v h)
 -- ---- the three buffers
 
 module _ (input : List ℕ) where
-  noted-flat : (n at : ℕ) (map : List ℕ) → allOf flat map ≡ true → allOf flat (noted section.Pages input n at map) ≡ true
-  unfolding noted
-  noted-flat zero at map e = e
-  noted-flat (suc n) at map e = noted-flat n (at + 1) (set map (byteAt input at) 1) (all-set flat map (byteAt input at) 1 refl e)
+  marked-flat : (value : ℕ) → flat value ≡ true → (n at : ℕ) (map : List ℕ) → allOf flat map ≡ true → allOf flat (marked value input n at map) ≡ true
+  unfolding marked
+  marked-flat value f zero at map e = e
+  marked-flat value f (suc n) at map e = marked-flat value f n (at + 1) (set map (byteAt input at) value) (all-set flat map (byteAt input at) value f e)
 
-  noted-length : (n at : ℕ) (map : List ℕ) → length (noted section.Pages input n at map) ≡ length map
-  unfolding noted
-  noted-length zero at map = refl
-  noted-length (suc n) at map = noted-length n (at + 1) (set map (byteAt input at) 1) ∙ length-set map (byteAt input at) 1
+  marked-length : (value n at : ℕ) (map : List ℕ) → length (marked value input n at map) ≡ length map
+  unfolding marked
+  marked-length value zero at map = refl
+  marked-length value (suc n) at map = marked-length value n (at + 1) (set map (byteAt input at) value) ∙ length-set map (byteAt input at) value
 
   stored-length : (n at : ℕ) (image : List ℕ) → length (stored input n at image) ≡ length image
   unfolding stored
@@ -115,9 +115,12 @@ module _ (input : List ℕ) where
   board-taken =
       rw (
         eq-eqb _ _ (stored-length (wordAt input (wordsAt input)) (wordsAt input + 2) (replicate 65536 0) ∙ length-replicate {A = ℕ} 65536 0),
-        eq-eqb _ _ (noted-length (wordAt input 0) 2 (replicate 256 0) ∙ length-replicate {A = ℕ} 256 0),
-        noted-flat (wordAt input 0) 2 (replicate 256 0) (all-same flat 256 0 refl),
+        eq-eqb _ _ (marked-length 2 (wordAt input (readOnlyAt input)) (readOnlyAt input + 2) pages ∙ marked-length 1 (wordAt input 0) 2 (replicate 256 0) ∙ length-replicate {A = ℕ} 256 0),
+        marked-flat 2 refl (wordAt input (readOnlyAt input)) (readOnlyAt input + 2) pages (marked-flat 1 refl (wordAt input 0) 2 (replicate 256 0) (all-same flat 256 0 refl)),
       )
+    where
+      pages : List ℕ
+      pages = marked 1 input (wordAt input 0) 2 (replicate 256 0)
 
   pub job-taken : (image map lines : ℕ) → whyRead image map lines input ≡ 0
       → (wordAt input (linesAt input) ≤ length (linesOf input)) × (runRefusal (length (imageOf input)) (mapOf input) (lineWords input) ≡ 0)
