@@ -12,7 +12,7 @@ use lib.Dec.{ltb, leb, eqb, eqb→eq, leb→le, ltb→lt}
 use borrow.Author.Tests.{eq-eqb, ne-eqb, lt-ltb, le-ltb}
 use lib.ListN.{length, getD}
 use Rattle.optext.specs.declared.rows.Kind.{Kind}
-use Rattle.optext.specs.declared.rows.Kind.the-variants.{None, Mask, Disp, Reg, Arg4, Arg6, Count, High, Dst, Addr, Src, Word}
+use Rattle.optext.specs.declared.rows.Kind.the-variants.{None, Mask, Disp, Reg, Arg4, Arg6, Count, High, Mid, Dst, Addr, Src, Word}
 use Rattle.letters.specs.Digits.{digits, hexOf, hex4, hex2}
 use Rattle.optext.specs.Digits.{unHex, unHex4, unHex2}
 use Rattle.optext.specs.Line.{reservedFrom, registers, regA, regB, regText, upText, literalText, downText, offsetText, plainText, modeText, modeTakes, operandText, takes, fieldOf}
@@ -135,6 +135,7 @@ wordOf Arg4 w x = 0
 wordOf Arg6 w x = 0
 wordOf Count w x = 0
 wordOf High w x = 0
+wordOf Mid w x = 0
 wordOf Dst w x = modeWord (w % 64) x
 wordOf Addr w x = modeWord (w % 64) x
 wordOf Src w x = modeWord (w / 64 % 64) x
@@ -153,6 +154,7 @@ op-back Arg6 w x t g l =
     ap (λ (y : ℕ). op y 0 2) (ap (λ (y : ℕ). y % 64) e ∙ omega arith)
 op-back Count w x t g l = ap (λ (y : ℕ). op y 0 2) (count-back (w % 16) t (omega arith))
 op-back High w x t g l = ap (λ (y : ℕ). op (y * 64) 0 2) (reg-back (w / 64 % 8) (omega arith))
+op-back Mid w x t g l = ap (λ (y : ℕ). op (y * 8) 0 2) (reg-back (w / 8 % 8) (omega arith))
 op-back Dst w x t g l = mode-back (w % 64) x t (omega arith) l
 op-back Addr w x t g l = rw (mode-back (w % 64) x t (omega arith) l) refl
 op-back Src w x t g l = ap high (mode-back (w / 64 % 64) x t (omega arith) l)
@@ -181,6 +183,7 @@ op-same Arg4 w x = refl
 op-same Arg6 w x = refl
 op-same Count w x = refl
 op-same High w x = refl
+op-same Mid w x = refl
 op-same Dst w x = mode-same (w % 64) x (omega arith)
 op-same Addr w x = mode-same (w % 64) x (omega arith)
 op-same Src w x = mode-same (w / 64 % 64) x (omega arith)
@@ -216,6 +219,7 @@ word-taken Arg4 w x e = absurd (omega arith)
 word-taken Arg6 w x e = absurd (omega arith)
 word-taken Count w x e = absurd (omega arith)
 word-taken High w x e = absurd (omega arith)
+word-taken Mid w x e = absurd (omega arith)
 word-taken Dst w x e = mode-taken (w % 64) x e
 word-taken Addr w x e = mode-taken (w % 64) x e
 word-taken Src w x e = mode-taken (w / 64 % 64) x e
@@ -230,6 +234,7 @@ word-none Arg4 w x e = refl
 word-none Arg6 w x e = refl
 word-none Count w x e = refl
 word-none High w x e = refl
+word-none Mid w x e = refl
 word-none Dst w x e = mode-none (w % 64) x e
 word-none Addr w x e = mode-none (w % 64) x e
 word-none Src w x e = mode-none (w / 64 % 64) x e

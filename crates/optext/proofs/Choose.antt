@@ -46,6 +46,14 @@ pub both-right : (a b : Bool) → T (both a b) → T b
 both-right true b t = t
 both-right false b t = absurd t
 
+abbrev pub either : Bool → Bool → Bool
+either true b = true
+either false b = b
+
+pub either-elim : (a b : Bool) (P : Type 0) → (T a → P) → (T b → P) → T (either a b) → P
+either-elim true b P f g t = f tt
+either-elim false b P f g t = g t
+
 abbrev pub allBelow : (ℕ → Bool) → ℕ → Bool
 allBelow f zero = true
 allBelow f (suc n) = both (f n) (allBelow f n)

@@ -10,7 +10,7 @@ use lib.Dec.{eqb}
 use borrow.Author.Tests.{ne-eqb}
 use lib.ListN.{length}
 use Rattle.optext.specs.declared.rows.Kind.{Kind}
-use Rattle.optext.specs.declared.rows.Kind.the-variants.{None, Mask, Disp, Reg, Arg4, Arg6, Count, High, Dst, Addr, Src, Word}
+use Rattle.optext.specs.declared.rows.Kind.the-variants.{None, Mask, Disp, Reg, Arg4, Arg6, Count, High, Mid, Dst, Addr, Src, Word}
 use Rattle.letters.specs.Digits.{hex4, hex2}
 use Rattle.optext.specs.Line.{regText, upText, literalText, downText, offsetText, plainText, modeText, modeTakes, operandText, takes, isShown, sepText}
 
@@ -77,6 +77,7 @@ operand-le Arg4 w x = omega arith
 operand-le Arg6 w x = omega arith
 operand-le Count w x = omega arith
 operand-le High w x = omega arith
+operand-le Mid w x = omega arith
 operand-le Dst w x = mode-le (w % 64) x
 operand-le Addr w x = mode-le (w % 64) x
 operand-le Src w x = mode-le (w / 64 % 64) x
@@ -106,6 +107,7 @@ takes-le Arg4 w = omega arith
 takes-le Arg6 w = omega arith
 takes-le Count w = omega arith
 takes-le High w = omega arith
+takes-le Mid w = omega arith
 takes-le Dst w = mode-takes-le (w % 64)
 takes-le Addr w = mode-takes-le (w % 64)
 takes-le Src w = mode-takes-le (w / 64 % 64)

@@ -7,7 +7,7 @@ use Prim.Native.Char.{code}
 use lib.Dec.{ltb, leb, eqb}
 use lib.ListN.{getD}
 use Rattle.optext.specs.declared.rows.Kind.{Kind}
-use Rattle.optext.specs.declared.rows.Kind.the-variants.{None, Mask, Disp, Reg, Arg4, Arg6, Count, High, Dst, Addr, Src, Word}
+use Rattle.optext.specs.declared.rows.Kind.the-variants.{None, Mask, Disp, Reg, Arg4, Arg6, Count, High, Mid, Dst, Addr, Src, Word}
 use Rattle.optext.specs.First.{firstFrom}
 use Rattle.letters.specs.Digits.{letters, hexOf, hex4, hex2}
 use Rattle.optext.specs.Rows.{wordRow, baseOf, firstOf, secondOf, nameOf}
@@ -63,6 +63,7 @@ operandText Arg4 w x = hexOf (w % 16) ∷ []
 operandText Arg6 w x = hex2 (w % 64)
 operandText Count w x = hex2 (w % 16 + 1)
 operandText High w x = regText (w / 64 % 8)
+operandText Mid w x = regText (w / 8 % 8)
 operandText Dst w x = modeText (w % 64) x
 operandText Addr w x = modeText (w % 64) x
 operandText Src w x = modeText (w / 64 % 64) x
@@ -77,6 +78,7 @@ takes Arg4 w = 0
 takes Arg6 w = 0
 takes Count w = 0
 takes High w = 0
+takes Mid w = 0
 takes Dst w = modeTakes (w % 64)
 takes Addr w = modeTakes (w % 64)
 takes Src w = modeTakes (w / 64 % 64)
@@ -86,17 +88,16 @@ takes Word w = 0
 unfoldable pub addressed : ℕ → ℕ
 addressed f = cond (ltb f 8) 8 f
 
--- reserved and illegal first words: formats 8 (0E, 0F) and 11 (F0 to FF), and JSR and LEA (70 to 73) with mode 0
+-- reserved and illegal first words: format 11 (F0 to FF), and JSR and LEA (70 to 73) with mode 0
 unfoldable pub isReserved : ℕ → Bool
-isReserved w = cond (eqb (w / 512) 7) true (cond (leb 240 (w / 256)) true (cond (eqb (w / 1024) 28) (eqb (w / 8 % 8) 0) false))
+isReserved w = cond (leb 240 (w / 256)) true (cond (eqb (w / 1024) 28) (eqb (w / 8 % 8) 0) false)
 
 -- a word that .WORD may hold: x, or one that begins with as many of its digits as any does
 unfoldable pub reservedFrom : ℕ → ℕ
 reservedFrom x =
     cond (isReserved x) x
-    (cond (eqb (x / 4096) 0) 0x0E00
     (cond (eqb (x / 1024) 28) (cond (eqb (x / 16 % 4) 0) (x / 16 * 16) (x / 256 * 256))
-    (cond (eqb (x / 4096) 7) 0x7000 0xF000)))
+    (cond (eqb (x / 4096) 7) 0x7000 0xF000))
 
 -- the bits of the first word that the operand stands for; of JSR and LEA with mode 0 they are not what the word has
 abbrev pub fieldOf : Kind → ℕ → ℕ
@@ -108,6 +109,7 @@ fieldOf Arg4 w = w % 16
 fieldOf Arg6 w = w % 64
 fieldOf Count w = w % 16
 fieldOf High w = w / 64 % 8 * 64
+fieldOf Mid w = w / 8 % 8 * 8
 fieldOf Dst w = w % 64
 fieldOf Addr w = addressed (w % 64)
 fieldOf Src w = w / 64 % 64 * 64
@@ -130,6 +132,7 @@ isShown Arg4 = true
 isShown Arg6 = true
 isShown Count = true
 isShown High = true
+isShown Mid = true
 isShown Dst = true
 isShown Addr = true
 isShown Src = true
@@ -138,9 +141,13 @@ isShown Word = true
 unfoldable pub sepText : ℕ → Kind → ℕ → ℕ → List ℕ
 sepText s k w x = cond (isShown k) (s ∷ operandText k w x) []
 
--- the line of the words w, x and y, where x and y are the first and the second operand's own words
+-- the line of the first word w in the row k, where x and y are the first and the second operand's own words
+abbrev pub rowText : ℕ → ℕ → ℕ → ℕ → List ℕ
+rowText k w x y = (nameOf k ++ sepText (code " ") (firstOf k) w x) ++ sepText (code ",") (secondOf k) w y
+
+-- the line in the word's own row
 unfoldable pub lineText : ℕ → ℕ → ℕ → List ℕ
-lineText w x y = (nameOf (rowOf w) ++ sepText (code " ") (firstOf (rowOf w)) w x) ++ sepText (code ",") (secondOf (rowOf w)) w y
+lineText w x y = rowText (rowOf w) w x y
 
 -- the number of words of an op code, and the text of the op code that begins a list of words
 unfoldable pub taken : ℕ → ℕ

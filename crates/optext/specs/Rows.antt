@@ -2,13 +2,13 @@
 -- Assumes nothing.
 use mathlib.Core.Bool.{cond}
 use mathlib.Core.List.{List, [], _∷_, _++_}
-use Prim.Native.Nat.{ℕ}
+use Prim.Native.Nat.{ℕ, _-_}
 use Prim.Native.Char.{code}
 use Prim.Native.String.{String}
 use lib.Dec.{eqb}
 use lib.ListN.{getD}
 use Rattle.optext.specs.declared.rows.Kind.{Kind}
-use Rattle.optext.specs.declared.rows.Kind.the-variants.{None, Mask, Disp, Reg, Arg4, Arg6, Count, High, Dst, Addr, Src, Word}
+use Rattle.optext.specs.declared.rows.Kind.the-variants.{None, Mask, Disp, Reg, Arg4, Arg6, Count, High, Mid, Dst, Addr, Src, Word}
 use Rattle.letters.specs.Digits.{letters, hex4}
 
 -- the operands are in the order of the manual's FORMAT
@@ -22,11 +22,11 @@ abbrev pub row : String → ℕ → Kind → Kind → Row
 row n b f s = record { name = letters n; base = b; first = f; second = s }
 
 abbrev pub rowCount : ℕ
-rowCount = 104
+rowCount = 112
 
 -- the last row, for a word that no other row makes
 abbrev pub wordRow : ℕ
-wordRow = 103
+wordRow = rowCount - 1
 
 unfoldable pub rows : List Row
 rows =
@@ -120,6 +120,15 @@ rows =
     ∷ row "SSTS" 0x8D40 Dst None
     ∷ row "ADC" 0x8D80 Dst None
     ∷ row "SBC" 0x8DC0 Dst None
+    -- Format 8: the source and the destination register of a block move.
+    ∷ row "MBWU" 0x0E00 Mid Reg
+    ∷ row "MBWD" 0x0E40 Mid Reg
+    ∷ row "MBBU" 0x0E80 Mid Reg
+    ∷ row "MBBD" 0x0EC0 Mid Reg
+    ∷ row "MBWA" 0x0F00 Mid Reg
+    ∷ row "MBBA" 0x0F40 Mid Reg
+    ∷ row "MABW" 0x0F80 Mid Reg
+    ∷ row "MABB" 0x0FC0 Mid Reg
     -- Format 9: REG,DST; JSR and LEA have no mode 0; SOB has an offset.
     ∷ row "JSR" 0x7000 High Addr
     ∷ row "LEA" 0x7200 High Addr
@@ -177,6 +186,7 @@ letterOf Arg4 = code "4"
 letterOf Arg6 = code "6"
 letterOf Count = code "N"
 letterOf High = code "H"
+letterOf Mid = code "B"
 letterOf Dst = code "D"
 letterOf Addr = code "J"
 letterOf Src = code "S"
@@ -191,11 +201,12 @@ kindAs c =
     (cond (eqb c (code "6")) Arg6
     (cond (eqb c (code "N")) Count
     (cond (eqb c (code "H")) High
+    (cond (eqb c (code "B")) Mid
     (cond (eqb c (code "D")) Dst
     (cond (eqb c (code "J")) Addr
     (cond (eqb c (code "S")) Src
     (cond (eqb c (code "W")) Word
-    None))))))))))
+    None)))))))))))
 
 abbrev pub lineOf : Row → List ℕ
 lineOf r =

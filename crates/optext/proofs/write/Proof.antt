@@ -3,7 +3,7 @@ use Prim.Native.Nat.{_+_}
 use native.Mathlib.Omega.{arith}
 use lib.ListN.{getD}
 use Rattle.optext.specs.Line.{lineText, taken, textOf}
-use Rattle.optext.proofs.Meets.{writes-8, writes-6, writes-7, writes-line}
+use Rattle.optext.proofs.Meets.{writes-8, writes-6, writes-7, writes-line, own-row}
 use Rattle.optext.proofs.Forms.{takes-le}
 use borrow.Author.Needs.{needs}
 use Rattle.optext.proofs.write.Statement.{statement}
@@ -38,7 +38,7 @@ returns-4 c =
     let p : lineText (getD (a .words .now) 0 0) (c .before .before .before .before .before .word-at .result) (c .before .before .before .before .word-at2 .result) ≡ textOf (a .words .now) =
     rw (c .before .before .before .before .before .word-at .ensures, c .before .before .before .before .word-at2 .ensures, c .before .before .before .before .before .before .before .before .before .takes-of .ensures, c .before .before .before .before .before .before .before .before .before .before .first .ensures, c .before .before .before .before .before .before .before .before .before .before .before .row-of .ensures .0) refl in
     writes-line (a .words .now) (a .text .now) (c .before .before .put-line .last .0) (c .before .before .put-line .result) _ (c .before .before .before .before .before .before .before .before .before .before .before .before .before .before .if1 .left) (c .before .before .before .before .before .before .before .before .before .before .before .before .before .if2 .left) (omega (arith, q, c .before .before .before .before .before .before .if3 .left))
-    (rw p at (c .before .before .put-line .ensures)) q
+    (rw p at (own-row _ _ _ _ _ _ _ (c .before .before .before .before .before .before .before .before .before .before .before .row-of .ensures .0) (c .before .before .put-line .ensures))) q
 
 pub write-spec : {M : Type 1} → statement M
 write-spec =

@@ -28,16 +28,19 @@ returns-8 : tie.Need-returns-8
 returns-8 c = (rw (c .before .before .before .before .enum-told8 .given .1, ← c .before .before .before .ch4 .ensures, ← c .before .before .ch5 .ensures, ← c .before .un-reg2 .ensures .0) (c .bits7 .ensures), rw (c .bits7 .ensures) (omega arith))
 
 returns-9 : tie.Need-returns-9
-returns-9 c = (rw (c .before .enum-told9 .given .1) (c .un-mode .ensures .0), omega arith)
+returns-9 c = (rw (c .before .before .before .before .enum-told9 .given .1, ← c .before .before .before .ch6 .ensures, ← c .before .before .ch7 .ensures, ← c .before .un-reg3 .ensures .0) (c .bits8 .ensures), rw (c .bits8 .ensures) (omega arith))
 
 returns-10 : tie.Need-returns-10
-returns-10 c = (rw (c .before .enum-told10 .given .1) (c .un-addr .ensures .0), omega arith)
+returns-10 c = (rw (c .before .enum-told10 .given .1) (c .un-mode .ensures .0), omega arith)
 
 returns-11 : tie.Need-returns-11
-returns-11 c = (rw (c .before .enum-told11 .given .1) (c .un-src .ensures .0), omega arith)
+returns-11 c = (rw (c .before .enum-told11 .given .1) (c .un-addr .ensures .0), omega arith)
 
 returns-12 : tie.Need-returns-12
-returns-12 c = (rw (c .before .before .before .enum-told12 .given .1, ← c .before .before .un-hex4 .ensures, ← c .before .reserved-from .ensures) (c .bits8 .ensures), rw (c .bits8 .ensures) (omega arith))
+returns-12 c = (rw (c .before .enum-told12 .given .1) (c .un-src .ensures .0), omega arith)
+
+returns-13 : tie.Need-returns-13
+returns-13 c = (rw (c .before .before .before .enum-told13 .given .1, ← c .before .before .un-hex4 .ensures, ← c .before .reserved-from .ensures) (c .bits9 .ensures), rw (c .bits9 .ensures) (omega arith))
 
 pub un-operand-spec : {M : Type 1} → statement M
 un-operand-spec =
@@ -73,6 +76,12 @@ un-operand-spec =
     (λ c κs. search needs)
     (λ c. search needs)
     (λ c κs. search needs)
+    (λ c κs. search needs)
+    (λ c κs. search needs)
+    (λ c. search needs)
+    (λ c κs. search needs)
+    (λ c. search needs)
+    (λ c κs. search needs)
     (λ c. search needs)
     (λ c κs. search needs)
     (λ c. search needs)
@@ -92,4 +101,5 @@ un-operand-spec =
     returns-9
     returns-10
     returns-11
-    returns-12)
+    returns-12
+    returns-13)

@@ -25,18 +25,23 @@ returns-9 : tie.Need-returns-9
 returns-9 c = rw (c .enum-told9 .given .1) refl
 
 returns-10 : tie.Need-returns-10
-returns-10 c = rw (c .before .enum-told10 .given .1) (c .address .ensures .0)
+returns-10 c = rw (c .enum-told10 .given .1) refl
 
 returns-11 : tie.Need-returns-11
-returns-11 c = rw (c .enum-told11 .given .1) refl
+returns-11 c = rw (c .before .enum-told11 .given .1) (c .address .ensures .0)
 
 returns-12 : tie.Need-returns-12
-returns-12 c = rw (c .before .enum-told12 .given .1) (c .reserved-from .ensures)
+returns-12 c = rw (c .enum-told12 .given .1) refl
+
+returns-13 : tie.Need-returns-13
+returns-13 c = rw (c .before .enum-told13 .given .1) (c .reserved-from .ensures)
 
 pub field-spec : {M : Type 1} → statement M
 field-spec =
     tie.close
     (tie.spec
+    (λ c. search needs)
+    (λ c. search needs)
     (λ c. search needs)
     (λ c. search needs)
     (λ c. search needs)
@@ -64,4 +69,5 @@ field-spec =
     returns-9
     returns-10
     returns-11
-    returns-12)
+    returns-12
+    returns-13)

@@ -11,23 +11,19 @@ returns c = rw (← c .before .is-reserved .ensures, c .if1 .taken) refl
 
 returns-2 : tie.Need-returns-2
 unfolding reservedFrom
-returns-2 c = rw (← c .before .before .is-reserved .ensures, c .before .if1 .left, eq-eqb _ _ (c .if2 .taken)) refl
+returns-2 c = rw (← c .before .before .before .is-reserved .ensures, c .before .before .if1 .left, eq-eqb _ _ (c .before .if2 .taken), eq-eqb _ _ (c .if3 .taken)) refl
 
 returns-3 : tie.Need-returns-3
 unfolding reservedFrom
-returns-3 c = rw (← c .before .before .before .before .is-reserved .ensures, c .before .before .before .if1 .left, ne-eqb _ _ (c .before .before .if2 .left), eq-eqb _ _ (c .before .if3 .taken), eq-eqb _ _ (c .if4 .taken)) refl
+returns-3 c = rw (← c .before .before .before .is-reserved .ensures, c .before .before .if1 .left, eq-eqb _ _ (c .before .if2 .taken), ne-eqb _ _ (c .if3 .left)) refl
 
 returns-4 : tie.Need-returns-4
 unfolding reservedFrom
-returns-4 c = rw (← c .before .before .before .before .is-reserved .ensures, c .before .before .before .if1 .left, ne-eqb _ _ (c .before .before .if2 .left), eq-eqb _ _ (c .before .if3 .taken), ne-eqb _ _ (c .if4 .left)) refl
+returns-4 c = rw (← c .before .before .before .is-reserved .ensures, c .before .before .if1 .left, ne-eqb _ _ (c .before .if2 .left), eq-eqb _ _ (c .if4 .taken)) refl
 
 returns-5 : tie.Need-returns-5
 unfolding reservedFrom
-returns-5 c = rw (← c .before .before .before .before .is-reserved .ensures, c .before .before .before .if1 .left, ne-eqb _ _ (c .before .before .if2 .left), ne-eqb _ _ (c .before .if3 .left), eq-eqb _ _ (c .if5 .taken)) refl
-
-returns-6 : tie.Need-returns-6
-unfolding reservedFrom
-returns-6 c = rw (← c .before .before .before .before .is-reserved .ensures, c .before .before .before .if1 .left, ne-eqb _ _ (c .before .before .if2 .left), ne-eqb _ _ (c .before .if3 .left), ne-eqb _ _ (c .if5 .left)) refl
+returns-5 c = rw (← c .before .before .before .is-reserved .ensures, c .before .before .if1 .left, ne-eqb _ _ (c .before .if2 .left), ne-eqb _ _ (c .if4 .left)) refl
 
 pub reserved-from-spec : {M : Type 1} → statement M
 reserved-from-spec =
@@ -35,10 +31,9 @@ reserved-from-spec =
     (tie.spec
     (λ c κs. search needs)
     returns
+    (λ c. search needs)
     returns-2
     (λ c. search needs)
     returns-3
-    (λ c. search needs)
     returns-4
-    returns-5
-    returns-6)
+    returns-5)

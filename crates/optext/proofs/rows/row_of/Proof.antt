@@ -5,17 +5,17 @@ use lib.ListN.{length}
 use Rattle.optext.specs.Line.{fitsRow, rowOf, taken}
 use Rattle.optext.proofs.Choose.{first-found, first-next, first-end}
 use Rattle.optext.specs.First.{firstFrom}
-use Rattle.optext.specs.Rows.{rows, flat}
+use Rattle.optext.specs.Rows.{wordRow, rows, flat}
 use Rattle.letters.specs.Digits.{digits, hexOf, hex4}
 use Rattle.optext.proofs.Table.{flat-length}
 use Rattle.optext.proofs.rows.row_of.Statement.{statement}
 use Rattle.optext.proofs.rows.row_of.Tie as tie
 
 abbrev Inv-loop : tie.InvT-loop
-Inv-loop w table i₀ i = (table ≡ flat rows) × (i ≤ 103) × (rowOf w ≡ firstFrom (fitsRow w) (103 - i) i)
+Inv-loop w table i₀ i = (table ≡ flat rows) × (i ≤ wordRow) × (rowOf w ≡ firstFrom (fitsRow w) (wordRow - i) i)
 
 abbrev μ-loop : tie.MeasureT-loop
-μ-loop w table i₀ i = 103 - i
+μ-loop w table i₀ i = wordRow - i
 
 loop-holds : tie.Need-loop-holds Inv-loop μ-loop
 unfolding rowOf rows digits hexOf hex4
@@ -30,7 +30,7 @@ row-fits-requires c κs = (c .before .before .loop .inv .0, omega arith)
 returns : tie.Need-returns Inv-loop μ-loop
 returns c =
     let l = c .before .before .before .before .loop in
-    (first-found (fitsRow (c .before .before .before .before .before .args .w)) 103 (l .i) _ (l .inv .2) (omega arith) (sym (c .before .row-fits .ensures) ∙ c .if1 .taken), omega arith)
+    (first-found (fitsRow (c .before .before .before .before .before .args .w)) wordRow (l .i) _ (l .inv .2) (omega arith) (sym (c .before .row-fits .ensures) ∙ c .if1 .taken), omega arith)
 
 add-i : tie.Need-add-i Inv-loop μ-loop
 add-i c = omega arith
@@ -41,12 +41,12 @@ loop-less c = omega arith
 loop-again : tie.Need-loop-again Inv-loop μ-loop
 loop-again c =
     let l = c .before .before .before .before .loop in
-    (l .inv .0, omega arith, first-next (fitsRow (c .before .before .before .before .before .args .w)) 103 (l .i) _ (l .inv .2) (omega arith) (sym (c .before .row-fits .ensures) ∙ c .if1 .left))
+    (l .inv .0, omega arith, first-next (fitsRow (c .before .before .before .before .before .args .w)) wordRow (l .i) _ (l .inv .2) (omega arith) (sym (c .before .row-fits .ensures) ∙ c .if1 .left))
 
 returns-2 : tie.Need-returns-2 Inv-loop μ-loop
 returns-2 c =
     let l = c .before .loop in
-    (first-end (fitsRow (c .before .before .args .w)) 103 (l .i) _ (l .inv .2) (omega arith), omega arith)
+    (first-end (fitsRow (c .before .before .args .w)) wordRow (l .i) _ (l .inv .2) (omega arith), omega arith)
 
 pub row-of-spec : {M : Type 1} → statement M
 row-of-spec =

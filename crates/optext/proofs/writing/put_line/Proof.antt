@@ -1,7 +1,6 @@
 use mathlib.Core.Path.{_≡_}
 use native.Mathlib.Omega.{arith}
 use lib.ListN.{length}
-use Rattle.optext.specs.Line.{lineText}
 use Rattle.optext.proofs.Table.{name-le}
 use Rattle.optext.proofs.Forms.{sep-le}
 use Rattle.letters.specs.Laid.{then}
@@ -13,20 +12,19 @@ put-at-requires : tie.Need-put-at-requires
 put-at-requires c κs =
     let a = c .before .before .before .before .before .before .before .args in
     let e : length (c .before .before .before .before .put-name .last .0) ≡ length (a .out .now) = c .before .before .before .before .put-name .kept .0 in
-    omega (arith, name-le (a .k) (c .before .before .before .before .before .before .before .pre .2), c .before .before .before .before .put-name .ensures .count, e)
+    omega (arith, name-le (a .k) (c .before .before .before .before .before .before .before .pre .1), c .before .before .before .before .put-name .ensures .count, e)
 
 put-at-requires-2 : tie.Need-put-at-requires-2
 put-at-requires-2 c κs =
     let a = c .before .before .before .before .before .before .before .before .before .before .before .before .args in
     let e : length (c .before .before .before .before .before .before .before .before .before .put-name .last .0) ≡ length (a .out .now) = c .before .before .before .before .before .before .before .before .before .put-name .kept .0 in
     let f : length (c .before .before .before .before .put-at .last .0) ≡ length (c .before .before .before .before .before .before .before .before .before .put-name .last .0) = c .before .before .before .before .put-at .kept .0 in
-    omega (arith, name-le (a .k) (c .before .before .before .before .before .before .before .before .before .before .before .before .pre .2), c .before .before .before .before .before .before .before .before .before .put-name .ensures .count, c .before .before .before .before .put-at .ensures .count, sep-le 32 (c .before .before .before .before .before .first .result) (a .w) (a .x))
+    omega (arith, name-le (a .k) (c .before .before .before .before .before .before .before .before .before .before .before .before .pre .1), c .before .before .before .before .before .before .before .before .before .put-name .ensures .count, c .before .before .before .before .put-at .ensures .count, sep-le 32 (c .before .before .before .before .before .first .result) (a .w) (a .x))
 
 returns : tie.Need-returns
-unfolding lineText
 returns c =
     let a = c .before .before .before .before .before .before .before .before .before .before .before .before .before .before .before .args in
-    rw (← c .before .before .before .before .before .before .before .before .before .before .before .before .before .before .before .pre .1, ← c .before .before .before .before .before .before .before .before .first .ensures, ← c .before .before .before .second .ensures)
+    rw (← c .before .before .before .before .before .before .before .before .first .ensures, ← c .before .before .before .second .ensures)
     (then _ _ (a .out .now) _ _ (c .before .before .before .before .before .before .before .put-at .result) _ (then _ _ (a .out .now) _ _ (c .before .before .before .before .before .before .before .before .before .before .before .before .put-name .result) _ (c .before .before .before .before .before .before .before .before .before .before .before .before .put-name .ensures) (c .before .before .before .before .before .before .before .put-at .ensures)) (c .before .before .put-at2 .ensures))
 
 pub put-line-spec : {M : Type 1} → statement M

@@ -30,16 +30,19 @@ returns-8 : tie.Need-returns-8
 returns-8 c = rw (c .before .before .before .before .enum-told8 .given .1) (c .before .before .put-reg2 .ensures)
 
 returns-9 : tie.Need-returns-9
-returns-9 c = rw (c .before .before .before .before .enum-told9 .given .1) (c .before .before .put-mode .ensures)
+returns-9 c = rw (c .before .before .before .before .enum-told9 .given .1) (c .before .before .put-reg3 .ensures)
 
 returns-10 : tie.Need-returns-10
-returns-10 c = rw (c .before .before .before .before .enum-told10 .given .1) (c .before .before .put-mode2 .ensures)
+returns-10 c = rw (c .before .before .before .before .enum-told10 .given .1) (c .before .before .put-mode .ensures)
 
 returns-11 : tie.Need-returns-11
-returns-11 c = rw (c .before .before .before .before .enum-told11 .given .1) (c .before .before .put-mode3 .ensures)
+returns-11 c = rw (c .before .before .before .before .enum-told11 .given .1) (c .before .before .put-mode2 .ensures)
 
 returns-12 : tie.Need-returns-12
-returns-12 c = rw (c .before .before .before .before .enum-told12 .given .1) (c .before .before .put-hex42 .ensures)
+returns-12 c = rw (c .before .before .before .before .enum-told12 .given .1) (c .before .before .put-mode3 .ensures)
+
+returns-13 : tie.Need-returns-13
+returns-13 c = rw (c .before .before .before .before .enum-told13 .given .1) (c .before .before .put-hex42 .ensures)
 
 pub put-operand-spec : {M : Type 1} → statement M
 put-operand-spec =
@@ -57,6 +60,8 @@ put-operand-spec =
     (λ c. search needs)
     (λ c κs. search needs)
     (λ c. search needs)
+    (λ c. search needs)
+    (λ c κs. search needs)
     (λ c. search needs)
     (λ c κs. search needs)
     (λ c. search needs)
@@ -91,4 +96,6 @@ put-operand-spec =
     (λ c. search needs)
     returns-11
     (λ c. search needs)
-    returns-12)
+    returns-12
+    (λ c. search needs)
+    returns-13)

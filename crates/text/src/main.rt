@@ -1,0 +1,233 @@
+// Reads the text of an op code, a line of standard input, and prints its words; a line of words in hex is written as text. A line that is refused is printed with a mark under its column and the reason in words.
+ghost use Prim.Native.Nat.{_≤_, _<_};
+ghost use lib.ListN.{length};
+use letters::hex;
+use libc::STDIN_FILENO;
+use libc::STDOUT_FILENO;
+use optext::ReadBack;
+use optext::Written;
+
+fn put(text: &[u8]) {
+    io::write_all(STDOUT_FILENO, text);
+}
+
+// Prints the first n bytes of a text and ends the line.
+fn put_line(text: &[u8], n: usize) {
+    if n <= text.len() {
+        put(&text[..n]);
+    }
+    put(b"\n");
+}
+
+// The byte at a place, or 0.
+fn byte(t: &[u8], i: usize) -> u8 {
+    if i < t.len() {
+        return t[i];
+    }
+    0
+}
+
+// The word at a place, or 0.
+fn word(words: &[u16], i: usize) -> u16 {
+    if i < words.len() {
+        return words[i];
+    }
+    0
+}
+
+// Where the line that begins at a place ends.
+fn line_end(t: &[u8], from: usize) -> usize
+    requires { ⌜ from ≤ length (now t) ⌝ }
+    ensures { λ r. ⌜ (from ≤ r) × (r ≤ length (now (t .entry))) ⌝ }
+{
+    let mut i = from;
+    while i < t.len() {
+        if t[i] == b'\n' {
+            return i;
+        }
+        i += 1;
+    }
+    i
+}
+
+fn is_digit(c: u8) -> bool {
+    ((48 <= c) & (c < 58)) | ((65 <= c) & (c < 71))
+}
+
+// The number of a digit.
+fn digit(c: u8) -> u16
+    ensures { λ r. ⌜ r < 16 ⌝ }
+{
+    if c < 58 {
+        return (c % 16) as u16;
+    }
+    ((c % 16 + 9) % 16) as u16
+}
+
+// Do four digits stand at a place?
+fn is_word(line: &[u8], at: usize) -> bool
+    requires { ⌜ at < 11 ⌝ }
+{
+    let a = is_digit(byte(line, at));
+    let b = is_digit(byte(line, at + 1));
+    let c = is_digit(byte(line, at + 2));
+    let d = is_digit(byte(line, at + 3));
+    a & b & c & d
+}
+
+fn is_space(line: &[u8], at: usize) -> bool {
+    byte(line, at) == 32
+}
+
+// Is the line one to three words in hex?
+fn is_words(line: &[u8]) -> bool {
+    let a = is_word(line, 0);
+    let b = is_space(line, 4) & is_word(line, 5);
+    let c = is_space(line, 9) & is_word(line, 10);
+    let n = line.len();
+    (n == 4) & a | (n == 9) & a & b | (n == 14) & a & b & c
+}
+
+// The word whose digits begin at a place.
+fn word_at(line: &[u8], at: usize) -> u16
+    requires { ⌜ at < 11 ⌝ }
+{
+    let a = digit(byte(line, at));
+    let b = digit(byte(line, at + 1));
+    let c = digit(byte(line, at + 2));
+    let d = digit(byte(line, at + 3));
+    a * 4096 + b * 256 + c * 16 + d
+}
+
+// Prints the text of the op code that begins at a place, and answers the place after its words.
+fn put_op(words: &[u16], at: usize) -> usize
+    requires { ⌜ at < length (now words) ⌝ }
+    ensures { λ r. ⌜ at < r ⌝ }
+{
+    let mut text = [0u8; 32];
+    let n = words.len();
+    let Written::Line(len, taken) = optext::write(&words[at..], &mut text) else {
+        put(b"a next word is missing (refusal 7)\n");
+        return n;
+    };
+    put_line(&text, len);
+    if 0 < taken {
+        if taken <= n - at {
+            return at + taken;
+        }
+    }
+    n
+}
+
+// Prints the op codes of the words, a line each.
+fn put_ops(words: &[u16]) {
+    let mut at = 0;
+    while at < words.len() {
+        at = put_op(words, at);
+    }
+}
+
+// The same of the first n words.
+fn put_first(words: &[u16], n: usize) {
+    if n <= words.len() {
+        put_ops(&words[..n]);
+    }
+}
+
+// Prints the text of a line of words.
+fn write_words(line: &[u8]) {
+    let words = [word_at(line, 0), word_at(line, 5), word_at(line, 10)];
+    put_first(&words, line.len() / 5 + 1);
+}
+
+fn put_word(w: u16) {
+    let digits = [
+        hex(w / 4096),
+        hex(w / 256 % 16),
+        hex(w / 16 % 16),
+        hex(w % 16),
+    ];
+    put(&digits);
+}
+
+// Prints the word at a place after a space, if it is one of the first n.
+fn put_next(words: &[u16], at: usize, n: usize) {
+    if at < n {
+        put_space();
+        put_word(word(words, at));
+    }
+}
+
+// Prints the first n of up to three words.
+fn put_words(words: &[u16], n: usize) {
+    put_word(word(words, 0));
+    put_next(words, 1, n);
+    put_next(words, 2, n);
+    put(b"\n");
+}
+
+fn put_space() {
+    put(b" ");
+}
+
+fn put_spaces(n: usize) {
+    let mut i = 0;
+    while i < n {
+        put_space();
+        i += 1;
+    }
+}
+
+// Prints the line, a mark under its column, the reason and the number of the refusal.
+fn put_refused(line: &[u8], column: usize, why: &[u8], number: u64) {
+    put(line);
+    put(b"\n");
+    put_spaces(column);
+    put(b"^ ");
+    put(why);
+    put(b" (refusal ");
+    io::print_decimal(STDOUT_FILENO, number);
+    put(b" at column ");
+    io::print_decimal(STDOUT_FILENO, column as u64);
+    put(b")\n");
+}
+
+// Prints the words of a text.
+fn read_text(line: &[u8]) {
+    let mut words = [0u16; 3];
+    match optext::read(line, &mut words) {
+        ReadBack::Words(n) => put_words(&words, n),
+        ReadBack::WordsShort => put(b"\n"),
+        ReadBack::EarlyEnd(c) => put_refused(line, c, b"the line ends too early", 32),
+        ReadBack::AfterText(c) => put_refused(line, c, b"the text is whole before this", 31),
+        ReadBack::UnknownName(c) => put_refused(line, c, b"unknown mnemonic", 9),
+        ReadBack::BadOperand(c) => put_refused(line, c, b"bad operand", 30),
+    }
+}
+
+fn answer(line: &[u8]) {
+    if is_words(line) {
+        write_words(line);
+    } else {
+        read_text(line);
+    }
+}
+
+// Answers each line.
+fn answer_all(input: &[u8]) {
+    let mut at = 0;
+    while at < input.len() {
+        let end = line_end(input, at);
+        answer(&input[at..end]);
+        if input.len() <= end {
+            return;
+        }
+        at = end + 1;
+    }
+}
+
+fn main() {
+    let mut input = io::large_buffer();
+    let got = io::read_full(STDIN_FILENO, &mut input);
+    answer_all(&input[..got]);
+}
