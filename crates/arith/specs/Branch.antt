@@ -1,24 +1,36 @@
--- Format 5: the condition of each branch on the indicators f.
-use mathlib.Core.Bool.{Bool, true, not, _||_}
+-- Format 5: when a branch is taken, on the indicators f. Seven conditions and one reversal; BR stands alone.
+use mathlib.Core.Bool.{Bool, true, false, cond, not, _||_}
+use mathlib.Core.List.{List, [], _∷_}
+use Prim.Native.Nat.{ℕ, _-_, _/_, _%_}
+use lib.Dec.{eqb, ltb}
+use lib.ListN.{getD}
 use Rattle.word.specs.declared.Flags.{Flags}
-use Rattle.codes.specs.declared.Branch.{Branch}
-use Rattle.codes.specs.declared.Branch.the-variants.{Br, Bne, Beq, Bge, Blt, Bgt, Ble, Bpl, Bmi, Bhi, Blos, Bvc, Bvs, Bcc, Bcs}
 use Rattle.word.specs.Number.{differ}
 
--- N and V are joined by exclusive or, all else by or
-abbrev pub condition : Branch → Flags → Bool
-condition Br f = true
-condition Bne f = not (f .z)
-condition Beq f = f .z
-condition Bge f = not (differ (f .n) (f .v))
-condition Blt f = differ (f .n) (f .v)
-condition Bgt f = not (f .z || differ (f .n) (f .v))
-condition Ble f = f .z || differ (f .n) (f .v)
-condition Bpl f = not (f .n)
-condition Bmi f = f .n
-condition Bhi f = not (f .c || f .z)
-condition Blos f = f .c || f .z
-condition Bvc f = not (f .v)
-condition Bvs f = f .v
-condition Bcc f = not (f .c)
-condition Bcs f = f .c
+infixl 32 _xor_
+abbrev pub _xor_ : Bool → Bool → Bool
+a xor b = differ a b
+
+-- the seven conditions, each for the even high byte; beside it stands its pair
+abbrev pub conditions : Flags → List Bool
+conditions f
+    = not (f .z)  -- 02 BNE   03 BEQ
+    ∷ not (f .n xor f .v)  -- 04 BGE   05 BLT
+    ∷ not (f .z || (f .n xor f .v))  -- 06 BGT   07 BLE
+    ∷ not (f .n)  -- 80 BPL   81 BMI
+    ∷ not (f .c || f .z)  -- 82 BHI   83 BLOS
+    ∷ not (f .v)  -- 84 BVC   85 BVS
+    ∷ not (f .c)  -- 86 BCC   87 BCS
+    ∷ []
+
+-- by the pair's number; past the table there is none
+abbrev pub condition : ℕ → Flags → Bool
+condition pair f = getD (conditions f) pair false
+
+abbrev pub odd : ℕ → Bool
+odd k = eqb (k % 2) 1
+
+-- The branch k, counted through the high bytes: 01 to 07 are 1 to 7, 80 to 87 are 8 to 15. BR is always taken; an odd
+-- high byte reverses the condition of the even one before it.
+abbrev pub taken : ℕ → Flags → Bool
+taken k f = cond (ltb k 2) true (condition (k / 2 - 1) f xor odd k)

@@ -3,4 +3,5 @@ pub mod Wide
 pub mod Binary
 pub mod Immediate
 pub mod Branch
+pub mod Printed
 pub mod Within

@@ -1,31 +1,30 @@
-// Format 5: the branches.
+// Format 5: when a branch is taken. Seven conditions and one reversal; BR stands alone.
 ghost use mathlib.Core.Path.{_≡_};
-ghost use Rattle.arith.specs.Branch.{condition};
-use codes::Branch;
+ghost use Rattle.arith.specs.Branch as Spec;
 use word::Flags;
 
-// Whether the branch is taken.
-pub fn holds(op: Branch, f: Flags) -> bool
-    ensures { λ r. ⌜ r ≡ condition op f ⌝ }
+// The seven conditions, each for the even high byte; beside it stands its pair.
+fn condition(pair: u16, f: Flags) -> bool
+    ensures { λ r. ⌜ r ≡ Spec.condition pair f ⌝ }
 {
-    let less = f.n != f.v;
-    let less_or_same = f.z | less;
-    let lower_or_same = f.c | f.z;
-    match op {
-        Branch::Br => true,
-        Branch::Bne => !f.z,
-        Branch::Beq => f.z,
-        Branch::Bge => !less,
-        Branch::Blt => less,
-        Branch::Bgt => !less_or_same,
-        Branch::Ble => less_or_same,
-        Branch::Bpl => !f.n,
-        Branch::Bmi => f.n,
-        Branch::Bhi => !lower_or_same,
-        Branch::Blos => lower_or_same,
-        Branch::Bvc => !f.v,
-        Branch::Bvs => f.v,
-        Branch::Bcc => !f.c,
-        Branch::Bcs => f.c,
+    match pair {
+        0 => !f.z, // 02 BNE, 03 BEQ
+        1 => !(f.n ^ f.v), // 04 BGE, 05 BLT
+        2 => !(f.z | (f.n ^ f.v)), // 06 BGT, 07 BLE
+        3 => !f.n, // 80 BPL, 81 BMI
+        4 => !(f.c | f.z), // 82 BHI, 83 BLOS
+        5 => !f.v, // 84 BVC, 85 BVS
+        6 => !f.c, // 86 BCC, 87 BCS
+        _ => false, // past the table
     }
+}
+
+// Whether the branch k is taken: BR always, and an odd high byte reverses the condition of the even one before it.
+pub fn holds(k: u16, f: Flags) -> bool
+    ensures { λ r. ⌜ r ≡ Spec.taken k f ⌝ }
+{
+    if k < 2 {
+        return true;
+    }
+    condition(k / 2 - 1, f) ^ (k % 2 == 1)
 }

@@ -2,8 +2,6 @@
 use Prim.Native.Nat.{ℕ}
 use mathlib.Core.List.{List, [], _∷_}
 use lib.ListN.{getD}
-use Rattle.codes.specs.declared.Branch.{Branch}
-use Rattle.codes.specs.declared.Branch.the-variants.{Br, Bne, Beq, Bge, Blt, Bgt, Ble, Bpl, Bmi, Bhi, Blos, Bvc, Bvs, Bcc, Bcs}
 use Rattle.codes.specs.declared.Immediate.{Immediate}
 use Rattle.codes.specs.declared.Immediate.the-variants.{Addi, Subi, Bici, Movi}
 use Rattle.codes.specs.declared.Way.{Way}
@@ -14,13 +12,6 @@ use Rattle.codes.specs.declared.Binary.{Binary}
 use Rattle.codes.specs.declared.Binary.the-variants.{Add, Sub, And, Bic, Bis, Xor, Cmp, Bit, Mov}
 use Rattle.codes.specs.declared.ByteBinary.{ByteBinary}
 use Rattle.codes.specs.declared.ByteBinary.the-variants.{Cmpb, Movb, Bisb}
-
--- by high byte: 01 to 07 are 1 to 7, 80 to 87 are 8 to 15; the last is Bcs
-abbrev pub branches : List Branch
-branches = Br ∷ Br ∷ Bne ∷ Beq ∷ Bge ∷ Blt ∷ Bgt ∷ Ble ∷ Bpl ∷ Bmi ∷ Bhi ∷ Blos ∷ Bvc ∷ Bvs ∷ Bcc ∷ []
-
-abbrev pub branchAt : ℕ → Branch
-branchAt k = getD branches k Bcs
 
 -- in the order of bits 5 and 4; the last is Movi
 abbrev pub immediates : List Immediate

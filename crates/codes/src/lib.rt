@@ -1,25 +1,6 @@
-// What the number in a field of an op code chooses: a branch, a kind of shift, an op code of its format.
+// What the number in a field of an op code chooses: a kind of shift, an op code of its format.
 ghost use mathlib.Core.Path.{_≡_};
-ghost use Rattle.codes.specs.Codes.{branchAt, immediateAt, wayAt, unaryAt, binaryAt, byteBinaryAt};
-
-// The fifteen branches of format 5.
-pub enum Branch {
-    Br,
-    Bne,
-    Beq,
-    Bge,
-    Blt,
-    Bgt,
-    Ble,
-    Bpl,
-    Bmi,
-    Bhi,
-    Blos,
-    Bvc,
-    Bvs,
-    Bcc,
-    Bcs,
-}
+ghost use Rattle.codes.specs.Codes.{immediateAt, wayAt, unaryAt, binaryAt, byteBinaryAt};
 
 // The op codes of format 6 with a number, in the order of bits 5 and 4.
 pub enum Immediate {
@@ -71,30 +52,6 @@ pub enum ByteBinary {
     Cmpb,
     Movb,
     Bisb,
-}
-
-// By high byte: 01 to 07 are 1 to 7, 80 to 87 are 8 to 15.
-pub fn branch_at(k: u16) -> Branch
-    ensures { λ r. ⌜ r ≡ branchAt k ⌝ }
-{
-    match k {
-        0 => Branch::Br,
-        1 => Branch::Br,
-        2 => Branch::Bne,
-        3 => Branch::Beq,
-        4 => Branch::Bge,
-        5 => Branch::Blt,
-        6 => Branch::Bgt,
-        7 => Branch::Ble,
-        8 => Branch::Bpl,
-        9 => Branch::Bmi,
-        10 => Branch::Bhi,
-        11 => Branch::Blos,
-        12 => Branch::Bvc,
-        13 => Branch::Bvs,
-        14 => Branch::Bcc,
-        _ => Branch::Bcs,
-    }
 }
 
 pub fn immediate_at(k: u16) -> Immediate

@@ -2,8 +2,7 @@
 use mathlib.Core.Bool.{cond}
 use Prim.Native.Nat.{ℕ, _+_, _*_, _/_, _%_}
 use lib.Dec.{ltb}
-use Rattle.arith.specs.Branch.{condition}
-use Rattle.codes.specs.Codes.{branchAt}
+use Rattle.arith.specs.Branch.{taken}
 use Rattle.state.specs.declared.State.{State}
 use Rattle.state.specs.State.{withPc}
 use Rattle.word.specs.Address.{plus}
@@ -18,4 +17,4 @@ branchNumber op = op / 256 % 8 + op / 32768 * 8
 
 -- IF the condition holds, PC ← PC + (DISP * 2)
 unfoldable pub branch : State → ℕ → State
-branch s op = cond (condition (branchAt (branchNumber op)) (s .flags)) (withPc s (plus (s .regs .pc) (displacement op))) s
+branch s op = cond (taken (branchNumber op) (s .flags)) (withPc s (plus (s .regs .pc) (displacement op))) s

@@ -16,8 +16,7 @@ fn displacement(op: u16) -> u16
 pub fn branch(s: State, op: u16) -> State
     ensures { λ r. ⌜ r ≡ Spec.branch s op ⌝ }
 {
-    let which = codes::branch_at(op / 256 % 8 + op / 32768 * 8);
-    if arith::branch::holds(which, s.flags) {
+    if arith::branch::holds(op / 256 % 8 + op / 32768 * 8, s.flags) {
         return s.with_pc(plus(s.regs.pc, displacement(op)));
     }
     s
