@@ -1,12 +1,13 @@
--- RESERVED AND ILLEGAL ARE ONE RULE: the op codes whose own trap ends an XCT are those of format 8, and those that the text has no name for.
+-- RESERVED AND ILLEGAL ARE ONE RULE: the op codes whose own trap ends an XCT are those of format 8 where their microm is not fitted, and those that the text has no name for.
 use Prim.Native.Nat.{ℕ, zero, suc, _/_, _%_, _<_}
 use native.Mathlib.Omega.{arith}
-use mathlib.Core.Bool.{Bool, true, false, cond}
+use mathlib.Core.Bool.{Bool, true, false, not, cond}
 use mathlib.Core.Logic.{_⊎_, ⊎-elim, inl, inr}
 use mathlib.Core.Path.{_≡_, refl, ap, sym, subst}
 use lib.Dec.{T, eqb, leb}
 use borrow.Author.Tests.{eqb-true, eqb-false}
 use Rattle.plate.specs.Plate.{formatOf}
+use Rattle.state.specs.declared.Outside.{Outside}
 use Rattle.optext.specs.Line.{isReserved}
 use Rattle.step.specs.Xct.{trapsAlone}
 
@@ -46,6 +47,6 @@ high-11 (suc n) t h l = go (same (eqb (formatOf n) 11) (leb 240 n)) refl t (λ u
         (λ q. r u (omega arith)) last
     go false e u r = absurd u
 
-pub traps-reserved : (w : ℕ) → w < 65536 → trapsAlone (formatOf (w / 256)) w ≡ cond (eqb (formatOf (w / 256)) 8) true (isReserved w)
+pub traps-reserved : (out : Outside) (w : ℕ) → w < 65536 → trapsAlone out (formatOf (w / 256)) w ≡ cond (eqb (formatOf (w / 256)) 8) (not (out .settings .blocks)) (isReserved w)
 unfolding trapsAlone isReserved
-traps-reserved w l = rw (high-11 256 all-bytes (w / 256) (omega arith)) refl
+traps-reserved out w l = rw (high-11 256 all-bytes (w / 256) (omega arith)) refl
