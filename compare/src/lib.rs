@@ -20,6 +20,7 @@ pub mod listing;
 pub mod machine;
 mod operand;
 pub mod programs;
+pub mod proved;
 pub mod recorder;
 pub mod served;
 pub mod state;
