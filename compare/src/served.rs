@@ -3,16 +3,16 @@
 //!
 //! A request: the call, the lengths of its buffers in elements (four bytes each, low byte
 //! first), then their elements in the same order. An answer: the number that was returned,
-//! then the buffers as they are after the call.
+//! then the buffers as they are after the call. What the buffers are is in abi.rs.
 
-use std::io::{Read, Write};
+use std::io::{Read, Result, Write};
 use std::process::{Child, Command, Stdio};
 
-use crate::abi::{Buffers, Call, Processor};
-use crate::level::{Level, Wish};
+use crate::abi::{Call, Interface, CALLS};
+use crate::level::Level;
 
 /// A program, with its input and output as pipes.
-fn started(command: &str) -> std::io::Result<Child> {
+fn started(command: &str) -> Result<Child> {
     let mut words = command.split_whitespace();
     Command::new(words.next().unwrap_or_default())
         .args(words)
@@ -22,7 +22,7 @@ fn started(command: &str) -> std::io::Result<Child> {
 }
 
 /// What a program prints when it is given this input.
-pub fn printed(command: &str, input: &[u8]) -> std::io::Result<Vec<u8>> {
+pub fn printed(command: &str, input: &[u8]) -> Result<Vec<u8>> {
     let mut child = started(command)?;
     if let Some(mut pipe) = child.stdin.take() {
         // A program that refuses early may close its input before all is written.
@@ -31,84 +31,82 @@ pub fn printed(command: &str, input: &[u8]) -> std::io::Result<Vec<u8>> {
     Ok(child.wait_with_output()?.stdout)
 }
 
-/// A buffer as it is lent: its bytes, and how many of them are an element.
-struct Lent {
-    bytes: Vec<u8>,
-    size: usize,
-}
-
-fn bytes(bytes: &[u8]) -> Lent {
-    Lent {
-        bytes: bytes.to_vec(),
-        size: 1,
-    }
-}
-
-fn words(words: &[u16]) -> Lent {
-    Lent {
-        bytes: words.iter().flat_map(|word| word.to_le_bytes()).collect(),
-        size: 2,
-    }
-}
+// ---- the side that asks ----
 
 /// The serving program, whose interface is the one of this level.
 pub struct Served {
     child: Child,
-    pub level: Level,
+    level: Level,
 }
 
 impl Served {
-    pub fn start(command: &str, level: Level) -> std::io::Result<Served> {
+    pub fn start(command: &str, level: Level) -> Result<Served> {
         let child = started(command)?;
         Ok(Served { child, level })
     }
 
-    /// The number that is answered, and the buffers after the call.
-    fn exchange(&mut self, call: u8, lent: &[Lent]) -> std::io::Result<(u8, Vec<Vec<u8>>)> {
-        let mut request = vec![call];
-        for buffer in lent {
-            let elements = buffer.bytes.len() / buffer.size;
-            request.extend((elements as u32).to_le_bytes());
+    fn exchange(&mut self, call: Call, buffers: &mut [Vec<u8>]) -> Result<u8> {
+        let mut request = vec![call as u8];
+        for (buffer, size) in buffers.iter().zip(call.elements(self.level)) {
+            request.extend(((buffer.len() / size) as u32).to_le_bytes());
         }
-        for buffer in lent {
-            request.extend(&buffer.bytes);
-        }
+        request.extend(buffers.concat());
         let input = self.child.stdin.as_mut().expect("a pipe");
         input.write_all(&request)?;
         input.flush()?;
         let output = self.child.stdout.as_mut().expect("a pipe");
-        let mut number = [0];
-        output.read_exact(&mut number)?;
-        let mut after = Vec::new();
-        for buffer in lent {
-            let mut bytes = vec![0; buffer.bytes.len()];
-            output.read_exact(&mut bytes)?;
-            after.push(bytes);
+        let mut answer = vec![0; 1 + buffers.iter().map(Vec::len).sum::<usize>()];
+        output.read_exact(&mut answer)?;
+        let (number, mut rest) = (answer[0], &answer[1..]);
+        for buffer in buffers {
+            let (front, back) = rest.split_at(buffer.len());
+            buffer.copy_from_slice(front);
+            rest = back;
         }
-        Ok((number[0], after))
+        Ok(number)
     }
 }
 
-impl Processor for Served {
-    fn call(&mut self, call: Call, b: &mut Buffers) -> u8 {
-        let mut lent = vec![bytes(&b.state), bytes(&b.tally), bytes(&b.image)];
-        lent.extend([bytes(&b.map), words(&b.lines)]);
-        if self.level.has(Wish::BlockMoves) {
-            lent.push(bytes(&b.settings));
-        }
-        let (number, after) = self
-            .exchange(call as u8, &lent)
-            .expect("the server answers each call");
-        let read_only = lent.iter().zip(&after).skip(3);
-        assert!(
-            read_only
-                .into_iter()
-                .all(|(lent, after)| lent.bytes == *after),
-            "a call changed the map, the lines or the settings"
-        );
-        let mut after = after.into_iter();
-        let mut next = || after.next().expect("a buffer of the call");
-        (b.state, b.tally, b.image) = (next(), next(), next());
-        number
+impl Interface for Served {
+    fn call(&mut self, call: Call, buffers: &mut [Vec<u8>]) -> u8 {
+        self.exchange(call, buffers)
+            .expect("the server answers each call")
     }
+}
+
+// ---- the side that answers ----
+
+/// The next request; none where the input ends.
+fn request(input: &mut impl Read, level: Level) -> Result<Option<(Call, Vec<Vec<u8>>)>> {
+    let mut number = [0];
+    if input.read(&mut number)? == 0 {
+        return Ok(None);
+    }
+    let call = CALLS[usize::from(number[0])];
+    let mut buffers = Vec::new();
+    for size in call.elements(level) {
+        let mut length = [0; 4];
+        input.read_exact(&mut length)?;
+        buffers.push(vec![0; u32::from_le_bytes(length) as usize * size]);
+    }
+    for buffer in &mut buffers {
+        input.read_exact(buffer)?;
+    }
+    Ok(Some((call, buffers)))
+}
+
+/// Serves the calls until the input ends.
+pub fn serve(
+    by: &mut dyn Interface,
+    level: Level,
+    mut input: impl Read,
+    mut output: impl Write,
+) -> Result<()> {
+    while let Some((call, mut buffers)) = request(&mut input, level)? {
+        let number = by.call(call, &mut buffers);
+        output.write_all(&[number])?;
+        output.write_all(&buffers.concat())?;
+        output.flush()?;
+    }
+    Ok(())
 }
