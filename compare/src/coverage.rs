@@ -1,15 +1,347 @@
-//! What random cases have reached.
+//! What random cases have reached, and what they must reach at a level.
 
-use crate::board::{IMAGE, PAGES};
-use crate::level::Level;
-use crate::state::{Mode, State, PC, SP};
-use crate::table::{row_of, Operands, ROWS};
+use crate::board::{IMAGE, PAGES, READ_ONLY};
+use crate::level::{Level, Setup, Wish};
+use crate::machine::{Ran, Stepped};
+use crate::state::{Cause, Line, Mode, State, PC, SP};
+use crate::table::{row_of, Operands, BLOCK_MOVES, ROWS};
 
 /// The rows of the op code table, then format 11.
 const KINDS: usize = ROWS.len() + 1;
+/// The modes and the causes of all levels.
+const MODES: usize = 6;
+const CAUSES: usize = 10;
+/// One more than the highest number of a refusal of power-up, step and run.
+const REFUSALS: usize = 36;
 
-/// Counts of steps.
+fn kind_of(op: u16) -> usize {
+    let place = ROWS.iter().position(|row| row.covers(op));
+    place.unwrap_or(ROWS.len())
+}
+
+fn kind_name(kind: usize) -> &'static str {
+    ROWS.get(kind).map_or("format 11", |row| row.name)
+}
+
+// ---- what a step was ----
+
+/// What is known before a step.
+#[derive(Clone, Copy)]
+pub struct Ahead {
+    setup: Setup,
+    before: State,
+    line: Line,
+    /// The op code at PC, and the one that it traces if it is XCT.
+    op: Option<u16>,
+    traced: Option<u16>,
+}
+
+fn peek(image: &[u8], map: &[u8], at: u16) -> Option<u16> {
+    let low = usize::from(at & 0xFFFE);
+    (map[low >> 8] != 0).then(|| u16::from_le_bytes([image[low], image[low + 1]]))
+}
+
+impl Ahead {
+    pub fn of(setup: Setup, before: State, line: u16, image: &[u8], map: &[u8]) -> Ahead {
+        debug_assert!(image.len() == IMAGE && map.len() == PAGES);
+        let op = peek(image, map, before.r[PC]);
+        let traced = if op == Some(0x0005) {
+            peek(image, map, before.r[SP]).and_then(|pc| peek(image, map, pc))
+        } else {
+            None
+        };
+        Ahead {
+            setup,
+            before,
+            line: Line(line),
+            op,
+            traced,
+        }
+    }
+}
+
+/// A step with what it came to.
+struct Seen<'a> {
+    a: &'a Ahead,
+    after: &'a Stepped,
+    /// The map's byte of the page whose address is told.
+    page: Option<u8>,
+}
+
+impl Seen<'_> {
+    fn cause(&self, cause: Cause) -> bool {
+        self.after.cause == cause
+    }
+
+    /// The op code that was executed, by itself or under XCT.
+    fn did(&self, op: u16) -> bool {
+        self.cause(Cause::OpCode) && self.a.traced.or(self.a.op) == Some(op)
+    }
+
+    /// An element of a block move that was made, by itself.
+    fn element(&self) -> Option<u16> {
+        let op = self.a.op.filter(|&op| op >> 9 == 0x0E00 >> 9)?;
+        let made = self.a.before.mode == Mode::Running && self.cause(Cause::OpCode);
+        (made && self.a.setup.settings.microm).then_some(op)
+    }
+
+    /// An element with one of these registers as source or destination.
+    fn element_with(&self, register: u16) -> bool {
+        self.element()
+            .is_some_and(|op| op >> 3 & 7 == register || op & 7 == register)
+    }
+
+    fn last(&self) -> bool {
+        self.after.state.r[0] == 0
+    }
+
+    /// The mark, before and after.
+    fn marks(&self, before: bool, after: bool) -> bool {
+        self.a.before.mark == before && self.after.state.mark == after
+    }
+
+    fn from(&self, mode: Mode) -> bool {
+        self.a.before.mode == mode
+    }
+
+    fn to(&self, mode: Mode) -> bool {
+        self.after.state.mode == mode
+    }
+
+    fn locked_now(&self) -> bool {
+        self.cause(Cause::Locked) && !self.from(Mode::Locked)
+    }
+
+    fn halt(&self, option: u8) -> bool {
+        self.a.setup.settings.halt == option
+    }
+
+    fn read_only(&self) -> bool {
+        self.page == Some(READ_ONLY)
+    }
+}
+
+// ---- the corners of the wishes ----
+
+/// A corner that must be reached from a wish on.
+type Corner = (Wish, &'static str, fn(&Seen) -> bool);
+
+const IEN: u16 = 0x0002;
+const SAVS: u16 = 0x000B;
+
+use Wish::{BlankAddress, BlockMoves, Jumpers, LateIen, ReadOnlyPages};
+
+const CORNERS: [Corner; 47] = [
+    (BlockMoves, "an element that is not the last", |s| {
+        s.element().is_some() && !s.last()
+    }),
+    (BlockMoves, "a last element", |s| {
+        s.element().is_some() && s.last()
+    }),
+    (BlockMoves, "a count of 0", |s| {
+        s.element().is_some() && s.a.before.r[0] == 0
+    }),
+    (BlockMoves, "an element by R0", |s| s.element_with(0)),
+    (BlockMoves, "an element by SP", |s| s.element_with(6)),
+    (BlockMoves, "an element by PC, not the last", |s| {
+        s.element_with(7) && !s.last()
+    }),
+    (BlockMoves, "a last element by PC", |s| {
+        s.element_with(7) && s.last()
+    }),
+    (BlockMoves, "an element from a register to itself", |s| {
+        s.element().is_some_and(|op| op >> 3 & 7 == op & 7)
+    }),
+    (BlockMoves, "a block move without its microm", |s| {
+        let reserved = s.a.op.is_some_and(|op| op >> 9 == 0x0E00 >> 9);
+        reserved && s.from(Mode::Running) && s.cause(Cause::OpCode) && s.element().is_none()
+    }),
+    (BlockMoves, "a traced element that is not the last", |s| {
+        s.a.traced.is_some_and(|op| op >> 9 == 0x0E00 >> 9)
+            && s.cause(Cause::OpCode)
+            && s.a.setup.settings.microm
+            && !s.last()
+    }),
+    (BlockMoves, "a traced last element", |s| {
+        s.a.traced.is_some_and(|op| op >> 9 == 0x0E00 >> 9)
+            && s.cause(Cause::OpCode)
+            && s.a.setup.settings.microm
+            && s.last()
+    }),
+    (LateIen, "IEN that marks", |s| {
+        s.did(IEN) && s.a.traced.is_none() && !s.a.before.i2 && s.after.state.mark
+    }),
+    (LateIen, "IEN where I2 was set", |s| {
+        s.did(IEN) && s.a.before.i2 && s.marks(true, false)
+    }),
+    (LateIen, "SAVS that marks", |s| {
+        s.did(SAVS) && s.after.state.mark
+    }),
+    (LateIen, "IEN under XCT that marks", |s| {
+        s.did(IEN) && s.a.traced.is_some() && s.after.state.mark
+    }),
+    (LateIen, "I1 held off", |s| {
+        s.a.line.i1() && s.a.before.i2 && s.cause(Cause::OpCode) && s.from(Mode::Running)
+    }),
+    (LateIen, "I0 held off", |s| {
+        s.a.line.i0() && s.a.before.i2 && s.cause(Cause::OpCode) && s.from(Mode::Running)
+    }),
+    (LateIen, "held off while waiting", |s| {
+        let asked = s.a.line.i0() || s.a.line.i1();
+        asked && s.a.before.i2 && s.from(Mode::Waiting) && s.cause(Cause::Nothing)
+    }),
+    (LateIen, "an op code that clears the mark", |s| {
+        s.cause(Cause::OpCode) && s.from(Mode::Running) && s.marks(true, false)
+    }),
+    (LateIen, "I3 that keeps the mark", |s| {
+        s.cause(Cause::I3) && s.marks(true, true)
+    }),
+    (LateIen, "a bus error that clears the mark", |s| {
+        s.cause(Cause::BlankInOpCode) && s.marks(true, false)
+    }),
+    (LateIen, "a lock-up that keeps the mark", |s| {
+        s.locked_now() && s.marks(true, true)
+    }),
+    (LateIen, "the end of a halt that keeps the mark", |s| {
+        s.from(Mode::HaltedPowerFail) && s.to(Mode::Running) && s.marks(true, true)
+    }),
+    (BlankAddress, "an even address in an op code", |s| {
+        s.cause(Cause::BlankInOpCode) && s.after.blank.is_some_and(|at| at & 1 == 0)
+    }),
+    (BlankAddress, "an odd address in an op code", |s| {
+        s.cause(Cause::BlankInOpCode) && s.after.blank.is_some_and(|at| at & 1 == 1)
+    }),
+    (BlankAddress, "an address in an interrupt", |s| {
+        s.cause(Cause::BlankInInterrupt) && s.after.blank.is_some()
+    }),
+    (BlankAddress, "an address at a lock-up", |s| {
+        s.locked_now() && s.after.blank.is_some()
+    }),
+    (BlankAddress, "no address after a lock-up", |s| {
+        s.from(Mode::Locked) && s.after.blank.is_none()
+    }),
+    (
+        ReadOnlyPages,
+        "an op code that writes to a read-only page",
+        |s| s.cause(Cause::BlankInOpCode) && s.read_only(),
+    ),
+    (ReadOnlyPages, "a block move to a read-only page", |s| {
+        let block = s.a.op.is_some_and(|op| op >> 9 == 0x0E00 >> 9);
+        s.cause(Cause::BlankInOpCode) && s.read_only() && block
+    }),
+    (ReadOnlyPages, "a stack on a read-only page", |s| {
+        s.locked_now() && s.read_only()
+    }),
+    (Jumpers, "I3 to the bootstrap, running", |s| {
+        s.from(Mode::Running) && s.cause(Cause::I3) && s.halt(0)
+    }),
+    (Jumpers, "I3 to the bootstrap, waiting", |s| {
+        s.from(Mode::Waiting) && s.cause(Cause::I3) && s.halt(0)
+    }),
+    (Jumpers, "the switch to the bootstrap", |s| {
+        s.from(Mode::HaltedSwitch) && s.cause(Cause::I3) && s.halt(0)
+    }),
+    (Jumpers, "registers saved, running", |s| {
+        s.from(Mode::Running) && s.to(Mode::Saved)
+    }),
+    (Jumpers, "registers saved, waiting", |s| {
+        s.from(Mode::Waiting) && s.to(Mode::Saved)
+    }),
+    (Jumpers, "registers saved by the switch", |s| {
+        s.from(Mode::HaltedSwitch) && s.to(Mode::Saved)
+    }),
+    (Jumpers, "registers saved under power fail", |s| {
+        !s.from(Mode::Saved) && s.to(Mode::Saved) && s.a.line.power_fail()
+    }),
+    (Jumpers, "waiting after a save", |s| {
+        s.from(Mode::Saved) && s.cause(Cause::Nothing)
+    }),
+    (Jumpers, "registers restored", |s| {
+        s.from(Mode::Saved) && s.cause(Cause::I3)
+    }),
+    (Jumpers, "a restore that keeps the mark", |s| {
+        s.from(Mode::Saved) && s.cause(Cause::I3) && s.marks(true, true)
+    }),
+    (Jumpers, "a restore that locks", |s| {
+        s.from(Mode::Saved) && s.locked_now()
+    }),
+    (Jumpers, "a save that meets a blank", |s| {
+        s.cause(Cause::BlankInSave)
+    }),
+    (Jumpers, "a save that locks", |s| {
+        s.locked_now() && s.halt(1) && s.after.blank == Some(0)
+    }),
+    (Jumpers, "the lock-up option, running", |s| {
+        s.from(Mode::Running) && s.locked_now() && s.halt(2) && s.after.blank.is_none()
+    }),
+    (Jumpers, "the lock-up option, by the switch", |s| {
+        s.from(Mode::HaltedSwitch) && s.locked_now() && s.halt(2) && s.after.blank.is_none()
+    }),
+    (Jumpers, "a halt on power fail that ends through 16", |s| {
+        s.from(Mode::HaltedPowerFail) && s.cause(Cause::OpCode) && !s.halt(3)
+    }),
+];
+
+// ---- runs ----
+
+/// What a cut run, or one with more cards, showed.
+#[derive(Clone, Copy, PartialEq, Eq, Debug)]
+#[repr(u8)]
+pub enum RunKind {
+    CutBlankInFirst,
+    CutBlankInSecondAlone,
+    CutWithoutBlank,
+    CutAtTheBeginning,
+    CutAtTheEnd,
+    PluggedWritable,
+    PluggedReadOnly,
+    NotSound,
+}
+
+const RUN_KINDS: [(RunKind, &str); 8] = [
+    (
+        RunKind::CutBlankInFirst,
+        "a cut run, blank in its first part",
+    ),
+    (
+        RunKind::CutBlankInSecondAlone,
+        "a cut run, blank in its second part alone",
+    ),
+    (RunKind::CutWithoutBlank, "a cut run without a blank"),
+    (RunKind::CutAtTheBeginning, "a run with an empty first part"),
+    (RunKind::CutAtTheEnd, "a run with an empty second part"),
+    (
+        RunKind::PluggedWritable,
+        "a sound run with more writable cards",
+    ),
+    (
+        RunKind::PluggedReadOnly,
+        "a sound run with more read-only cards",
+    ),
+    (RunKind::NotSound, "a run that is not sound"),
+];
+
+/// What a run cut at a place shows.
+pub fn cut_kinds(place: usize, length: usize, first: &Ran, second: &Ran) -> Vec<RunKind> {
+    let mut kinds = vec![match (first.first, second.first) {
+        (Some(_), _) => RunKind::CutBlankInFirst,
+        (None, Some(_)) => RunKind::CutBlankInSecondAlone,
+        (None, None) => RunKind::CutWithoutBlank,
+    }];
+    if length > 0 && place == 0 {
+        kinds.push(RunKind::CutAtTheBeginning);
+    }
+    if length > 0 && place == length {
+        kinds.push(RunKind::CutAtTheEnd);
+    }
+    kinds
+}
+
+// ---- all counts ----
+
+/// Counts of steps, power-ups, runs and damaged calls.
 pub struct Coverage {
+    level: Level,
     /// By op code: executed by themselves, under XCT, and dropped by a bus error.
     plain: [u64; KINDS],
     traced: [u64; KINDS],
@@ -18,109 +350,78 @@ pub struct Coverage {
     sources: [[u64; 64]; 2],
     destinations: [[u64; 64]; 2],
     /// By mode before the step and cause.
-    causes: [[u64; 9]; 5],
+    causes: [[u64; CAUSES]; MODES],
     /// By mode after an op code.
-    entered: [u64; 5],
+    entered: [u64; MODES],
     /// Completed op codes whose stack pointer lay in the last or first words of a page,
     /// and in the first or last words of memory.
     page_ends: u64,
     memory_ends: [u64; 2],
+    corners: [u64; CORNERS.len()],
+    /// Elements by block move.
+    elements: [u64; BLOCK_MOVES],
+    /// By the numbers of the power-up and halt jumpers, and whether it locked.
+    power_ups: [[[u64; 2]; 4]; 4],
+    runs: [u64; RUN_KINDS.len()],
     /// By call (power-up, step, run) and number of damaged calls.
-    refusals: [[u64; 22]; 3],
-}
-
-fn kind_of(op: u16) -> usize {
-    let place = ROWS.iter().position(|row| row.covers(op));
-    place.unwrap_or(ROWS.len())
-}
-
-fn kind_name(kind: usize) -> &'static str {
-    match ROWS.get(kind) {
-        Some(row) => row.name,
-        None => "format 11",
-    }
-}
-
-/// What the next op code is, looked up in the image before the step.
-#[derive(Clone, Copy)]
-pub struct Ahead {
-    op: Option<u16>,
-    traced: Option<u16>,
-    sp: u16,
-    mode: Mode,
-}
-
-fn peek(image: &[u8], map: &[u8], at: u16) -> Option<u16> {
-    let low = usize::from(at & 0xFFFE);
-    (map[low >> 8] == 1).then(|| u16::from_le_bytes([image[low], image[low + 1]]))
-}
-
-impl Ahead {
-    pub fn of(state: &State, image: &[u8], map: &[u8]) -> Ahead {
-        debug_assert!(image.len() == IMAGE && map.len() == PAGES);
-        let op = peek(image, map, state.r[PC]);
-        let traced = if op == Some(0x0005) {
-            peek(image, map, state.r[SP]).and_then(|pc| peek(image, map, pc))
-        } else {
-            None
-        };
-        Ahead {
-            op,
-            traced,
-            sp: state.r[SP],
-            mode: state.mode,
-        }
-    }
+    refusals: [[u64; REFUSALS]; 3],
 }
 
 impl Coverage {
-    pub fn new() -> Coverage {
+    pub fn new(level: Level) -> Coverage {
         Coverage {
+            level,
             plain: [0; KINDS],
             traced: [0; KINDS],
             dropped: [0; KINDS],
             sources: [[0; 64]; 2],
             destinations: [[0; 64]; 2],
-            causes: [[0; 9]; 5],
-            entered: [0; 5],
+            causes: [[0; CAUSES]; MODES],
+            entered: [0; MODES],
             page_ends: 0,
             memory_ends: [0; 2],
-            refusals: [[0; 22]; 3],
+            corners: [0; CORNERS.len()],
+            elements: [0; BLOCK_MOVES],
+            power_ups: [[[0; 2]; 4]; 4],
+            runs: [0; RUN_KINDS.len()],
+            refusals: [[0; REFUSALS]; 3],
         }
     }
 
-    /// Counts a step by what was ahead and the state's bytes after it.
-    pub fn count(&mut self, ahead: Ahead, after: &[u8]) {
-        let cause = after[19];
-        self.causes[ahead.mode as usize][usize::from(cause)] += 1;
-        let Some(op) = ahead.op.filter(|_| ahead.mode == Mode::Running) else {
+    /// Counts a step by what was ahead and what it came to.
+    pub fn count(&mut self, a: &Ahead, after: &Stepped, map: &[u8]) {
+        let page = after.blank.map(|at| map[usize::from(at >> 8)]);
+        let seen = Seen { a, after, page };
+        for (count, (_, _, is)) in self.corners.iter_mut().zip(&CORNERS) {
+            *count += u64::from(is(&seen));
+        }
+        if let Some(op) = seen.element() {
+            self.elements[usize::from(op >> 6 & 7)] += 1;
+        }
+        self.causes[a.before.mode as usize][after.cause as usize] += 1;
+        let Some(op) = a.op.filter(|_| a.before.mode == Mode::Running) else {
             return;
         };
-        match cause {
-            0 => {
-                self.entered[usize::from(after[18])] += 1;
-                self.count_done(ahead, op);
+        match after.cause {
+            Cause::OpCode => {
+                self.entered[after.state.mode as usize] += 1;
+                self.count_done(a, op);
             }
-            5 => self.dropped[kind_of(ahead.traced.unwrap_or(op))] += 1,
+            Cause::BlankInOpCode => self.dropped[kind_of(a.traced.unwrap_or(op))] += 1,
             _ => {}
         }
     }
 
-    fn count_done(&mut self, ahead: Ahead, op: u16) {
+    fn count_done(&mut self, a: &Ahead, op: u16) {
         self.plain[kind_of(op)] += 1;
-        if let Some(traced) = ahead.traced {
+        if let Some(traced) = a.traced {
             self.traced[kind_of(traced)] += 1;
         }
-        self.count_operands(ahead.traced.unwrap_or(op));
-        let in_page = ahead.sp & 0xFF;
-        self.page_ends += u64::from(!(0x14..0xF0).contains(&in_page));
-        self.memory_ends[0] += u64::from(ahead.sp < 0x14);
-        self.memory_ends[1] += u64::from(ahead.sp >= 0xFFF0);
-    }
-
-    /// Counts a damaged call by its answer, 0 where the damage was none.
-    pub fn count_refusal(&mut self, call: usize, number: u8) {
-        self.refusals[call][usize::from(number)] += 1;
+        self.count_operands(a.traced.unwrap_or(op));
+        let sp = a.before.r[SP];
+        self.page_ends += u64::from(!(0x14..0xF0).contains(&(sp & 0xFF)));
+        self.memory_ends[0] += u64::from(sp < 0x14);
+        self.memory_ends[1] += u64::from(sp >= 0xFFF0);
     }
 
     fn count_operands(&mut self, op: u16) {
@@ -141,38 +442,56 @@ impl Coverage {
         }
     }
 
-    /// What was not reached at all. Cause 7 can't be.
-    pub fn missing(&self) -> Vec<String> {
-        let mut missing = Vec::new();
-        for kind in 0..KINDS {
-            let name = kind_name(kind);
-            for (how, counts) in [("", &self.plain), ("traced ", &self.traced)] {
-                if counts[kind] == 0 {
-                    missing.push(format!("{how}{name}"));
-                }
-            }
-        }
-        for field in 0..64 {
-            for (what, counts) in [
-                ("source", &self.sources),
-                ("destination", &self.destinations),
-            ] {
-                if counts[0][field] == 0 || counts[1][field] == 0 {
-                    missing.push(format!("{what} mode {} register {}", field >> 3, field & 7));
-                }
-            }
-        }
-        self.missing_ways(&mut missing);
-        missing
+    pub fn count_power_up(&mut self, setup: &Setup, state: &State) {
+        let pair = (setup.settings.power_up, setup.settings.halt);
+        let locked = usize::from(state.mode == Mode::Locked);
+        self.power_ups[usize::from(pair.0)][usize::from(pair.1)][locked] += 1;
     }
 
-    /// What each mode can come to; what a halt and WFI lead to; ends of memory; refusals.
-    fn missing_ways(&self, missing: &mut Vec<String>) {
+    pub fn count_run(&mut self, kind: RunKind) {
+        self.runs[kind as usize] += 1;
+    }
+
+    /// Counts a damaged call by its answer, 0 where the damage was none.
+    pub fn count_refusal(&mut self, call: usize, number: u8) {
+        self.refusals[call][usize::from(number)] += 1;
+    }
+
+    /// What was not reached at all.
+    pub fn missing(&self) -> Vec<String> {
+        let mut missing = Vec::new();
         let mut ask = |count: u64, what: String| {
             if count == 0 {
                 missing.push(what);
             }
         };
+        self.ask_op_codes(&mut ask);
+        self.ask_ways(&mut ask);
+        self.ask_wishes(&mut ask);
+        self.ask_refusals(&mut ask);
+        missing
+    }
+
+    /// Every op code by itself and under XCT, every mode with every register.
+    fn ask_op_codes(&self, ask: &mut dyn FnMut(u64, String)) {
+        for kind in 0..KINDS {
+            ask(self.plain[kind], kind_name(kind).to_string());
+            ask(self.traced[kind], format!("traced {}", kind_name(kind)));
+        }
+        for field in 0..64 {
+            let what = format!("mode {} register {}", field >> 3, field & 7);
+            for size in 0..2 {
+                ask(self.sources[size][field], format!("source {what}"));
+                ask(
+                    self.destinations[size][field],
+                    format!("destination {what}"),
+                );
+            }
+        }
+    }
+
+    /// What each mode can come to; what a halt and WFI lead to; ends of memory.
+    fn ask_ways(&self, ask: &mut dyn FnMut(u64, String)) {
         let causes: [&[usize]; 5] = [
             &[0, 1, 2, 3, 5, 6, 8],
             &[1, 2, 3, 4, 6, 8],
@@ -187,22 +506,54 @@ impl Coverage {
             }
         }
         for mode in 0..4 {
-            ask(
-                self.entered[mode],
-                format!("an op code that leads to mode {mode}"),
-            );
+            let what = format!("an op code that leads to mode {mode}");
+            ask(self.entered[mode], what);
         }
         ask(self.page_ends, "a stack at a page end".to_string());
         ask(self.memory_ends[0], "a stack at 0000".to_string());
         ask(self.memory_ends[1], "a stack at FFFE".to_string());
+    }
+
+    fn ask_wishes(&self, ask: &mut dyn FnMut(u64, String)) {
+        for (&count, (wish, what, _)) in self.corners.iter().zip(&CORNERS) {
+            if self.level.has(*wish) {
+                ask(count, what.to_string());
+            }
+        }
+        if self.level.has(BlockMoves) {
+            let names = ROWS[ROWS.len() - BLOCK_MOVES..].iter().map(|row| row.name);
+            for (&count, name) in self.elements.iter().zip(names) {
+                ask(count, format!("an element of {name}"));
+            }
+        }
+        for (kind, what) in RUN_KINDS {
+            let known = kind != RunKind::PluggedReadOnly || self.level.has(ReadOnlyPages);
+            if known {
+                ask(self.runs[kind as usize], what.to_string());
+            }
+        }
+        if self.level.has(Jumpers) {
+            for (pair, locked) in (0..16).flat_map(|pair| [(pair, 0), (pair, 1)]) {
+                let (power_up, halt) = (pair / 4, pair % 4);
+                let bootstrap = power_up == 0 || (power_up == 2 && halt == 0);
+                let impossible = if locked == 1 { bootstrap } else { pair == 10 };
+                if !impossible {
+                    let what = ["a power-up", "a locked power-up"][locked];
+                    let what = format!("{what} with jumpers {power_up} and {halt}");
+                    ask(self.power_ups[power_up][halt][locked], what);
+                }
+            }
+        }
+    }
+
+    fn ask_refusals(&self, ask: &mut dyn FnMut(u64, String)) {
         let numbers: [&[usize]; 3] = [&[21, 1, 2, 3], &[21, 1, 2, 3, 5], &[21, 1, 2, 3, 4, 5]];
         for (call, numbers) in numbers.iter().enumerate() {
-            for &number in *numbers {
+            let jumpers = self.level.has(Jumpers).then_some(&35);
+            for &number in numbers.iter().chain(jumpers) {
                 let name = ["power-up", "step", "run"][call];
-                ask(
-                    self.refusals[call][number],
-                    format!("{name} refused by {number}"),
-                );
+                let what = format!("{name} refused by {number}");
+                ask(self.refusals[call][number], what);
             }
         }
     }
@@ -210,11 +561,10 @@ impl Coverage {
     pub fn print(&self) {
         println!("op code: executed, under XCT, dropped by a bus error");
         for kind in 0..KINDS {
+            let name = kind_name(kind);
+            let (plain, traced) = (self.plain[kind], self.traced[kind]);
             print!(
-                "{:>10} {:>6} {:>5} {:>5}",
-                kind_name(kind),
-                self.plain[kind],
-                self.traced[kind],
+                "{name:>10} {plain:>6} {traced:>5} {:>5}",
                 self.dropped[kind]
             );
             if kind % 4 == 3 || kind + 1 == KINDS {
@@ -234,28 +584,36 @@ impl Coverage {
                 println!();
             }
         }
+        self.print_ways();
+    }
+
+    fn print_ways(&self) {
         for (mode, causes) in self.causes.iter().enumerate() {
-            println!("causes 0 to 8 in mode {mode}: {causes:?}");
+            println!("causes 0 to 9 in mode {mode}: {causes:?}");
         }
-        println!("modes 0 to 4 after an op code: {:?}", self.entered);
+        println!("modes 0 to 5 after an op code: {:?}", self.entered);
         println!("op codes with SP at a page end: {}", self.page_ends);
-        println!(
-            "op codes with SP at the ends of memory: {:?}",
-            self.memory_ends
-        );
+        let ends = &self.memory_ends;
+        println!("op codes with SP at the ends of memory: {ends:?}");
+        for (&count, (wish, what, _)) in self.corners.iter().zip(&CORNERS) {
+            if self.level.has(*wish) {
+                println!("wish {}, {what}: {count}", *wish as u8);
+            }
+        }
+        println!("elements by block move: {:?}", self.elements);
+        for (kind, what) in RUN_KINDS {
+            println!("{what}: {}", self.runs[kind as usize]);
+        }
+        if self.level.has(Jumpers) {
+            println!("power-ups by jumpers, and locked: {:?}", self.power_ups);
+        }
         for (call, numbers) in self.refusals.iter().enumerate() {
             let name = ["power-up", "step", "run"][call];
+            let (some, bad) = (&numbers[1..6], numbers[21]);
             println!(
-                "damaged {name}, refused by 1 to 5 {:?}, by 21 {}",
-                &numbers[1..6],
-                numbers[21]
+                "damaged {name}, refused by 1 to 5 {some:?}, by 21 {bad}, by 35 {}",
+                numbers[35]
             );
         }
-    }
-}
-
-impl Default for Coverage {
-    fn default() -> Coverage {
-        Coverage::new()
     }
 }

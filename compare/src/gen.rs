@@ -4,8 +4,9 @@
 //! registers and pointers lie mostly in fitted pages, often at page borders, at both
 //! ends of memory and in the fixed locations.
 
-use crate::board::{IMAGE, PAGES};
+use crate::board::{IMAGE, PAGES, READ_ONLY, WRITABLE};
 use crate::job::MOST_WORDS;
+use crate::level::{Level, Settings, Wish};
 use crate::machine::MOST_LINES;
 use crate::state::{Flags, Line, Mode, State, PC, SP};
 use crate::table::ROWS;
@@ -53,7 +54,7 @@ pub struct RandomBoard {
     pub map: [u8; PAGES],
 }
 
-fn random_map(random: &mut Random) -> [u8; PAGES] {
+fn random_map(random: &mut Random, level: Level) -> [u8; PAGES] {
     let fitted = random.pick(&[100, 97, 90, 75, 50, 10]);
     let mut map = [0; PAGES];
     for page in &mut map {
@@ -61,7 +62,34 @@ fn random_map(random: &mut Random) -> [u8; PAGES] {
     }
     map[0] = u8::from(random.percent(95));
     map[PAGES - 1] = u8::from(random.percent(60));
+    if level.has(Wish::ReadOnlyPages) {
+        protect(random, &mut map);
+    }
     map
+}
+
+/// Makes fitted pages read-only: none, some or half of them.
+fn protect(random: &mut Random, map: &mut [u8; PAGES]) {
+    let protected = random.pick(&[0, 0, 10, 50]);
+    for page in map.iter_mut().filter(|page| **page == WRITABLE) {
+        if random.percent(protected) {
+            *page = READ_ONLY;
+        }
+    }
+}
+
+/// What a board is set to: jumpers 11 and 11 about half of the time.
+pub fn settings(random: &mut Random, level: Level) -> Settings {
+    let mut settings = Settings {
+        microm: random.percent(70),
+        ..Settings::BENCH
+    };
+    if level.has(Wish::Jumpers) && random.percent(60) {
+        settings.power_up = random.below(4) as u8;
+        settings.halt = random.below(4) as u8;
+        settings.address = random.below(64) as u8;
+    }
+    settings
 }
 
 /// An address anywhere, often one where something ends or begins.
@@ -83,7 +111,7 @@ fn any_address(random: &mut Random) -> u16 {
 pub fn address(random: &mut Random, map: &[u8; PAGES]) -> u16 {
     let mut address = any_address(random);
     for _ in 0..6 {
-        if map[usize::from(address >> 8)] == 1 || random.percent(10) {
+        if map[usize::from(address >> 8)] != 0 || random.percent(10) {
             break;
         }
         address = any_address(random);
@@ -129,8 +157,8 @@ fn vectors(random: &mut Random, map: &[u8; PAGES]) -> Vec<(u16, u16)> {
         .collect()
 }
 
-pub fn board(random: &mut Random) -> RandomBoard {
-    let map = random_map(random);
+pub fn board(random: &mut Random, level: Level) -> RandomBoard {
+    let map = random_map(random, level);
     let mut image = vec![0; IMAGE];
     for pair in image.chunks_exact_mut(2) {
         let word = if random.percent(60) {
@@ -167,7 +195,7 @@ pub fn line(random: &mut Random) -> u16 {
     }
 }
 
-pub fn state(random: &mut Random, map: &[u8; PAGES]) -> State {
+pub fn state(random: &mut Random, map: &[u8; PAGES], level: Level) -> State {
     let mut r = [0; 8];
     for register in &mut r {
         *register = value(random, map);
@@ -179,6 +207,7 @@ pub fn state(random: &mut Random, map: &[u8; PAGES]) -> State {
         6..=9 => Mode::HaltedPowerFail,
         10..=13 => Mode::HaltedSwitch,
         14 => Mode::Locked,
+        15..=20 if level.has(Wish::Jumpers) => Mode::Saved,
         _ => Mode::Running,
     };
     State {
@@ -186,7 +215,7 @@ pub fn state(random: &mut Random, map: &[u8; PAGES]) -> State {
         flags: Flags::from_bits(random.word()),
         i2: random.percent(50),
         mode,
-        mark: false,
+        mark: level.has(Wish::LateIen) && random.percent(25),
     }
 }
 
@@ -204,8 +233,12 @@ fn op_code_at(
     }
 }
 
-pub fn case(random: &mut Random, map: &[u8; PAGES]) -> Case {
-    let state = state(random, map);
+pub fn case(random: &mut Random, map: &[u8; PAGES], level: Level) -> Case {
+    let mut state = state(random, map, level);
+    if random.percent(20) {
+        // The counts at which a block move ends, or goes round.
+        state.r[0] = random.pick(&[0, 1, 2]);
+    }
     let mut words = Vec::new();
     if random.percent(20) {
         words = vectors(random, map);
@@ -233,15 +266,17 @@ pub fn case(random: &mut Random, map: &[u8; PAGES]) -> Case {
 
 // ---- jobs ----
 
-/// The three sections of a job, to be damaged before they become bytes.
+/// The sections of a job, to be damaged before they become bytes.
 struct Sections {
     pages: Vec<u8>,
     words: Vec<(u16, u16)>,
     lines: Vec<u16>,
+    /// The fourth section, if there is one.
+    read_only: Option<Vec<u8>>,
 }
 
 /// The bytes of a job whose counts may lie.
-fn bytes_of(sections: &Sections, counts: [usize; 3]) -> Vec<u8> {
+fn bytes_of(sections: &Sections, counts: [usize; 4]) -> Vec<u8> {
     let mut bytes = (counts[0] as u16).to_le_bytes().to_vec();
     bytes.extend(&sections.pages);
     bytes.extend((counts[1] as u16).to_le_bytes());
@@ -253,20 +288,35 @@ fn bytes_of(sections: &Sections, counts: [usize; 3]) -> Vec<u8> {
     for line in &sections.lines {
         bytes.extend(line.to_le_bytes());
     }
+    if let Some(pages) = &sections.read_only {
+        bytes.extend((counts[3] as u16).to_le_bytes());
+        bytes.extend(pages);
+    }
     bytes
 }
 
 impl Sections {
-    fn counts(&self) -> [usize; 3] {
-        [self.pages.len(), self.words.len(), self.lines.len()]
+    fn counts(&self) -> [usize; 4] {
+        let read_only = self.read_only.as_ref().map_or(0, Vec::len);
+        [
+            self.pages.len(),
+            self.words.len(),
+            self.lines.len(),
+            read_only,
+        ]
+    }
+
+    /// Where the third section ends.
+    fn third_end(&self) -> usize {
+        6 + self.pages.len() + 4 * self.words.len() + 2 * self.lines.len()
     }
 }
 
 /// Two pages and one unfitted page, two words and one line word at least.
-fn sections(random: &mut Random) -> Sections {
-    let mut map = random_map(random);
-    map[0] = 1;
-    map[1 + random.below(127)] = 1;
+fn sections(random: &mut Random, level: Level) -> Sections {
+    let mut map = random_map(random, level);
+    map[0] = map[0].max(WRITABLE);
+    map[1 + random.below(127)] = WRITABLE;
     map[128 + random.below(127)] = 0;
     let mut image = std::collections::BTreeMap::new();
     let start = address(random, &map);
@@ -293,23 +343,24 @@ fn sections(random: &mut Random) -> Sections {
             image.entry(at).or_insert_with(|| op_code(random));
         }
     }
-    let fitted = |at: u16| map[usize::from(at >> 8)] == 1;
+    let fitted = |at: u16| map[usize::from(at >> 8)] != 0;
+    let pages = |least: u8| (0..=255).filter(move |&page| map[usize::from(page)] >= least);
+    let fourth = level.has(Wish::ReadOnlyPages) && (map.contains(&READ_ONLY) || random.percent(20));
     let words = image.into_iter().filter(|&(at, _)| fitted(at));
     let number = random.pick(&[1, 10, 100, MOST_LINES]);
     Sections {
-        pages: (0..=255)
-            .filter(|&page| map[usize::from(page)] == 1)
-            .collect(),
+        pages: pages(WRITABLE).collect(),
         words: words.take(MOST_WORDS).collect(),
         lines: (0..number).map(|_| line(random)).collect(),
+        read_only: fourth.then(|| pages(READ_ONLY).collect()),
     }
 }
 
-pub fn good_job(random: &mut Random) -> Vec<u8> {
+pub fn good_job(random: &mut Random, level: Level) -> Vec<u8> {
     if random.percent(2) {
         return vec![0; 6];
     }
-    let mut job = sections(random);
+    let mut job = sections(random, level);
     if random.percent(5) {
         job.pages = (0..=255).collect();
     }
@@ -337,18 +388,36 @@ fn add_unfitted(job: &mut Sections, random: &mut Random) {
     job.words.sort();
 }
 
-/// A job that is refused with this number, from 11 to 20.
-pub fn damaged_job(random: &mut Random, number: u8) -> Vec<u8> {
-    let mut job = sections(random);
-    let mut counts = job.counts();
+/// A page of the fourth section that falls, comes twice or is not fitted.
+fn add_bad_read_only(job: &mut Sections, random: &mut Random) {
+    let unfitted: Vec<u8> = (0..=255).filter(|page| !job.pages.contains(page)).collect();
+    let pages = job.read_only.get_or_insert_with(Vec::new);
+    if pages.is_empty() || random.percent(30) {
+        let at = random.below(pages.len() + 1);
+        pages.insert(at, random.pick(&unfitted));
+    } else {
+        let at = random.below(pages.len());
+        pages.insert(at + 1, pages[random.below(at + 1)]);
+    }
+}
+
+/// The numbers that a damaged job can be refused with.
+pub fn job_refusals(level: Level) -> Vec<u8> {
+    let mut numbers: Vec<u8> = (11..=20).collect();
+    if level.has(Wish::ReadOnlyPages) {
+        numbers.push(22);
+    }
+    numbers
+}
+
+/// A job that is refused with this number.
+pub fn damaged_job(random: &mut Random, number: u8, level: Level) -> Vec<u8> {
+    let mut job = sections(random, level);
     match number {
-        11 => {}
-        12 => counts[0] = over(random, PAGES),
         13 => {
             let at = 1 + random.below(job.pages.len() - 1);
             job.pages[at] = job.pages[random.below(at)];
         }
-        14 => counts[1] = over(random, MOST_WORDS),
         15 => {
             let at = random.below(job.words.len());
             job.words[at].0 |= 1;
@@ -357,20 +426,32 @@ pub fn damaged_job(random: &mut Random, number: u8) -> Vec<u8> {
             let at = 1 + random.below(job.words.len() - 1);
             job.words[at].0 = job.words[random.below(at)].0;
         }
-        17 => {
-            add_unfitted(&mut job, random);
-            counts[1] = job.words.len();
-        }
-        18 => counts[2] = over(random, MOST_LINES),
+        17 => add_unfitted(&mut job, random),
         19 => {
             let at = random.below(job.lines.len());
             job.lines[at] |= random.pick(&[4, 0x10, 0x20, 0x40, 0x1000, 0x2000, 0x4000, 0x8000]);
         }
+        20 if level.has(Wish::ReadOnlyPages) => {
+            job.read_only.get_or_insert_with(Vec::new);
+        }
+        22 => add_bad_read_only(&mut job, random),
+        _ => {}
+    }
+    let mut counts = job.counts();
+    match number {
+        12 if job.read_only.is_some() && random.percent(50) => counts[3] = over(random, PAGES),
+        12 => counts[0] = over(random, PAGES),
+        14 => counts[1] = over(random, MOST_WORDS),
+        18 => counts[2] = over(random, MOST_LINES),
         _ => {}
     }
     let mut bytes = bytes_of(&job, counts);
     if number == 11 {
-        bytes.truncate(random.below(bytes.len()));
+        let mut length = random.below(bytes.len());
+        if level.has(Wish::ReadOnlyPages) && length == job.third_end() {
+            length -= 1;
+        }
+        bytes.truncate(length);
     } else if number == 20 || random.percent(30) {
         let more = 1 + random.below(3);
         bytes.resize(bytes.len() + more, 0);
@@ -379,8 +460,8 @@ pub fn damaged_job(random: &mut Random, number: u8) -> Vec<u8> {
 }
 
 /// A good job with a few bytes changed, whatever that comes to.
-pub fn changed_job(random: &mut Random) -> Vec<u8> {
-    let mut bytes = good_job(random);
+pub fn changed_job(random: &mut Random, level: Level) -> Vec<u8> {
+    let mut bytes = good_job(random, level);
     for _ in 0..=random.below(3) {
         let at = if random.percent(50) {
             random.below(bytes.len().min(300))

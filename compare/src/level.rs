@@ -31,6 +31,13 @@ impl Level {
     /// What the proved processor has: bench, speed and difftest are held to this one.
     pub const LANDED: Level = Level::BASE;
 
+    /// The level that a program is told, or the landed one.
+    pub fn told(argument: Option<&str>) -> Level {
+        argument.map_or(Level::LANDED, |level| {
+            Level(level.parse().expect("a level, as 14"))
+        })
+    }
+
     pub fn has(self, wish: Wish) -> bool {
         wish as u8 <= self.0
     }

@@ -9,6 +9,7 @@ pub mod alu;
 pub mod assembler;
 pub mod bench;
 pub mod board;
+pub mod calls;
 pub mod cases;
 mod columns;
 pub mod coverage;
@@ -25,6 +26,7 @@ pub mod served;
 pub mod state;
 pub mod table;
 pub mod text;
+pub mod through;
 pub mod trace;
 
 pub use level::{Level, Settings, Setup, Wish};

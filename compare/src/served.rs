@@ -1,46 +1,19 @@
-//! Programs that serve the functions for C on their standard input and output (c/serve.c), and programs
+//! A program that serves calls on its standard input and output (c/serve.c), and programs
 //! that read all their input and print.
+//!
+//! A request: a byte with the length of the function's name, the name, then its arguments:
+//! a buffer is its length in elements (four bytes, low byte first) and its elements, a number
+//! is four bytes. An answer: the number that was returned, then the buffers as they are after
+//! the call. What the buffers are is in abi.rs, and which of them a function takes is here.
 
-use std::io::{Read, Write};
+use std::io::{Read, Result, Write};
 use std::process::{Child, Command, Stdio};
 
-use crate::abi::{Buffers, Call, Processor};
+use crate::abi::{Call, Interface};
 use crate::level::{Level, Wish};
 
-/// An argument of a call, in the order of the function's parameters.
-pub enum Argument<'a> {
-    /// A buffer that the call may write.
-    Written(&'a mut [u8]),
-    /// A buffer that it only reads.
-    Read(&'a [u8]),
-    /// Words that it only reads.
-    Words(&'a [u16]),
-    Number(u32),
-}
-
-impl Argument<'_> {
-    fn elements(&self) -> Vec<u8> {
-        match self {
-            Argument::Written(bytes) => bytes.to_vec(),
-            Argument::Read(bytes) => bytes.to_vec(),
-            Argument::Words(words) => words.iter().flat_map(|word| word.to_le_bytes()).collect(),
-            Argument::Number(_) => Vec::new(),
-        }
-    }
-
-    /// The length of a buffer in elements, or the number.
-    fn head(&self) -> u32 {
-        match self {
-            Argument::Written(bytes) => bytes.len() as u32,
-            Argument::Read(bytes) => bytes.len() as u32,
-            Argument::Words(words) => words.len() as u32,
-            Argument::Number(number) => *number,
-        }
-    }
-}
-
 /// A program, with its input and output as pipes.
-fn started(command: &str) -> std::io::Result<Child> {
+fn started(command: &str) -> Result<Child> {
     let mut words = command.split_whitespace();
     Command::new(words.next().unwrap_or_default())
         .args(words)
@@ -50,7 +23,7 @@ fn started(command: &str) -> std::io::Result<Child> {
 }
 
 /// What a program prints when it is given this input.
-pub fn printed(command: &str, input: &[u8]) -> std::io::Result<Vec<u8>> {
+pub fn printed(command: &str, input: &[u8]) -> Result<Vec<u8>> {
     let mut child = started(command)?;
     if let Some(mut pipe) = child.stdin.take() {
         // A program that refuses early may close its input before all is written.
@@ -62,73 +35,80 @@ pub fn printed(command: &str, input: &[u8]) -> std::io::Result<Vec<u8>> {
 /// The serving program, whose interface is the one of this level.
 pub struct Served {
     child: Child,
-    pub level: Level,
+    level: Level,
+}
+
+/// An argument: a buffer of the call by its place, or the first word of one as a number.
+#[derive(Clone, Copy)]
+enum Argument {
+    Buffer(usize),
+    FirstWord(usize),
+}
+
+use Argument::{Buffer, FirstWord};
+
+/// The function of a call, and its arguments in their order.
+fn function(call: Call, level: Level) -> (&'static str, Vec<Argument>) {
+    let settings = level.has(Wish::BlockMoves).then_some(Buffer(5));
+    let (name, first, last): (_, &[usize], Option<Argument>) = match call {
+        Call::PowerUp => ("wd16_power_up", &[0, 2, 3], None),
+        Call::Step => ("wd16_step", &[0, 2, 3], Some(FirstWord(4))),
+        Call::Run => ("wd16_run", &[0, 1, 2, 3], Some(Buffer(4))),
+        Call::WriteText => return ("wd16_write_text", [0, 1, 2].map(Buffer).to_vec()),
+        Call::ReadText => return ("wd16_read_text", [0, 1, 2].map(Buffer).to_vec()),
+        Call::Assemble => return ("wd16_assemble", [0, 1, 2].map(Buffer).to_vec()),
+        Call::CheckTrace => return ("wd16_check_trace", [0, 1, 2].map(Buffer).to_vec()),
+        Call::Scan => return ("wd16_scan", (0..9).map(Buffer).collect()),
+        Call::Report => return ("wd16_report", [0, 1, 2].map(Buffer).to_vec()),
+    };
+    let buffers = first.iter().map(|&at| Buffer(at));
+    (name, buffers.chain(settings).chain(last).collect())
 }
 
 impl Served {
-    pub fn start(command: &str, level: Level) -> std::io::Result<Served> {
+    pub fn start(command: &str, level: Level) -> Result<Served> {
         let child = started(command)?;
         Ok(Served { child, level })
     }
 
-    fn exchange(&mut self, request: &[u8], answer: &mut [u8]) -> std::io::Result<()> {
-        let input = self.child.stdin.as_mut().expect("a pipe");
-        input.write_all(request)?;
-        input.flush()?;
-        let output = self.child.stdout.as_mut().expect("a pipe");
-        output.read_exact(answer)
-    }
-
-    /// The number that the function answers. What it may write is then as the call left it; what it only reads must be as lent.
-    pub fn function(&mut self, name: &str, arguments: &mut [Argument]) -> u8 {
+    /// The request, and the places of the buffers that come back.
+    fn request(&self, call: Call, buffers: &[Vec<u8>]) -> (Vec<u8>, Vec<usize>) {
+        let sizes = call.elements(self.level);
+        let (name, arguments) = function(call, self.level);
         let mut request = vec![name.len() as u8];
         request.extend(name.bytes());
-        let mut size = 0;
-        for argument in arguments.iter() {
-            let elements = argument.elements();
-            request.extend(argument.head().to_le_bytes());
-            request.extend(&elements);
-            size += elements.len();
-        }
-        let mut answer = vec![0; 1 + size];
-        self.exchange(&request, &mut answer)
-            .expect("the server answers each call");
-        let (number, mut rest) = (answer[0], &answer[1..]);
-        for argument in arguments.iter_mut() {
-            let before = argument.elements();
-            let (after, further) = rest.split_at(before.len());
-            rest = further;
+        let mut back = Vec::new();
+        for argument in arguments {
             match argument {
-                Argument::Written(bytes) => bytes.copy_from_slice(after),
-                _ => assert!(after == before, "{name} changed what it only reads"),
+                Buffer(at) => {
+                    request.extend(((buffers[at].len() / sizes[at]) as u32).to_le_bytes());
+                    request.extend(&buffers[at]);
+                    back.push(at);
+                }
+                FirstWord(at) => request.extend([buffers[at][0], buffers[at][1], 0, 0]),
             }
         }
-        number
+        (request, back)
+    }
+
+    fn exchange(&mut self, call: Call, buffers: &mut [Vec<u8>]) -> Result<u8> {
+        let (request, back) = self.request(call, buffers);
+        let input = self.child.stdin.as_mut().expect("a pipe");
+        input.write_all(&request)?;
+        input.flush()?;
+        let output = self.child.stdout.as_mut().expect("a pipe");
+        let mut number = [0];
+        output.read_exact(&mut number)?;
+        for at in back {
+            output.read_exact(&mut buffers[at])?;
+        }
+        Ok(number[0])
     }
 }
 
-impl Processor for Served {
-    fn call(&mut self, call: Call, b: &mut Buffers) -> u8 {
-        let has_settings = self.level.has(Wish::BlockMoves);
-        let mut lent = vec![Argument::Written(&mut b.state)];
-        if call == Call::Run {
-            lent.push(Argument::Written(&mut b.tally));
-        }
-        lent.push(Argument::Written(&mut b.image));
-        lent.push(Argument::Read(&b.map));
-        if has_settings {
-            lent.push(Argument::Read(&b.settings));
-        }
-        match call {
-            Call::PowerUp => {}
-            Call::Step => lent.push(Argument::Number(b.lines[0].into())),
-            Call::Run => lent.push(Argument::Words(&b.lines)),
-        }
-        let name = match call {
-            Call::PowerUp => "wd16_power_up",
-            Call::Step => "wd16_step",
-            Call::Run => "wd16_run",
-        };
-        self.function(name, &mut lent)
+impl Interface for Served {
+    fn call(&mut self, call: Call, buffers: &mut [Vec<u8>]) -> u8 {
+        self.exchange(call, buffers)
+            .expect("the server answers each call")
     }
 }

@@ -158,11 +158,11 @@ fn every_cut_of_a_job_is_refused() {
 fn generated_jobs_are_what_they_should_be() {
     let mut random = Random::new(1);
     for _ in 0..300 {
-        let good = good_job(&mut random);
+        let good = good_job(&mut random, BASE);
         assert!(read(&good).is_ok());
         for number in 11..=20 {
             assert_eq!(
-                read(&damaged_job(&mut random, number)),
+                read(&damaged_job(&mut random, number, BASE)),
                 Err(Refusal(number))
             );
         }

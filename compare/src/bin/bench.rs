@@ -1,4 +1,5 @@
 //! Reads a job on standard input, powers up, runs, and prints one line.
+//! An argument is the level; without one it is the landed one.
 
 use std::io::Read;
 
@@ -8,6 +9,7 @@ use wd16::Level;
 fn main() -> std::io::Result<()> {
     let mut job = Vec::new();
     std::io::stdin().read_to_end(&mut job)?;
-    println!("{}", bench(Level::LANDED, &job));
+    let level = Level::told(std::env::args().nth(1).as_deref());
+    println!("{}", bench(level, &job));
     Ok(())
 }

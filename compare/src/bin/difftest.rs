@@ -7,19 +7,21 @@
 //! ```
 //!
 //! After each step state, cause and the whole image must be the same. The first
-//! difference is printed, and the answer is then 1.
+//! difference is printed, and the answer is then 1. A last argument is the level; without
+//! one it is the landed one.
 
 use std::process::ExitCode;
 
-use wd16::abi::{self, Buffers, Call, Plain, Processor, CALLS};
+use wd16::abi::{self, Buffers, Call, Interface};
 use wd16::bench::bench;
-use wd16::board::{IMAGE, PAGES};
-use wd16::coverage::{Ahead, Coverage};
+use wd16::board::{IMAGE, PAGES, READ_ONLY, WRITABLE};
+use wd16::calls::Plain;
+use wd16::coverage::{cut_kinds, Ahead, Coverage, RunKind};
 use wd16::gen::{self, Random};
 use wd16::machine::MOST_LINES;
 use wd16::served::{printed, Served};
 use wd16::text::text_of;
-use wd16::{Level, Settings, State, PC};
+use wd16::{step, Level, Mode, Ran, Settings, Setup, State, Stepped, Wish, PC};
 
 /// What differs, told to a person.
 type Difference = String;
@@ -28,28 +30,95 @@ fn hex(bytes: &[u8]) -> String {
     bytes.iter().map(|byte| format!("{byte:02X}")).collect()
 }
 
-/// Holds two answers, and the buffers after them, against each other.
-fn same(what: &str, ours: (u8, &Buffers), theirs: (u8, &Buffers)) -> Result<(), Difference> {
-    if ours == theirs {
-        return Ok(());
+// ---- one board, two processors ----
+
+/// Two processors on one board. `lent` is what both are lent next.
+struct Pair<'a> {
+    level: Level,
+    other: &'a mut dyn Interface,
+    lent: Buffers,
+}
+
+impl Pair<'_> {
+    /// The same call on both; answers its number and goes on with what it left.
+    fn call(&mut self, call: Call, what: impl Fn(&Buffers) -> String) -> Result<u8, Difference> {
+        let mut ours = self.lent.clone().into_list(self.level);
+        let mut theirs = ours.clone();
+        let their_number = self.other.call(call, &mut theirs);
+        let number = Plain(self.level).call(call, &mut ours);
+        let (ours, theirs) = (Buffers::taken(&mut ours), Buffers::taken(&mut theirs));
+        if (number, &ours) != (their_number, &theirs) {
+            let told = difference((number, &ours), (their_number, &theirs));
+            return Err(format!("{}: {told}", what(&self.lent)));
+        }
+        if number != 0 && ours != self.lent {
+            return Err(format!(
+                "{}: a refused call changed a buffer",
+                what(&self.lent)
+            ));
+        }
+        self.lent = ours;
+        Ok(number)
     }
-    let (answers, ours, theirs) = ((ours.0, theirs.0), ours.1, theirs.1);
-    if answers.0 != answers.1 {
-        let (ours, theirs) = answers;
-        return Err(format!("{what}: ours answers {ours}, theirs {theirs}"));
+
+    fn put(&mut self, words: &[(u16, u16)]) {
+        for &(at, word) in words {
+            let at = usize::from(at & 0xFFFE);
+            self.lent.image[at..at + 2].copy_from_slice(&word.to_le_bytes());
+        }
+    }
+
+    fn lend_state(&mut self, state: &State) {
+        self.lent.state = abi::bytes_of(self.level, state);
+    }
+
+    fn lend_settings(&mut self, settings: &Settings) -> Setup {
+        self.lent.settings = abi::settings_bytes(self.level, settings);
+        abi::setup_of(self.level, &self.lent.settings).expect("good settings")
+    }
+
+    fn step(&mut self, line: u16) -> Result<Stepped, Difference> {
+        let level = self.level;
+        self.lent.lines = vec![line];
+        self.call(Call::Step, |lent| {
+            let state = abi::state_of(level, &lent.state).expect("a good state");
+            let text = op_code_text(level, &state, &lent.image);
+            let settings = hex(&lent.settings);
+            let state = hex(&lent.state);
+            format!("step from {state} on line {line:04X}, settings {settings}, {text}")
+        })?;
+        Ok(abi::stepped_of(level, &self.lent.state).expect("a good answer"))
+    }
+
+    fn run(&mut self, lines: &[u16]) -> Result<Ran, Difference> {
+        self.lent.lines = lines.to_vec();
+        self.call(Call::Run, |lent| {
+            let (state, lines) = (hex(&lent.state), lent.lines.len());
+            format!(
+                "run from {state} over {lines} lines, settings {}",
+                hex(&lent.settings)
+            )
+        })?;
+        let Buffers { state, tally, .. } = &self.lent;
+        Ok(abi::ran_of(self.level, state, tally).expect("a good answer"))
+    }
+}
+
+/// Where two answers, or the buffers after them, differ.
+fn difference(ours: (u8, &Buffers), theirs: (u8, &Buffers)) -> Difference {
+    if ours.0 != theirs.0 {
+        return format!("ours answers {}, theirs {}", ours.0, theirs.0);
     }
     let told = |b: &Buffers| format!("{} {}", hex(&b.state), hex(&b.tally));
-    if told(ours) != told(theirs) {
-        let (ours, theirs) = (told(ours), told(theirs));
-        return Err(format!("{what}:\n  ours   {ours}\n  theirs {theirs}"));
+    let images = (&ours.1.image, &theirs.1.image);
+    match images.0.iter().zip(images.1).position(|(a, b)| a != b) {
+        _ if told(ours.1) != told(theirs.1) => {
+            let (ours, theirs) = (told(ours.1), told(theirs.1));
+            format!("\n  ours   {ours}\n  theirs {theirs}")
+        }
+        Some(at) => format!("the images differ from {at:04X} on"),
+        None => "the map, the lines or the settings differ".to_string(),
     }
-    let at = ours
-        .image
-        .iter()
-        .zip(&theirs.image)
-        .position(|(a, b)| a != b);
-    let at = at.unwrap_or(ours.image.len().min(theirs.image.len()));
-    Err(format!("{what}: the images differ from {at:04X} on"))
 }
 
 /// The op code at PC, for a person.
@@ -62,71 +131,13 @@ fn op_code_text(level: Level, state: &State, image: &[u8]) -> String {
     text_of(level, &words).map_or(String::new(), |(text, _)| text)
 }
 
-// ---- one board, two processors ----
-
-/// Two processors on one board. `lent` is what both are lent next.
-struct Pair<'a> {
-    level: Level,
-    other: &'a mut dyn Processor,
-    lent: Buffers,
-}
-
-impl Pair<'_> {
-    fn put(&mut self, words: &[(u16, u16)]) {
-        for &(at, word) in words {
-            let at = usize::from(at & 0xFFFE);
-            self.lent.image[at..at + 2].copy_from_slice(&word.to_le_bytes());
-        }
-    }
-
-    /// The same call on both; answers its number and goes on with what it left.
-    fn call(&mut self, call: Call, what: impl Fn(&Buffers) -> String) -> Result<u8, Difference> {
-        let mut theirs = self.lent.clone();
-        let mut ours = self.lent.clone();
-        let their_number = self.other.call(call, &mut theirs);
-        let number = Plain(self.level).call(call, &mut ours);
-        let said = || what(&self.lent);
-        same(&said(), (number, &ours), (their_number, &theirs))?;
-        if number != 0 && ours != self.lent {
-            return Err(format!("{}: a refused call changed a buffer", said()));
-        }
-        self.lent = ours;
-        Ok(number)
-    }
-
-    fn step(&mut self, line: u16) -> Result<(), Difference> {
-        let level = self.level;
-        self.lent.lines = vec![line];
-        self.call(Call::Step, |lent| {
-            let state = abi::state_of(level, &lent.state).expect("a good state");
-            let text = op_code_text(level, &state, &lent.image);
-            format!("step from {} on line {line:04X}, {text}", hex(&lent.state))
-        })?;
-        Ok(())
-    }
-
-    fn run(&mut self, lines: &[u16]) -> Result<(), Difference> {
-        self.lent.lines = lines.to_vec();
-        self.call(Call::Run, |lent| {
-            format!(
-                "run from {} over {} lines",
-                hex(&lent.state),
-                lent.lines.len()
-            )
-        })?;
-        Ok(())
-    }
-
-    fn lend_state(&mut self, state: &State) {
-        self.lent.state = abi::bytes_of(self.level, state);
-    }
-}
-
 // ---- calls that are to be refused ----
 
 /// One thing made wrong; the state's own bytes only where they are read.
 fn damage(level: Level, b: &mut Buffers, random: &mut Random, reads_state: bool) {
-    match random.below(10) {
+    let resized =
+        |random: &mut Random, right: usize| random.pick(&[0, right.saturating_sub(1), right + 1]);
+    match random.below(12) {
         0 => b.image.truncate(random.pick(&[0, 1, IMAGE - 1])),
         1 => b.image.push(0),
         2 => b.map.truncate(random.pick(&[0, 1, PAGES - 1])),
@@ -138,26 +149,34 @@ fn damage(level: Level, b: &mut Buffers, random: &mut Random, reads_state: bool)
                 *page = random.pick(&[2, 3, 0x80, 0xFF]);
             }
         }
-        5 => b
-            .lines
-            .resize(random.pick(&[MOST_LINES, MOST_LINES + 1, 5000]), 0),
+        5 => {
+            let length = random.pick(&[MOST_LINES, MOST_LINES + 1, 5000]);
+            b.lines.resize(length, 0);
+        }
         6 => {
             let bit = random.pick(&[4, 0x10, 0x20, 0x40, 0x1000, 0x2000, 0x4000, 0x8000]);
             let at = random.below(b.lines.len());
             b.lines[at] |= bit;
         }
         7 => {
-            let right = abi::state_length(level);
-            b.state
-                .resize(random.pick(&[0, 16, right - 1, right + 1]), 0);
+            let length = resized(random, abi::state_length(level));
+            b.state.resize(length, 0);
         }
         8 if reads_state && b.state.len() == abi::state_length(level) => {
-            let (at, least) = random.pick(&abi::ranges(level));
-            b.state[at] = random.pick(&[least, least + 1, 0x80, 0xFF]);
+            let (at, least) = random.pick(&abi::bad_bytes(level));
+            b.state[at] = least;
+        }
+        9 if level.has(Wish::BlockMoves) => {
+            let length = resized(random, abi::settings_length(level));
+            b.settings.resize(length, 0);
+        }
+        10 | 11 if !b.settings.is_empty() => {
+            let at = random.below(b.settings.len());
+            b.settings[at] = random.pick(&[2, 3, 4, 0x3F, 0x40, 0xFF]);
         }
         _ => {
-            let right = abi::tally_length(level);
-            b.tally.resize(random.pick(&[0, right - 1, right + 1]), 0);
+            let length = resized(random, abi::tally_length(level));
+            b.tally.resize(length, 0);
         }
     }
 }
@@ -168,13 +187,14 @@ const DAMAGED_ON_A_BOARD: usize = 8;
 fn refused_calls(
     pair: &mut Pair,
     random: &mut Random,
+    map: &[u8; PAGES],
     reached: &mut Coverage,
 ) -> Result<(), Difference> {
     let good = pair.lent.clone();
-    let map = good.map.clone().try_into().expect("a map");
-    for call in CALLS.into_iter().cycle().take(3 * DAMAGED_ON_A_BOARD) {
+    let calls = [Call::PowerUp, Call::Step, Call::Run];
+    for call in calls.into_iter().cycle().take(3 * DAMAGED_ON_A_BOARD) {
         pair.lent = good.clone();
-        pair.lend_state(&gen::state(random, &map));
+        pair.lend_state(&gen::state(random, map, pair.level));
         pair.lent.lines = vec![0; 1 + random.below(3)];
         for _ in 0..=random.below(3) {
             damage(pair.level, &mut pair.lent, random, call != Call::PowerUp);
@@ -182,13 +202,138 @@ fn refused_calls(
         let number = pair.call(call, |_| format!("damaged {call:?}"))?;
         reached.count_refusal(call as usize, number);
     }
+    pair.lent = good;
     Ok(())
+}
+
+// ---- runs ----
+
+/// The run is its steps: the same state and image, the same blanks.
+fn is_its_steps(pair: &Pair, before: &Buffers, ran: &Ran) -> Result<(), Difference> {
+    let setup = abi::setup_of(pair.level, &before.settings).expect("good settings");
+    let mut image = before.image.clone();
+    let mut steps = Ran {
+        state: abi::state_of(pair.level, &before.state).expect("a good state"),
+        blanks: 0,
+        first: None,
+        address: None,
+    };
+    for (place, &line) in before.lines.iter().enumerate() {
+        let stepped = step(&setup, steps.state, &mut image, &before.map, line);
+        let stepped = stepped.expect("a good step");
+        steps.state = stepped.state;
+        if stepped.cause.is_blank() {
+            if steps.blanks == 0 {
+                (steps.first, steps.address) = (Some(place as u16), stepped.blank);
+            }
+            steps.blanks += 1;
+        }
+    }
+    if steps != *ran || image != pair.lent.image {
+        return Err(format!("a run that is not its steps: {ran:?}, {steps:?}"));
+    }
+    Ok(())
+}
+
+/// The run is its first part followed by its second (wish 11).
+fn is_its_parts(
+    pair: &mut Pair,
+    before: &Buffers,
+    ran: &Ran,
+    place: usize,
+    reached: &mut Coverage,
+) -> Result<(), Difference> {
+    let whole = std::mem::replace(&mut pair.lent, before.clone());
+    let first = pair.run(&whole.lines[..place])?;
+    let second = pair.run(&whole.lines[place..])?;
+    let moved = second.first.map(|at| at + place as u16);
+    let joined = Ran {
+        state: second.state,
+        blanks: first.blanks + second.blanks,
+        first: first.first.or(moved),
+        address: if first.first.is_some() {
+            first.address
+        } else {
+            second.address
+        },
+    };
+    if joined != *ran || pair.lent.image != whole.image {
+        return Err(format!(
+            "a run cut at {place} ends differently: {ran:?}, {joined:?}"
+        ));
+    }
+    for kind in cut_kinds(place, whole.lines.len(), &first, &second) {
+        reached.count_run(kind);
+    }
+    pair.lent = whole;
+    Ok(())
+}
+
+/// A run without a blank that doesn't end locked is the same with more cards (wish 12).
+fn is_the_same_with_cards(
+    pair: &mut Pair,
+    before: &Buffers,
+    ran: &Ran,
+    random: &mut Random,
+    reached: &mut Coverage,
+) -> Result<(), Difference> {
+    if ran.blanks != 0 || ran.state.mode == Mode::Locked {
+        reached.count_run(RunKind::NotSound);
+        return Ok(());
+    }
+    let read_only = pair.level.has(Wish::ReadOnlyPages) && random.percent(50);
+    let (card, kind) = if read_only {
+        (READ_ONLY, RunKind::PluggedReadOnly)
+    } else {
+        (WRITABLE, RunKind::PluggedWritable)
+    };
+    let mut plugged = before.clone();
+    for page in plugged.map.iter_mut().filter(|page| **page == 0) {
+        *page = if random.percent(50) { card } else { 0 };
+    }
+    if plugged.map != before.map {
+        reached.count_run(kind);
+    }
+    let whole = std::mem::replace(&mut pair.lent, plugged);
+    let again = pair.run(&whole.lines)?;
+    if again != *ran || pair.lent.image != whole.image {
+        return Err(format!("more cards changed a run: {ran:?}, {again:?}"));
+    }
+    pair.lent = whole;
+    Ok(())
+}
+
+fn one_run(
+    pair: &mut Pair,
+    random: &mut Random,
+    map: &[u8; PAGES],
+    reached: &mut Coverage,
+) -> Result<(), Difference> {
+    let number = random.pick(&[0, 1, 2, 4, 8, 16, 64, MOST_LINES]);
+    let lines: Vec<u16> = (0..number).map(|_| gen::line(random)).collect();
+    let mut state = gen::state(random, map, pair.level);
+    if random.percent(50) {
+        state.mode = Mode::Running;
+    }
+    pair.lend_settings(&gen::settings(random, pair.level));
+    pair.lend_state(&state);
+    let before = Buffers {
+        lines: lines.clone(),
+        ..pair.lent.clone()
+    };
+    let ran = pair.run(&lines)?;
+    is_its_steps(pair, &before, &ran)?;
+    let within = random.below(number + 1);
+    let place = random.pick(&[0, number, within, within]);
+    is_its_parts(pair, &before, &ran, place, reached)?;
+    is_the_same_with_cards(pair, &before, &ran, random, reached)
 }
 
 // ---- many cases ----
 
-/// How many cases share a board.
+/// How many cases share a board, and how many runs.
 const CASES_OF_A_BOARD: usize = 128;
+const RUNS_OF_A_BOARD: usize = 4;
 
 fn one_case(
     pair: &mut Pair,
@@ -196,43 +341,56 @@ fn one_case(
     map: &[u8; PAGES],
     reached: &mut Coverage,
 ) -> Result<(), Difference> {
-    let case = gen::case(random, map);
+    let case = gen::case(random, map, pair.level);
+    let setup = pair.lend_settings(&gen::settings(random, pair.level));
     pair.put(&case.words);
     pair.lend_state(&case.state);
     for line in case.lines {
         let before = abi::state_of(pair.level, &pair.lent.state).expect("a good state");
-        let ahead = Ahead::of(&before, &pair.lent.image, map);
-        pair.step(line)?;
-        reached.count(ahead, &pair.lent.state);
+        let ahead = Ahead::of(setup, before, line, &pair.lent.image, map);
+        let stepped = pair.step(line)?;
+        reached.count(&ahead, &stepped, map);
     }
     Ok(())
 }
 
-/// A run, and that it is its steps.
-fn one_run(pair: &mut Pair, random: &mut Random, map: &[u8; PAGES]) -> Result<(), Difference> {
-    let number = random.pick(&[0, 1, 2, 16, 64, MOST_LINES]);
-    let lines: Vec<u16> = (0..number).map(|_| gen::line(random)).collect();
-    pair.lend_state(&gen::state(random, map));
-    let mut stepped = pair.lent.clone();
-    for &line in &lines {
-        stepped.lines = vec![line];
-        Plain(pair.level).call(Call::Step, &mut stepped);
+/// A power-up with each pair of jumpers that the level knows.
+fn power_ups(
+    pair: &mut Pair,
+    random: &mut Random,
+    reached: &mut Coverage,
+) -> Result<(), Difference> {
+    let before = pair.lent.clone();
+    let pairs = if pair.level.has(Wish::Jumpers) {
+        0..16
+    } else {
+        15..16
+    };
+    for jumpers in pairs {
+        pair.lent = before.clone();
+        let setup = pair.lend_settings(&Settings {
+            power_up: jumpers / 4,
+            halt: jumpers % 4,
+            ..gen::settings(random, pair.level)
+        });
+        pair.call(Call::PowerUp, |lent| {
+            format!("power-up, settings {}", hex(&lent.settings))
+        })?;
+        let state = abi::state_of(pair.level, &pair.lent.state).expect("a good answer");
+        reached.count_power_up(&setup, &state);
     }
-    pair.run(&lines)?;
-    if stepped.image != pair.lent.image {
-        return Err("a run's image is not its steps'".to_string());
-    }
+    pair.lent = before;
     Ok(())
 }
 
 fn one_board(
     level: Level,
-    other: &mut dyn Processor,
+    other: &mut dyn Interface,
     random: &mut Random,
     cases: usize,
     reached: &mut Coverage,
 ) -> Result<(), Difference> {
-    let board = gen::board(random);
+    let board = gen::board(random, level);
     let map = board.map;
     let mut pair = Pair {
         level,
@@ -246,17 +404,19 @@ fn one_board(
             settings: abi::settings_bytes(level, &Settings::BENCH),
         },
     };
-    pair.call(Call::PowerUp, |_| "power-up".to_string())?;
+    power_ups(&mut pair, random, reached)?;
     for _ in 0..cases {
         one_case(&mut pair, random, &map, reached)?;
     }
-    one_run(&mut pair, random, &map)?;
-    refused_calls(&mut pair, random, reached)
+    for _ in 0..RUNS_OF_A_BOARD {
+        one_run(&mut pair, random, &map, reached)?;
+    }
+    refused_calls(&mut pair, random, &map, reached)
 }
 
-fn compare(level: Level, other: &mut dyn Processor, seed: u64, cases: usize) -> ExitCode {
+fn compare(level: Level, other: &mut dyn Interface, seed: u64, cases: usize) -> ExitCode {
     println!("seed {seed}, {cases} cases");
-    let mut reached = Coverage::new();
+    let mut reached = Coverage::new(level);
     let mut done = 0;
     let mut boards = 0;
     while done < cases {
@@ -273,7 +433,11 @@ fn compare(level: Level, other: &mut dyn Processor, seed: u64, cases: usize) -> 
     }
     reached.print();
     println!("0 differences");
-    let missing = reached.missing();
+    all_reached(&reached.missing())
+}
+
+/// Nothing may be missing.
+fn all_reached(missing: &[String]) -> ExitCode {
     if missing.is_empty() {
         return ExitCode::SUCCESS;
     }
@@ -283,21 +447,25 @@ fn compare(level: Level, other: &mut dyn Processor, seed: u64, cases: usize) -> 
 
 // ---- jobs through a program ----
 
+/// A good job, a damaged one or a changed one, by turns.
+fn some_job(random: &mut Random, number: usize, level: Level) -> Vec<u8> {
+    let refusals = gen::job_refusals(level);
+    match number % (refusals.len() + 6) {
+        kind if kind < refusals.len() => gen::damaged_job(random, refusals[kind], level),
+        kind if kind < refusals.len() + 2 => gen::changed_job(random, level),
+        _ => gen::good_job(random, level),
+    }
+}
+
 fn compare_jobs(level: Level, command: &str, seed: u64, jobs: usize) -> ExitCode {
     println!("seed {seed}, {jobs} jobs");
     let mut random = Random::new(seed);
-    let mut refused = [0_u64; 21];
+    let mut refused = [0_u64; 256];
     for number in 0..jobs {
-        let job = match number % 16 {
-            kind @ 0..=9 => gen::damaged_job(&mut random, 11 + kind as u8),
-            10 | 11 => gen::changed_job(&mut random),
-            _ => gen::good_job(&mut random),
-        };
+        let job = some_job(&mut random, number, level);
         let ours = bench(level, &job);
-        let count = ours
-            .strip_prefix("REFUSED ")
-            .map_or(0, |refusal| refusal.parse().unwrap_or(0));
-        refused[count] += 1;
+        let refusal = ours.strip_prefix("REFUSED ");
+        refused[refusal.map_or(0, |number| number.parse().unwrap_or(0))] += 1;
         let theirs = match printed(command, &job) {
             Ok(bytes) => String::from_utf8_lossy(&bytes).into_owned(),
             Err(error) => format!("{command}: {error}"),
@@ -309,17 +477,16 @@ fn compare_jobs(level: Level, command: &str, seed: u64, jobs: usize) -> ExitCode
             return ExitCode::FAILURE;
         }
     }
-    println!(
-        "accepted {}, refused 11 to 20 {:?}",
-        refused[0],
-        &refused[11..]
-    );
+    let numbers = gen::job_refusals(level);
+    let counts: Vec<u64> = numbers.iter().map(|&n| refused[usize::from(n)]).collect();
+    println!("accepted {}, refused {numbers:?} {counts:?}", refused[0]);
     println!("0 differences");
-    if refused[0] == 0 || refused[11..].contains(&0) {
-        println!("not reached: a refusal, or a good job");
-        return ExitCode::FAILURE;
-    }
-    ExitCode::SUCCESS
+    let missing = numbers.iter().copied().chain([0]);
+    let missing: Vec<String> = missing
+        .filter(|&number| refused[usize::from(number)] == 0)
+        .map(|number| format!("a job answered {number}"))
+        .collect();
+    all_reached(&missing)
 }
 
 fn compare_served(level: Level, command: &str, seed: u64, cases: usize) -> ExitCode {
@@ -332,28 +499,30 @@ fn compare_served(level: Level, command: &str, seed: u64, cases: usize) -> ExitC
     }
 }
 
+fn usage() -> ExitCode {
+    println!(
+        "difftest self SEED CASES | served COMMAND SEED CASES | bench COMMAND SEED JOBS [LEVEL]"
+    );
+    ExitCode::FAILURE
+}
+
 fn main() -> ExitCode {
     let arguments: Vec<String> = std::env::args().skip(1).collect();
     let words: Vec<&str> = arguments.iter().map(String::as_str).collect();
-    let number = |text: &str| text.parse::<u64>().ok();
-    let usage = || {
-        println!("difftest self SEED CASES | served COMMAND SEED CASES | bench COMMAND SEED JOBS");
-        ExitCode::FAILURE
-    };
-    let (what, seed, count) = match words[..] {
-        [what @ "self", seed, count] => ((what, ""), number(seed), number(count)),
-        [what @ ("served" | "bench"), command, seed, count] => {
-            ((what, command), number(seed), number(count))
-        }
+    let (what, command, numbers) = match words[..] {
+        ["self", ref numbers @ ..] => ("self", "", numbers),
+        [what @ ("served" | "bench"), command, ref numbers @ ..] => (what, command, numbers),
         _ => return usage(),
     };
-    let (Some(seed), Some(count)) = (seed, count) else {
-        return usage();
+    let numbers: Option<Vec<u64>> = numbers.iter().map(|n| n.parse().ok()).collect();
+    let (seed, count, level) = match numbers.as_deref() {
+        Some(&[seed, count]) => (seed, count as usize, Level::LANDED),
+        Some(&[seed, count, level]) => (seed, count as usize, Level(level as u8)),
+        _ => return usage(),
     };
-    let (level, count) = (Level::LANDED, count as usize);
     match what {
-        ("self", _) => compare(level, &mut Plain(level), seed, count),
-        ("served", command) => compare_served(level, command, seed, count),
-        (_, command) => compare_jobs(level, command, seed, count),
+        "self" => compare(level, &mut Plain(level), seed, count),
+        "served" => compare_served(level, command, seed, count),
+        _ => compare_jobs(level, command, seed, count),
     }
 }
