@@ -7,6 +7,7 @@
 
 static uint8_t image[WD16_IMAGE];
 static uint8_t map[WD16_MAP];
+static const uint8_t settings[WD16_SETTINGS] = {[WD16_BLOCKS] = 1};
 static uint8_t state[WD16_STATE];
 static uint8_t tally[WD16_TALLY];
 
@@ -24,7 +25,7 @@ static unsigned word_at(const uint8_t *bytes, size_t at)
 /* Reads a converter at C000 again and again; the routine at 0090 counts in R1 what could not be read. */
 static void load(void)
 {
-    map[0x00] = 1;
+    map[0x00] = WD16_FITTED;
     put(0x0012, 0x0090); /* bus error */
     put(0x0016, 0x0080); /* power-up */
     put(0x0080, 0x09BF); /* MOVI 10,SP */
@@ -41,31 +42,38 @@ static void show(const char *what, uint8_t answer)
     printf("%-8s answer %u:", what, answer);
     for (size_t at = 0; at < WD16_INDICATORS; at += 2)
         printf(" %04X", word_at(state, at));
-    printf(", indicators %X, I2 %u, mode %u, cause %u\n", state[WD16_INDICATORS], state[WD16_I2], state[WD16_MODE],
-           state[WD16_CAUSE]);
+    printf(", indicators %X, I2 %u, mode %u, mark %u, cause %u", state[WD16_INDICATORS], state[WD16_I2],
+           state[WD16_MODE], state[WD16_MARK], state[WD16_CAUSE]);
+    if (state[WD16_TELLS])
+        printf(" at %04X", word_at(state, WD16_ADDRESS));
+    printf("\n");
 }
 
 static uint8_t step(uint16_t line)
 {
-    return wd16_step(state, sizeof state, image, sizeof image, map, sizeof map, line);
+    return wd16_step(state, sizeof state, image, sizeof image, map, sizeof map, settings, sizeof settings, line);
 }
 
 int main(void)
 {
     static const uint16_t quiet[18];
     load();
-    show("power-up", wd16_power_up(state, sizeof state, image, sizeof image, map, sizeof map));
-    show("run", wd16_run(state, sizeof state, tally, sizeof tally, image, sizeof image, map, sizeof map, quiet, 18));
-    printf("blanks %u, the first at %04X\n", word_at(tally, WD16_BLANKS), word_at(tally, WD16_FIRST));
+    show("power-up",
+         wd16_power_up(state, sizeof state, image, sizeof image, map, sizeof map, settings, sizeof settings));
+    show("run", wd16_run(state, sizeof state, tally, sizeof tally, image, sizeof image, map, sizeof map, settings,
+                         sizeof settings, quiet, 18));
+    printf("blanks %u, the first at %04X, where %04X was unfitted\n", word_at(tally, WD16_BLANKS),
+           word_at(tally, WD16_FIRST), word_at(tally, WD16_FIRST_ADDRESS));
+    show("step", step(0)); /* the card is still missing: the step tells its address */
 
-    map[0xC0] = 1; /* the card is put in again */
+    map[0xC0] = WD16_READ_ONLY; /* the card is put in again: it can be read */
     put(0xC000, 0x1234);
     for (int n = 0; n < 4; n++)
         show("step", step(0));
     show("I3", step(WD16_LINE_I3));
 
     show("refused", step(0x4000)); /* an unused bit: 5, and nothing changes */
-    map[0xC0] = 2;
-    show("refused", step(0)); /* a map byte over 1: 3 */
+    map[0xC0] = 3;
+    show("refused", step(0)); /* a map byte over 2: 3 */
     return 0;
 }

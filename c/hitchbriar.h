@@ -18,10 +18,22 @@ extern "C" {
 
 enum {
     WD16_IMAGE = 65536,     /* bytes of an image: the low byte of a word at the even address */
-    WD16_MAP = 256,         /* bytes of a map: 1 where the page of 256 addresses is fitted, else 0 */
-    WD16_STATE = 20,        /* bytes of a state */
-    WD16_TALLY = 4,         /* bytes of a tally */
+    WD16_MAP = 256,         /* bytes of a map, one for each page of 256 addresses */
+    WD16_SETTINGS = 1,      /* bytes of the settings */
+    WD16_STATE = 24,        /* bytes of a state */
+    WD16_TALLY = 6,         /* bytes of a tally */
     WD16_MOST_LINES = 4096, /* line words of a run, at most */
+};
+
+enum { /* a map's bytes */
+    WD16_UNFITTED = 0,
+    WD16_FITTED = 1,
+    WD16_READ_ONLY = 2, /* fitted, and a write there is a bus error */
+};
+
+/* The settings' bytes: how the board is set up. */
+enum {
+    WD16_BLOCKS = 0, /* 1 where the third microm is fitted, with the block moves 0E00 to 0FFF; else 0 */
 };
 
 /* A state's bytes. R0 to R5, SP and PC are bytes 0 to 15, two each, low byte first. */
@@ -31,7 +43,12 @@ enum {
     WD16_INDICATORS = 16, /* N 8, Z 4, V 2, C 1 */
     WD16_I2 = 17,         /* the interrupt enable: 0 or 1 */
     WD16_MODE = 18,
-    WD16_CAUSE = 19, /* of the step that led here; 0 after power-up and after a run. Read for its range alone */
+    WD16_CAUSE = 19,   /* of the step that led here; 0 after power-up and after a run. Read for its range alone */
+    WD16_MARK = 20,    /* 1 after an IEN that found I2 clear: the next op code begins before I0 and I1 are heard; else 0 */
+    WD16_TELLS = 21,   /* 1 where the step tells an address, else 0; 0 after power-up and after a run. Read for its range
+                          alone */
+    WD16_ADDRESS = 22, /* that address, two bytes, low byte first: the first that the dropped work found unfitted, or
+                          read-only for a write, before bit 0 is dropped; 0 where none is told. Not read */
 };
 
 enum { /* modes */
@@ -42,7 +59,7 @@ enum { /* modes */
     WD16_LOCKED = 4,
 };
 
-enum { /* causes */
+enum { /* causes; 5 to 7 tell an address, and 8 in the step that locks */
     WD16_BY_OP_CODE = 0, /* or its trap */
     WD16_BY_I3 = 1,
     WD16_BY_I1 = 2,
@@ -55,10 +72,11 @@ enum { /* causes */
 };
 
 /* A tally's bytes: the number of steps with cause 5 to 7, then the place of the first of them, from 0, or FFFF where there
-   was none; two each, low byte first. */
+   was none, then the address that it told, or 0; two each, low byte first. */
 enum {
     WD16_BLANKS = 0,
     WD16_FIRST = 2,
+    WD16_FIRST_ADDRESS = 4,
 };
 
 /* A line word's bits. The others are 0. */
@@ -73,8 +91,9 @@ enum {
 /* Refusals, in the order in which they are looked for. */
 enum {
     WD16_DONE = 0,
-    WD16_BAD_BUFFER = 21,    /* the state is not 20 bytes or the tally not 4; or, where the state is read, indicators over
-                                15, I2 over 1, a mode over 4 or a cause over 8 */
+    WD16_BAD_BUFFER = 21,    /* the state is not 24 bytes, the tally not 6 or the settings not 1; the settings' byte is
+                                over 1; or, where the state is read, indicators over 15, I2 over 1, a mode over 4, a cause
+                                over 8, or byte 20 or 21 over 1 */
     WD16_BAD_IMAGE = 1,      /* not 65,536 bytes */
     WD16_BAD_MAP = 2,        /* not 256 bytes */
     WD16_BAD_MAP_BYTE = 3,   /* over 2 */
@@ -82,17 +101,20 @@ enum {
     WD16_BAD_LINE = 5,       /* an unused bit of a line word is set */
 };
 
-/* Writes the state after power-up, with cause 0. The state's bytes are not read. Refusals: 21 for its length, 1, 2, 3. */
+/* Writes the state after power-up, with cause 0. The state's bytes are not read. Refusals: 21 for its length and for the
+   settings, 1, 2, 3. */
 uint8_t wd16_power_up(uint8_t *state, size_t state_length, const uint8_t *image, size_t image_length, const uint8_t *map,
-                      size_t map_length);
+                      size_t map_length, const uint8_t *settings, size_t settings_length);
 
-/* One step over a line word: the state, with its cause, and the image after it. Refusals: 21, 1, 2, 3, 5. */
+/* One step over a line word: the state, with its cause and the address that it tells, and the image after it. Refusals: 21,
+   1, 2, 3, 5. */
 uint8_t wd16_step(uint8_t *state, size_t state_length, uint8_t *image, size_t image_length, const uint8_t *map,
-                  size_t map_length, uint16_t line);
+                  size_t map_length, const uint8_t *settings, size_t settings_length, uint16_t line);
 
 /* One step for each line word: the state, with cause 0, the tally and the image after them. Refusals: 21, 1 to 5. */
 uint8_t wd16_run(uint8_t *state, size_t state_length, uint8_t *tally, size_t tally_length, uint8_t *image,
-                 size_t image_length, const uint8_t *map, size_t map_length, const uint16_t *lines, size_t lines_length);
+                 size_t image_length, const uint8_t *map, size_t map_length, const uint8_t *settings,
+                 size_t settings_length, const uint16_t *lines, size_t lines_length);
 
 #ifdef __cplusplus
 }

@@ -10,20 +10,20 @@ use Rattle.state.specs.declared.State.{State}
 use Rattle.state.specs.declared.Mode.{Mode}
 use Rattle.state.specs.declared.Mode.the-variants.{Running, Waiting, PowerHalt, SwitchHalt, Locked}
 use Rattle.state.specs.State.{modeNumber}
-use Rattle.machine.specs.Numbers.{indicators, statePage}
+use Rattle.machine.specs.Numbers.{indicators, statePage, Address, address, nowhere}
 use Rattle.machine.specs.Back.{stateOf, state-back}
-use Rattle.firmware.specs.Layout.{bytesOf, pageFrom, stateFrom, refusedState}
+use Rattle.firmware.specs.Layout.{tells, bytesOf, pageFrom, stateFrom, refusedState}
 
 word-again : (v : ℕ) → v % 256 + v / 256 * 256 ≡ v
 word-again v = omega arith
 
-page-again : (s : State) (cause : ℕ) → pageFrom (bytesOf (statePage s) cause) ≡ statePage s
+page-again : (s : State) (cause : ℕ) (told : Address) → pageFrom (bytesOf (statePage s) cause told) ≡ statePage s
 unfolding pageFrom bytesOf statePage
-page-again s cause = simp word-again
+page-again s cause told = simp word-again
 
 -- THE SAME STATE COMES BACK
-pub state-again : (s : State) (cause : ℕ) → stateFrom (bytesOf (statePage s) cause) ≡ s
-state-again s cause = ap stateOf (page-again s cause) ∙ state-back s
+pub state-again : (s : State) (cause : ℕ) (told : Address) → stateFrom (bytesOf (statePage s) cause told) ≡ s
+state-again s cause told = ap stateOf (page-again s cause told) ∙ state-back s
 
 digit-le : (b : Bool) → digit b ≤ 1
 digit-le true = omega arith
@@ -36,10 +36,22 @@ mode-le PowerHalt = omega arith
 mode-le SwitchHalt = omega arith
 mode-le Locked = omega arith
 
+tells-le : (told : Address) → tells told ≤ 1
+tells-le (address a) = omega arith
+tells-le nowhere = omega arith
+
 indicators-le : (f : Flags) → indicators f ≤ 15
 indicators-le f = omega (arith, digit-le (f .n), digit-le (f .z), digit-le (f .v), digit-le (f .c))
 
 -- AND ITS BYTES ARE NOT REFUSED
-pub state-taken : (s : State) (cause : ℕ) → cause ≤ 8 → refusedState (bytesOf (statePage s) cause) ≡ false
+pub state-taken : (s : State) (cause : ℕ) (told : Address) → cause ≤ 8 → refusedState (bytesOf (statePage s) cause told) ≡ false
 unfolding refusedState bytesOf statePage
-state-taken s cause h = rw (le-ltb 15 (indicators (s .flags)) (indicators-le (s .flags)), le-ltb 1 (digit (s .i2)) (digit-le (s .i2)), le-ltb 4 (modeNumber (s .mode)) (mode-le (s .mode)), le-ltb 8 cause h)
+state-taken s cause told h =
+    rw (
+      le-ltb 15 (indicators (s .flags)) (indicators-le (s .flags)),
+      le-ltb 1 (digit (s .i2)) (digit-le (s .i2)),
+      le-ltb 4 (modeNumber (s .mode)) (mode-le (s .mode)),
+      le-ltb 8 cause h,
+      le-ltb 1 (digit (s .mark)) (digit-le (s .mark)),
+      le-ltb 1 (tells told) (tells-le told),
+    )

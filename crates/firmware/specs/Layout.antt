@@ -1,42 +1,82 @@
--- The lent bytes of a state and of a tally.
+-- The lent bytes of a state, of a tally and of the settings.
 use Prim.Native.Nat.{ℕ}
-use mathlib.Core.Bool.{Bool, true, _||_, cond}
+use mathlib.Core.Bool.{Bool, not, _||_}
 use mathlib.Core.List.{List, [], _∷_, _++_}
 use lib.ListN.{length}
 use lib.Dec.{eqb, ltb}
 use Rattle.words.specs.Words.{byteAt, wordAt, bytesIn}
 use Rattle.state.specs.declared.State.{State}
-use Rattle.machine.specs.Numbers.{StatePage, Place, place, none}
+use Rattle.state.specs.declared.Settings.{Settings}
+use Rattle.machine.specs.Numbers.{StatePage, Address, address, nowhere, Place, place, none}
 use Rattle.machine.specs.Back.{stateOf}
 
--- ---- 20 bytes: R0 to R5, SP and PC; 16 the indicators; 17 I2; 18 the mode; 19 the cause
+-- ---- 24 bytes: R0 to R5, SP and PC; 16 the indicators; 17 I2; 18 the mode; 19 the cause; 20 the mark of a late IEN;
+-- 21 whether an address is told; 22 and 23 that address, 0 where there is none
 
-unfoldable pub bytesOf : StatePage → ℕ → List ℕ
-bytesOf p cause = bytesIn (p .registers) ++ (p .indicators ∷ p .i2 ∷ p .mode ∷ cause ∷ [])
+abbrev pub tells : Address → ℕ
+tells (address a) = 1
+tells nowhere = 0
+
+abbrev pub wordTold : Address → ℕ
+wordTold (address a) = a
+wordTold nowhere = 0
+
+unfoldable pub bytesOf : StatePage → ℕ → Address → List ℕ
+bytesOf p cause told = bytesIn (p .registers) ++ (p .indicators ∷ p .i2 ∷ p .mode ∷ cause ∷ p .mark ∷ tells told ∷ bytesIn (wordTold told ∷ []))
 
 -- R0 to R5, SP and PC from their bytes
 abbrev pub registersIn : List ℕ → List ℕ
 registersIn b = wordAt b 0 ∷ wordAt b 2 ∷ wordAt b 4 ∷ wordAt b 6 ∷ wordAt b 8 ∷ wordAt b 10 ∷ wordAt b 12 ∷ wordAt b 14 ∷ []
 
 unfoldable pub pageFrom : List ℕ → StatePage
-pageFrom b = record { registers = registersIn b; indicators = byteAt b 16; i2 = byteAt b 17; mode = byteAt b 18 }
+pageFrom b = record { registers = registersIn b; indicators = byteAt b 16; i2 = byteAt b 17; mode = byteAt b 18; mark = byteAt b 20 }
 
 -- the state that the bytes hold
 abbrev pub stateFrom : List ℕ → State
 stateFrom b = stateOf (pageFrom b)
 
--- refused: not 20 bytes, indicators over 15, I2 over 1, a mode over 4, a cause over 8
+-- refused: not 24 bytes, indicators over 15, I2 over 1, a mode over 4, a cause over 8, a mark over 1, a 21st byte over 1
 abbrev pub over : List ℕ → Bool
-over b = ((ltb 15 (byteAt b 16) || ltb 1 (byteAt b 17)) || ltb 4 (byteAt b 18)) || ltb 8 (byteAt b 19)
+over b = ((((ltb 15 (byteAt b 16) || ltb 1 (byteAt b 17)) || ltb 4 (byteAt b 18)) || ltb 8 (byteAt b 19)) || ltb 1 (byteAt b 20)) || ltb 1 (byteAt b 21)
+
+abbrev pub notState : List ℕ → Bool
+notState b = not (eqb (length b) 24)
 
 unfoldable pub refusedState : List ℕ → Bool
-refusedState b = cond (eqb (length b) 20) (over b) true
+refusedState b = notState b || over b
 
--- ---- 4 bytes: the blanks, and the place of the first, FFFF where there is none
+-- ---- 6 bytes: the blanks; the place of the first, FFFF where there is none; the address that it told, 0 where there is none
 
 abbrev pub placeNumber : Place → ℕ
-placeNumber (place p) = p
+placeNumber (place p a) = p
 placeNumber none = 65535
 
+abbrev pub placeTold : Place → ℕ
+placeTold (place p a) = a
+placeTold none = 0
+
 unfoldable pub tallyBytes : ℕ → Place → List ℕ
-tallyBytes blanks first = bytesIn (blanks ∷ placeNumber first ∷ [])
+tallyBytes blanks first = bytesIn (blanks ∷ placeNumber first ∷ placeTold first ∷ [])
+
+abbrev pub notTally : List ℕ → Bool
+notTally t = not (eqb (length t) 6)
+
+-- ---- 1 byte: 1 where the third microm is fitted, with the block moves
+
+unfoldable pub settingsFrom : List ℕ → Settings
+settingsFrom w = record { blocks = eqb (byteAt w 0) 1 }
+
+-- refused: not 1 byte, a byte over 1
+unfoldable pub refusedSettings : List ℕ → Bool
+refusedSettings w = not (eqb (length w) 1) || ltb 1 (byteAt w 0)
+
+-- ---- what each call refuses as 21, in one number; power-up only writes the state
+
+unfoldable pub refusedUp : List ℕ → List ℕ → Bool
+refusedUp b w = notState b || refusedSettings w
+
+unfoldable pub refusedStep : List ℕ → List ℕ → Bool
+refusedStep b w = refusedState b || refusedSettings w
+
+unfoldable pub refusedRun : List ℕ → List ℕ → List ℕ → Bool
+refusedRun b t w = refusedStep b w || notTally t

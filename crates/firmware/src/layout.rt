@@ -1,8 +1,10 @@
-// The lent bytes of a state and of a tally.
+// The lent bytes of a state, of a tally and of the settings.
 use machine::First;
 use machine::Tally;
 use state::Mode;
+use state::Settings;
 use state::State;
+use step::Told;
 use word::Flags;
 use words::byte_at;
 use words::high;
@@ -43,21 +45,60 @@ fn mode_of(n: u8) -> Mode
     }
 }
 
-// Whether bytes 16 to 19 hold more than they may.
+// Whether bytes 16 to 21 hold more than they may.
 fn over(b: &[u8]) -> bool
     ensures { λ r. ⌜ r ≡ Spec.over (now (b .entry)) ⌝ }
 {
-    (15 < byte_at(b, 16)) | (1 < byte_at(b, 17)) | (4 < byte_at(b, 18)) | (8 < byte_at(b, 19))
+    (15 < byte_at(b, 16))
+        | (1 < byte_at(b, 17))
+        | (4 < byte_at(b, 18))
+        | (8 < byte_at(b, 19))
+        | (1 < byte_at(b, 20))
+        | (1 < byte_at(b, 21))
 }
 
 // Whether these are no state's bytes.
-pub(crate) fn refused_state(b: &[u8]) -> bool
+fn refused_state(b: &[u8]) -> bool
     ensures { λ r. ⌜ r ≡ Spec.refusedState (now (b .entry)) ⌝ }
 {
-    if b.len() != 20 {
-        return true;
+    (b.len() != 24) | over(b)
+}
+
+// Whether these are no settings' bytes.
+fn refused_settings(w: &[u8]) -> bool
+    ensures { λ r. ⌜ r ≡ Spec.refusedSettings (now (w .entry)) ⌝ }
+{
+    (w.len() != 1) | (1 < byte_at(w, 0))
+}
+
+// What power-up refuses as 21: it only writes the state.
+pub(crate) fn refused_up(b: &[u8], w: &[u8]) -> bool
+    ensures { λ r. ⌜ r ≡ Spec.refusedUp (now (b .entry)) (now (w .entry)) ⌝ }
+{
+    (b.len() != 24) | refused_settings(w)
+}
+
+// What a step refuses as 21.
+pub(crate) fn refused_step(b: &[u8], w: &[u8]) -> bool
+    ensures { λ r. ⌜ r ≡ Spec.refusedStep (now (b .entry)) (now (w .entry)) ⌝ }
+{
+    refused_state(b) | refused_settings(w)
+}
+
+// What a run refuses as 21.
+pub(crate) fn refused_run(b: &[u8], t: &[u8], w: &[u8]) -> bool
+    ensures { λ r. ⌜ r ≡ Spec.refusedRun (now (b .entry)) (now (t .entry)) (now (w .entry)) ⌝ }
+{
+    refused_step(b, w) | (t.len() != 6)
+}
+
+// The settings that the bytes hold.
+pub(crate) fn settings_from(w: &[u8]) -> Settings
+    ensures { λ r. ⌜ r ≡ Spec.settingsFrom (now (w .entry)) ⌝ }
+{
+    Settings {
+        blocks: byte_at(w, 0) == 1,
     }
-    over(b)
 }
 
 // R0 to R5, SP and PC.
@@ -83,13 +124,35 @@ pub(crate) fn state_from(b: &[u8]) -> State
         .with_flags(word::status::flags_of(byte_at(b, 16) as u16))
         .with_i2(byte_at(b, 17) == 1)
         .with_mode(mode_of(byte_at(b, 18)))
+        .with_mark(byte_at(b, 20) == 1)
 }
 
-// The bytes of a state and of the cause that led to it.
-fn state_bytes(s: State, cause: u8) -> [u8; 20]
-    ensures { λ r. ⌜ r ≡ Spec.bytesOf (Page.statePage s) cause ⌝ }
+// 1 where an address is told.
+fn tells(told: Told) -> u8
+    ensures { λ r. ⌜ r ≡ Spec.tells (Page.toldOf told) ⌝ }
+{
+    match told {
+        Told::Nowhere => 0,
+        Told::At(_) => 1,
+    }
+}
+
+// The address that is told, 0 where there is none.
+fn word_told(told: Told) -> u16
+    ensures { λ r. ⌜ r ≡ Spec.wordTold (Page.toldOf told) ⌝ }
+{
+    match told {
+        Told::Nowhere => 0,
+        Told::At(address) => address,
+    }
+}
+
+// The bytes of a state, of the cause that led to it and of the address that it tells.
+fn state_bytes(s: State, cause: u8, told: Told) -> [u8; 24]
+    ensures { λ r. ⌜ r ≡ Spec.bytesOf (Page.statePage s) cause (Page.toldOf told) ⌝ }
 {
     let mode = s.mode;
+    let address = word_told(told);
     [
         low(s.regs.r0),
         high(s.regs.r0),
@@ -111,14 +174,18 @@ fn state_bytes(s: State, cause: u8) -> [u8; 20]
         digit(s.i2),
         state::mode_number(mode),
         cause,
+        digit(s.mark),
+        tells(told),
+        low(address),
+        high(address),
     ]
 }
 
-pub(crate) fn put_state(b: &mut [u8], s: State, cause: u8)
-    requires { ⌜ length (now b) ≡ 20 ⌝ }
-    ensures { λ _. ⌜ now (b .exit) ≡ Spec.bytesOf (Page.statePage s) cause ⌝ }
+pub(crate) fn put_state(b: &mut [u8], s: State, cause: u8, told: Told)
+    requires { ⌜ length (now b) ≡ 24 ⌝ }
+    ensures { λ _. ⌜ now (b .exit) ≡ Spec.bytesOf (Page.statePage s) cause (Page.toldOf told) ⌝ }
 {
-    let from = state_bytes(s, cause);
+    let from = state_bytes(s, cause, told);
     bytes::copy(&from, b);
 }
 
@@ -127,22 +194,40 @@ fn place_of(first: First) -> u16
     ensures { λ r. ⌜ r ≡ Spec.placeNumber (Page.placeOf first) ⌝ }
 {
     match first {
-        First::At(place) => place,
+        First::At(place, _) => place,
         First::Never => 0xffff,
     }
 }
 
-// The blanks and the place of the first.
-fn tally_bytes(t: Tally) -> [u8; 4]
+// The address that the first blank told, 0 where there is none.
+fn place_told(first: First) -> u16
+    ensures { λ r. ⌜ r ≡ Spec.placeTold (Page.placeOf first) ⌝ }
+{
+    match first {
+        First::At(_, address) => address,
+        First::Never => 0,
+    }
+}
+
+// The blanks, the place of the first and the address that it told.
+fn tally_bytes(t: Tally) -> [u8; 6]
     ensures { λ r. ⌜ r ≡ Spec.tallyBytes (t .blanks) (Page.placeOf (t .first)) ⌝ }
 {
     let first = t.first;
     let place = place_of(first);
-    [low(t.blanks), high(t.blanks), low(place), high(place)]
+    let address = place_told(first);
+    [
+        low(t.blanks),
+        high(t.blanks),
+        low(place),
+        high(place),
+        low(address),
+        high(address),
+    ]
 }
 
 pub(crate) fn put_tally(b: &mut [u8], t: Tally)
-    requires { ⌜ length (now b) ≡ 4 ⌝ }
+    requires { ⌜ length (now b) ≡ 6 ⌝ }
     ensures { λ _. ⌜ now (b .exit) ≡ Spec.tallyBytes (t .blanks) (Page.placeOf (t .first)) ⌝ }
 {
     let from = tally_bytes(t);

@@ -1,0 +1,11 @@
+use Rattle.firmware.specs.Layout.{settingsFrom}
+use borrow.Author.Needs.{needs}
+use Rattle.firmware.proofs.layout.settings_from.Statement.{statement}
+use Rattle.firmware.proofs.layout.settings_from.Tie as tie
+
+returns : tie.Need-returns
+unfolding settingsFrom
+returns c = rw (c .byte-at .ensures)
+
+pub settings-from-spec : {M : Type 1} → statement M
+settings-from-spec = tie.close (tie.spec (λ c κs. search needs) returns)
