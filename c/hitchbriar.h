@@ -59,7 +59,7 @@ enum { /* modes */
     WD16_LOCKED = 4,
 };
 
-enum { /* causes; 5 to 7 tell an address, and 8 in the step that locks */
+enum { /* causes; 5 and 6 tell an address, and 8 in the step that locks. 7 is free: no step gives it */
     WD16_BY_OP_CODE = 0, /* or its trap */
     WD16_BY_I3 = 1,
     WD16_BY_I1 = 2,
@@ -67,11 +67,10 @@ enum { /* causes; 5 to 7 tell an address, and 8 in the step that locks */
     WD16_BY_NOTHING = 4,      /* waiting or halted */
     WD16_BLANK_OP_CODE = 5,   /* a bus error in an op code */
     WD16_BLANK_INTERRUPT = 6, /* a bus error in an interrupt */
-    WD16_BLANK_RESTART = 7,   /* a bus error while fetching from 16 */
     WD16_BY_LOCK = 8,         /* locked, now or before */
 };
 
-/* A tally's bytes: the number of steps with cause 5 to 7, then the place of the first of them, from 0, or FFFF where there
+/* A tally's bytes: the number of steps with cause 5 or 6, then the place of the first of them, from 0, or FFFF where there
    was none, then the address that it told, or 0; two each, low byte first. */
 enum {
     WD16_BLANKS = 0,

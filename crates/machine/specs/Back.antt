@@ -103,7 +103,7 @@ state-one = one stateOf state-back
 -- the causes in the order of their numbers; the last are the lock-ups
 abbrev causeOf : ℕ → Address → Cause
 causeOf k (address a) =
-    getD (Cause.OpCode ∷ Cause.Switch ∷ Cause.NonVectored ∷ Cause.Vectored ∷ Cause.Nothing ∷ Cause.OpCodeBlank a ∷ Cause.InterruptBlank a ∷ Cause.RestartBlank a ∷ []) k (Cause.LockedAt a)
+    getD (Cause.OpCode ∷ Cause.Switch ∷ Cause.NonVectored ∷ Cause.Vectored ∷ Cause.Nothing ∷ Cause.OpCodeBlank a ∷ Cause.InterruptBlank a ∷ []) k (Cause.LockedAt a)
 causeOf k nowhere = getD (Cause.OpCode ∷ Cause.Switch ∷ Cause.NonVectored ∷ Cause.Vectored ∷ Cause.Nothing ∷ []) k Cause.Locked
 
 cause-back : (c : Cause) → causeOf (causeNumber c) (toldOf (addressOf c)) ≡ c
@@ -114,7 +114,6 @@ cause-back Cause.Vectored = refl
 cause-back Cause.Nothing = refl
 cause-back (Cause.OpCodeBlank a) = refl
 cause-back (Cause.InterruptBlank a) = refl
-cause-back (Cause.RestartBlank a) = refl
 cause-back (Cause.LockedAt a) = refl
 cause-back Cause.Locked = refl
 

@@ -18,9 +18,10 @@ use Rattle.step.specs.declared.Kind.{Kind}
 use Rattle.step.specs.declared.Kind.the-variants.{OpCode, HaltEnd, Switched, NonVectored, Vectored, Waits, Stuck}
 use Rattle.step.specs.declared.Cause.{Cause}
 use Rattle.step.specs.declared.Cause.the-variants as Cause
-use Rattle.step.specs.declared.Cause.the-variants.{OpCodeBlank, InterruptBlank, RestartBlank, LockedAt}
+use Rattle.step.specs.declared.Cause.the-variants.{OpCodeBlank, InterruptBlank, LockedAt}
 use Rattle.step.specs.Step.{after, causeNumber, isBlank, hears, kindIn, kindOf, workOf, busError, causeOf, errorCauseOf, errorOf, stepOf, orElse, past}
 use Rattle.step.specs.Ends.{step-well, step-ill}
+use Rattle.step.specs.Restart.{restart-low, never-trapped}
 
 -- A step from locked changes nothing.
 pub locked-still : (map : List ℕ) (out : Outside) (s : State) (m : List ℕ) → s .mode ≡ Locked → stepOf map out s m ≡ after s m Cause.Locked
@@ -36,9 +37,20 @@ cause-le Cause.Vectored = omega arith
 cause-le Cause.Nothing = omega arith
 cause-le (OpCodeBlank a) = omega arith
 cause-le (InterruptBlank a) = omega arith
-cause-le (RestartBlank a) = omega arith
 cause-le (LockedAt a) = omega arith
 cause-le Cause.Locked = omega arith
+
+-- and none is 7
+pub cause-not-7 : (c : Cause) → causeNumber c ≡ 7 → ⊥
+cause-not-7 Cause.OpCode e = omega arith
+cause-not-7 Cause.Switch e = omega arith
+cause-not-7 Cause.NonVectored e = omega arith
+cause-not-7 Cause.Vectored e = omega arith
+cause-not-7 Cause.Nothing e = omega arith
+cause-not-7 (OpCodeBlank a) e = omega arith
+cause-not-7 (InterruptBlank a) e = omega arith
+cause-not-7 (LockedAt a) e = omega arith
+cause-not-7 Cause.Locked e = omega arith
 
 -- ---- the count of blanks is the count that the manual's steps give
 
@@ -60,16 +72,17 @@ module _ (map : List ℕ) (out : Outside) (s : State) (m : List ℕ) where
   pub blank-error : {a : ℕ} → run map (workOf (kindOf s out) out s) m ≡ blank a → stepOf map out s m ≡ errorOf map (kindOf s out) out s m a
   blank-error h = sym (step-ill map out s m refl h refl refl)
 
--- where the trap succeeds it is counted
-counted : (k : Kind) (out : Outside) (s : State) (map m : List ℕ) {a : ℕ} → run map (workOf k out s) m ≡ blank a → isBlank (errorCauseOf k a) ≡ true
+-- where the trap succeeds it is counted; after a fetch from 16 that failed it never succeeds
+counted : (k : Kind) (out : Outside) (s : State) (map m : List ℕ) {a : ℕ} {t : State} {n : List ℕ}
+    → run map (workOf k out s) m ≡ blank a → run map (busError k out s) m ≡ value t n → isBlank (errorCauseOf k a) ≡ true
 unfolding workOf run
-counted OpCode out s map m h = refl
-counted HaltEnd out s map m h = refl
-counted Switched out s map m h = refl
-counted NonVectored out s map m h = refl
-counted Vectored out s map m h = refl
-counted Waits out s map m h = let z : _≡_ {A = ℕ} 0 1 = cc in cc
-counted Stuck out s map m h = let z : _≡_ {A = ℕ} 0 1 = cc in cc
+counted OpCode out s map m h g = refl
+counted HaltEnd out s map m h g = sym (never-trapped map HaltEnd out s m (restart-low s) h g)
+counted Switched out s map m h g = sym (never-trapped map Switched out s m (restart-low s) h g)
+counted NonVectored out s map m h g = refl
+counted Vectored out s map m h g = refl
+counted Waits out s map m h g = let z : _≡_ {A = ℕ} 0 1 = cc in cc
+counted Stuck out s map m h g = let z : _≡_ {A = ℕ} 0 1 = cc in cc
 
 -- and where it does not, the state is locked, the image as lent, and the cause a lock-up, which is no blank
 pub blank-counted : (map : List ℕ) (out : Outside) (s : State) (m : List ℕ) {a b : ℕ}
@@ -80,7 +93,7 @@ unfolding errorOf
 blank-counted map out s m {a} h =
     let k = kindOf s out in
     let e : stepOf map out s m ≡ errorOf map k out s m a = blank-error map out s m h in (
-      (λ t n g. ap (λ r. isBlank (r .cause)) (e ∙ ap (λ c. orElse c (errorCauseOf k a) (λ _. after (withMode s Locked) m (LockedAt a))) g) ∙ counted k out s map m h),
+      (λ t n g. ap (λ r. isBlank (r .cause)) (e ∙ ap (λ c. orElse c (errorCauseOf k a) (λ _. after (withMode s Locked) m (LockedAt a))) g) ∙ counted k out s map m h g),
       (λ g. e ∙ ap (λ c. orElse c (errorCauseOf k a) (λ _. after (withMode s Locked) m (LockedAt a))) g),
     )
 

@@ -1,10 +1,11 @@
 -- WHY CAUSE 7 IS NEVER GIVEN: a step that can't fetch 16 can't fetch 12 either. Both lie on page 0, and a read asks only that the page is fitted; so its bus error fails too, and it locks.
-use Prim.Native.Nat.{ℕ}
+-- The same holds of all work that only reads page 0.
+use Prim.Native.Nat.{ℕ, _/_}
 use native.Mathlib.Omega.{arith}
 use mathlib.Core.Bool.{Bool, true, false}
 use mathlib.Core.List.{List}
 use mathlib.Core.Path.{_≡_, refl, sym, ap, _∙_}
-use Rattle.board.specs.Work.{Came, value, blank, run, fitted, writable, found}
+use Rattle.board.specs.Work.{Work, give, readAt, Size, Came, value, blank, run, fitted, writable, found, get}
 use Rattle.board.specs.Bind.{_>>=_}
 use Rattle.state.specs.declared.State.{State}
 use Rattle.state.specs.declared.Outside.{Outside}
@@ -15,12 +16,34 @@ use Rattle.step.specs.declared.Kind.{Kind}
 use Rattle.step.specs.declared.Cause.{Cause}
 use Rattle.step.specs.declared.Cause.the-variants.{LockedAt}
 use Rattle.step.specs.Step.{After, after, orElse, restart, past, kindOf, workOf, busError, errorCauseOf, errorOf, stepOf}
-use Rattle.step.specs.Causes.{blank-error}
+use Rattle.step.specs.Ends.{step-ill}
 
--- 12 and 16 lie on one page
-same-page : (map : List ℕ) → fitted map 0x12 ≡ fitted map 0x16
+-- work that reads page 0 and nothing else
+pub data Low {A : Type 0} : Work A → Type 0 where
+  gives : (x : A) → Low (give x)
+  reads : (z : Size) (a : ℕ) {k : ℕ → Work A} → a / 256 ≡ 0 → ((v : ℕ) → Low (k v)) → Low (readAt z a k)
+
+-- the end of a halt, and the switch
+pub restart-low : (s : State) → Low (restart s)
+unfolding fromLoc _>>=_
+restart-low s = reads _ 0x16 refl (λ v. gives _)
+
+-- 12 lies on page 0
+same-page : (map : List ℕ) (a : ℕ) → a / 256 ≡ 0 → fitted map a ≡ fitted map 0x12
 unfolding fitted
-same-page map = refl
+same-page map a e = rw e
+
+-- a blank there found the page unfitted
+found-blank : {A : Type 0} (b : Bool) (x : ℕ) {c : Came A} {a : ℕ} → found b x c ≡ blank a → (c ≡ blank a → b ≡ false) → b ≡ false
+found-blank true x h g = g h
+found-blank false x h g = refl
+
+low-unfitted : {A : Type 0} (map : List ℕ) {w : Work A} (m : List ℕ) {a : ℕ} → Low w → run map w m ≡ blank a → fitted map 0x12 ≡ false
+unfolding run
+low-unfitted map m (gives x) h = let z : _≡_ {A = ℕ} 0 1 = cc in absurd (omega arith)
+low-unfitted map m (reads z x e g) h =
+    let same = same-page map x e in
+    sym same ∙ found-blank (fitted map x) x h (λ i. same ∙ low-unfitted map m (g (get z m x)) i)
 
 -- whether work came to a value
 abbrev done : Came State → Bool
@@ -40,25 +63,24 @@ trap-fails : (map : List ℕ) (s : State) (ps at : ℕ) (m : List ℕ) → fitte
 unfolding run trap pushBoth push fromLoc _>>=_
 trap-fails map s ps at m e = found-not (writable map _) _ _ (found-not (writable map _) _ _ (found-unfitted (fitted map at) at _ e))
 
--- a fetch from 16 that reaches a blank found page 0 unfitted
-restart-unfitted : (map : List ℕ) (s : State) (m : List ℕ) {a : ℕ} → run map (restart s) m ≡ blank a → fitted map 0x16 ≡ false
-unfolding run fromLoc _>>=_
-restart-unfitted map s m {a} h = by (fitted map 0x16) refl
-  where
-    by : (b : Bool) → fitted map 0x16 ≡ b → fitted map 0x16 ≡ false
-    by false e = e
-    by true e = let z : _≡_ {A = ℕ} 0 1 = cc in absurd (omega arith)
+module _ (map : List ℕ) (k : Kind) (out : Outside) (s : State) (m : List ℕ) {w : Work State} {a : ℕ} where
+  error-fails : Low w → run map w m ≡ blank a → done (run map (busError k out s) m) ≡ false
+  unfolding busError
+  error-fails l h = trap-fails map (past k s) (psOf out true (past k s)) 0x12 m (low-unfitted map m l h)
+
+  -- after such work the bus error's trap never succeeds
+  pub never-trapped : {t : State} {n : List ℕ} → Low w → run map w m ≡ blank a → run map (busError k out s) m ≡ value t n → true ≡ false
+  never-trapped l h g = sym (ap done g) ∙ error-fails l h
 
 else-not : (c : Came State) (k : Cause) (r : After) → done c ≡ false → orElse c k (λ _. r) ≡ r
 else-not (value s m) k r e = let z : _≡_ {A = ℕ} 0 1 = cc in absurd (omega arith)
 else-not (blank a) k r e = refl
 
--- A STEP THAT CAN'T FETCH 16 LOCKS, with the address that it reached
-pub restart-locks : (map : List ℕ) (out : Outside) (s : State) (m : List ℕ) {a : ℕ}
-    → workOf (kindOf s out) out s ≡ restart s → run map (restart s) m ≡ blank a → stepOf map out s m ≡ after (withMode s Locked) m (LockedAt a)
-unfolding errorOf busError
-restart-locks map out s m {a} w h =
+-- A STEP THAT CAN'T FETCH 16 LOCKS, and so does any whose work reads page 0 alone, with the address that it reached
+pub low-locks : (map : List ℕ) (out : Outside) (s : State) (m : List ℕ) {a : ℕ}
+    → Low (workOf (kindOf s out) out s) → run map (workOf (kindOf s out) out s) m ≡ blank a → stepOf map out s m ≡ after (withMode s Locked) m (LockedAt a)
+unfolding errorOf
+low-locks map out s m {a} l h =
     let k = kindOf s out in
-    let unfitted : fitted map 0x12 ≡ false = same-page map ∙ restart-unfitted map s m h in
-    blank-error map out s m (ap (λ x. run map x m) w ∙ h)
-    ∙ else-not (run map (busError k out s) m) (errorCauseOf k a) (after (withMode s Locked) m (LockedAt a)) (trap-fails map (past k s) (psOf out true (past k s)) 0x12 m unfitted)
+    sym (step-ill map out s m refl h refl refl)
+    ∙ else-not (run map (busError k out s) m) (errorCauseOf k a) (after (withMode s Locked) m (LockedAt a)) (error-fails map k out s m l h)

@@ -20,7 +20,7 @@ use Rattle.step.specs.declared.Kind.{Kind}
 use Rattle.step.specs.declared.Kind.the-variants.{OpCode, HaltEnd, Switched, NonVectored, Vectored, Waits, Stuck}
 use Rattle.step.specs.declared.Cause.{Cause}
 use Rattle.step.specs.declared.Cause.the-variants as Cause
-use Rattle.step.specs.declared.Cause.the-variants.{OpCodeBlank, InterruptBlank, RestartBlank, LockedAt}
+use Rattle.step.specs.declared.Cause.the-variants.{OpCodeBlank, InterruptBlank, LockedAt}
 use Rattle.step.specs.declared.Told.{Told}
 use Rattle.step.specs.declared.Told.the-variants.{Nowhere, At}
 
@@ -92,7 +92,7 @@ busError k out s = trap (past k s) (psOf out true (past k s)) 0x12
 
 -- ---- causes
 
--- the page's number: 0 op code or its trap, 1 I3, 2 I1, 3 I0, 4 nothing done, 5 bus error in an op code, 6 in an interrupt, 7 while fetching from 16, 8 locked, now or before
+-- the page's number: 0 op code or its trap, 1 I3, 2 I1, 3 I0, 4 nothing done, 5 bus error in an op code, 6 in an interrupt, 8 locked, now or before; 7 is given to none
 abbrev pub causeNumber : Cause → ℕ
 causeNumber Cause.OpCode = 0
 causeNumber Cause.Switch = 1
@@ -101,7 +101,6 @@ causeNumber Cause.Vectored = 3
 causeNumber Cause.Nothing = 4
 causeNumber (OpCodeBlank a) = 5
 causeNumber (InterruptBlank a) = 6
-causeNumber (RestartBlank a) = 7
 causeNumber (LockedAt a) = 8
 causeNumber Cause.Locked = 8
 
@@ -114,7 +113,6 @@ blankAt Cause.Vectored = Nowhere
 blankAt Cause.Nothing = Nowhere
 blankAt (OpCodeBlank a) = At a
 blankAt (InterruptBlank a) = At a
-blankAt (RestartBlank a) = At a
 blankAt (LockedAt a) = Nowhere
 blankAt Cause.Locked = Nowhere
 
@@ -134,7 +132,6 @@ addressOf Cause.Vectored = Nowhere
 addressOf Cause.Nothing = Nowhere
 addressOf (OpCodeBlank a) = At a
 addressOf (InterruptBlank a) = At a
-addressOf (RestartBlank a) = At a
 addressOf (LockedAt a) = At a
 addressOf Cause.Locked = Nowhere
 
@@ -148,11 +145,11 @@ causeOf Vectored = Cause.Vectored
 causeOf Waits = Cause.Nothing
 causeOf Stuck = Cause.Locked
 
--- a bus error at the address a; where nothing is done there is none
+-- a bus error at the address a, where its trap succeeds. Where 16 can't be fetched it never does (Restart.antt); where nothing is done there is no bus error.
 abbrev pub errorCauseOf : Kind → ℕ → Cause
 errorCauseOf OpCode a = OpCodeBlank a
-errorCauseOf HaltEnd a = RestartBlank a
-errorCauseOf Switched a = RestartBlank a
+errorCauseOf HaltEnd a = LockedAt a
+errorCauseOf Switched a = LockedAt a
 errorCauseOf NonVectored a = InterruptBlank a
 errorCauseOf Vectored a = InterruptBlank a
 errorCauseOf Waits a = LockedAt a

@@ -44,7 +44,6 @@ pub enum Cause {
     Nothing,
     OpCodeBlank(u16),
     InterruptBlank(u16),
-    RestartBlank(u16),
     LockedAt(u16),
     Locked,
 }
@@ -73,7 +72,6 @@ pub fn cause_number(cause: Cause) -> u8
         Cause::Nothing => 4,
         Cause::OpCodeBlank(_) => 5,
         Cause::InterruptBlank(_) => 6,
-        Cause::RestartBlank(_) => 7,
         Cause::LockedAt(_) => 8,
         Cause::Locked => 8,
     }
@@ -91,7 +89,6 @@ pub fn blank_at(cause: Cause) -> Told
         Cause::Nothing => Told::Nowhere,
         Cause::OpCodeBlank(at) => Told::At(at),
         Cause::InterruptBlank(at) => Told::At(at),
-        Cause::RestartBlank(at) => Told::At(at),
         Cause::LockedAt(_) => Told::Nowhere,
         Cause::Locked => Told::Nowhere,
     }
@@ -109,7 +106,6 @@ pub fn address_of(cause: Cause) -> Told
         Cause::Nothing => Told::Nowhere,
         Cause::OpCodeBlank(a) => Told::At(a),
         Cause::InterruptBlank(a) => Told::At(a),
-        Cause::RestartBlank(a) => Told::At(a),
         Cause::LockedAt(a) => Told::At(a),
         Cause::Locked => Told::Nowhere,
     }
@@ -249,14 +245,14 @@ fn cause_of(k: Kind) -> Cause
     }
 }
 
-// The cause of a bus error at an address; work that does nothing meets none.
+// The cause of a bus error at an address, where its trap succeeds: never where 16 can't be fetched. Work that does nothing meets none.
 fn error_cause_of(k: Kind, a: u16) -> Cause
     ensures { λ r. ⌜ r ≡ Spec.errorCauseOf k a ⌝ }
 {
     match k {
         Kind::OpCode => Cause::OpCodeBlank(a),
-        Kind::HaltEnd => Cause::RestartBlank(a),
-        Kind::Switched => Cause::RestartBlank(a),
+        Kind::HaltEnd => Cause::LockedAt(a),
+        Kind::Switched => Cause::LockedAt(a),
         Kind::NonVectored => Cause::InterruptBlank(a),
         Kind::Vectored => Cause::InterruptBlank(a),
         Kind::Waits => Cause::LockedAt(a),
