@@ -187,20 +187,13 @@ fn ranges(level: Level) -> Vec<(usize, u8)> {
 /// Bytes that no state has in their places.
 pub fn bad_bytes(level: Level) -> Vec<(usize, u8)> {
     let over = |(at, least): (usize, u8)| [least, least + 1, 0x80, 0xFF].map(|byte| (at, byte));
-    let mut bad: Vec<(usize, u8)> = ranges(level).into_iter().flat_map(over).collect();
-    if level.has(Wish::NoCause7) {
-        bad.push((CAUSE, 7));
-    }
-    bad
+    ranges(level).into_iter().flat_map(over).collect()
 }
 
 /// The state that the bytes hold.
 pub fn state_of(level: Level, bytes: &[u8]) -> Result<State, Refusal> {
     let in_range = |&(at, over): &(usize, u8)| bytes[at] < over;
     if bytes.len() != state_length(level) || !ranges(level).iter().all(in_range) {
-        return Err(BAD_BUFFER);
-    }
-    if level.has(Wish::NoCause7) && bytes[CAUSE] == 7 {
         return Err(BAD_BUFFER);
     }
     Ok(State {
