@@ -5,22 +5,23 @@ use mathlib.Core.List.{List, [], _∷_}
 use Prim.Native.Nat.{ℕ}
 use Rattle.letters.specs.Digits.{digits, hexOf, hex4}
 use Rattle.line.specs.declared.Place.the-variants.{At, Nowhere}
-use Rattle.line.specs.Line.{field, fields, modeText, placeText, lineText, name, decimal, refusedText}
+use Rattle.line.specs.Line.{field, fields, modeText, placeText, firstText, lineText, name, decimal, refusedText}
 
 registers : List ℕ
 registers = 0 ∷ 1 ∷ 0 ∷ 0 ∷ 0 ∷ 0 ∷ 12 ∷ 146 ∷ []
 
--- 0000 0001 0000 0000 0000 0000 000C 0092 0F00 0 0001 0001, of a PS that had bits 15 and 14 set
-page-line : lineText registers 52992 0 1 (At 1)
+-- 0000 0001 0000 0000 0000 0000 000C 0092 0F00 0 0001 0001 C001, of a PS that had bits 15 and 14 set
+page-line : lineText registers 52992 0 1 (At 1) (At 49153)
     ≡ 48 ∷ 48 ∷ 48 ∷ 48 ∷ 32 ∷ 48 ∷ 48 ∷ 48 ∷ 49 ∷ 32 ∷ 48 ∷ 48 ∷ 48 ∷ 48 ∷ 32 ∷ 48 ∷ 48 ∷ 48 ∷ 48 ∷ 32
     ∷ 48 ∷ 48 ∷ 48 ∷ 48 ∷ 32 ∷ 48 ∷ 48 ∷ 48 ∷ 48 ∷ 32 ∷ 48 ∷ 48 ∷ 48 ∷ 67 ∷ 32 ∷ 48 ∷ 48 ∷ 57 ∷ 50 ∷ 32
-    ∷ 48 ∷ 70 ∷ 48 ∷ 48 ∷ 32 ∷ 48 ∷ 32 ∷ 48 ∷ 48 ∷ 48 ∷ 49 ∷ 32 ∷ 48 ∷ 48 ∷ 48 ∷ 49 ∷ []
-unfolding registers lineText fields field hex4 hexOf digits modeText placeText
+    ∷ 48 ∷ 70 ∷ 48 ∷ 48 ∷ 32 ∷ 48 ∷ 32 ∷ 48 ∷ 48 ∷ 48 ∷ 49 ∷ 32 ∷ 48 ∷ 48 ∷ 48 ∷ 49 ∷ 32
+    ∷ 67 ∷ 48 ∷ 48 ∷ 49 ∷ []
+unfolding registers lineText fields field hex4 hexOf digits modeText placeText firstText
 page-line = refl
 
 -- ---- where there was no blank
-no-place : placeText Nowhere ≡ 45 ∷ 45 ∷ 45 ∷ 45 ∷ []
-unfolding placeText
+no-place : firstText Nowhere Nowhere ≡ 45 ∷ 45 ∷ 45 ∷ 45 ∷ 32 ∷ 45 ∷ 45 ∷ 45 ∷ 45 ∷ []
+unfolding firstText placeText
 no-place = refl
 
 -- REFUSED 4, REFUSED 17

@@ -13,7 +13,7 @@ use Rattle.letters.specs.Digits.{hex4}
 use Rattle.letters.specs.Over.{Wrote}
 use Rattle.line.specs.declared.Place.{Place}
 use Rattle.line.specs.declared.Place.the-variants.{At, Nowhere}
-use Rattle.line.specs.Line.{field, fields, modeText, placeText, lineText, name, decimal, refusedText, left, written}
+use Rattle.line.specs.Line.{field, fields, modeText, placeText, firstText, lineText, name, decimal, refusedText, left, written}
 
 -- the lengths of the line's parts
 pub field-length : (x : ℕ) → length (field x) ≡ 5
@@ -40,11 +40,15 @@ pub fields-more : (values : List ℕ) (n : ℕ) → fields values n ++ field (ge
 unfolding fields
 fields-more values n = rw (add-one n) refl
 
-pub line-length : (regs : List ℕ) (ps mode blanks : ℕ) (place : Place) → length (lineText regs ps mode blanks place) ≡ 56
+pub first-length : (place address : Place) → length (firstText place address) ≡ 9
+unfolding firstText
+first-length place address = simp length-append (omega (arith, place-length place, place-length address))
+
+pub line-length : (regs : List ℕ) (ps mode blanks : ℕ) (place address : Place) → length (lineText regs ps mode blanks place address) ≡ 61
 unfolding lineText
-line-length regs ps mode blanks place =
+line-length regs ps mode blanks place address =
     simp length-append
-    (omega (arith, fields-length regs 8, field-length (ps % 16384), mode-length mode, field-length blanks, place-length place))
+    (omega (arith, fields-length regs 8, field-length (ps % 16384), mode-length mode, field-length blanks, first-length place address))
 
 -- a text that fits, and one that does not
 pub written-is : (s b e : List ℕ) (n : ℕ) → length s ≤ length b → Wrote s b e n → left n e ≡ written s b

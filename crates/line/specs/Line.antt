@@ -1,4 +1,4 @@
--- The line that bench prints: R0-R5, SP, PC, PS, mode digit, blanks, first place or ----. Or REFUSED and a number in decimal.
+-- The line that bench prints: R0-R5, SP, PC, PS, mode digit, blanks, the first one's place and address, or ---- ----. Or REFUSED and a number in decimal.
 -- Assumes nothing.
 use mathlib.Core.Bool.{Bool, true, false, cond}
 use mathlib.Core.List.{List, [], _∷_, _++_}
@@ -29,15 +29,19 @@ fields values (suc n) = fields values n ++ field (getD values n 0)
 unfoldable pub modeText : ℕ → List ℕ
 modeText mode = hexOf (mode % 16) ∷ space
 
--- the first blank's place, or ----
+-- a place or an address, or ----
 unfoldable pub placeText : Place → List ℕ
 placeText (At x) = hex4 x
 placeText Nowhere = dashes
 
+-- the first blank: its place and the address that it told
+unfoldable pub firstText : Place → Place → List ℕ
+firstText place address = (placeText place ++ space) ++ placeText address
+
 -- PS has bits 15 and 14 clear
-unfoldable pub lineText : List ℕ → ℕ → ℕ → ℕ → Place → List ℕ
-lineText regs ps mode blanks place =
-    (((fields regs 8 ++ field (ps % 16384)) ++ modeText mode) ++ field blanks) ++ placeText place
+unfoldable pub lineText : List ℕ → ℕ → ℕ → ℕ → Place → Place → List ℕ
+lineText regs ps mode blanks place address =
+    (((fields regs 8 ++ field (ps % 16384)) ++ modeText mode) ++ field blanks) ++ firstText place address
 
 -- REFUSED and a space
 unfoldable pub name : List ℕ

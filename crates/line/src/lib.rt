@@ -4,10 +4,10 @@ use letters::put_hex4;
 ghost use mathlib.Core.Path.{_≡_};
 ghost use Prim.Native.Nat.{_+_, _*_, _≤_, _<_};
 ghost use lib.ListN.{length};
-ghost use Rattle.line.specs.Line.{space, dashes, field, fields, modeText, placeText, lineText, name, decimal, refusedText, left, written};
+ghost use Rattle.line.specs.Line.{space, dashes, field, fields, modeText, placeText, firstText, lineText, name, decimal, refusedText, left, written};
 ghost use Rattle.letters.specs.Over.{Wrote, WroteAt};
 
-// Where the first blank was: a place in the list of line words, or none.
+// Where the first blank was: a place in the list of line words, or an address; or none.
 pub enum Place {
     At(u16),
     Nowhere,
@@ -60,7 +60,7 @@ fn put_dashes(out: &mut [u8]) -> usize
     4
 }
 
-// The first blank's place in four hex digits, or four dashes.
+// A place or an address in four hex digits, or four dashes.
 fn put_place(out: &mut [u8], place: Place) -> usize
     requires { ⌜ 4 ≤ length (now out) ⌝ }
     ensures { λ n. ⌜ Wrote (placeText place) (now (out .entry)) (now (out .exit)) n ⌝ }
@@ -87,12 +87,29 @@ fn mode_at(text: &mut [u8], at: usize, mode: u8) -> usize
     at + put_mode(&mut text[at..], mode)
 }
 
-// The first blank's place in its place of the line.
+// The same in its place of the text.
 fn place_at(text: &mut [u8], at: usize, place: Place) -> usize
     requires { ⌜ at + 4 ≤ length (now text) ⌝ }
     ensures { λ n. ⌜ WroteAt at (placeText place) (now (text .entry)) (now (text .exit)) n ⌝ }
 {
     at + put_place(&mut text[at..], place)
+}
+
+// The first blank's place and the address that it told.
+fn put_first(out: &mut [u8], place: Place, address: Place) -> usize
+    requires { ⌜ 9 ≤ length (now out) ⌝ }
+    ensures { λ n. ⌜ Wrote (firstText place address) (now (out .entry)) (now (out .exit)) n ⌝ }
+{
+    let n = put_place(out, place);
+    let after = space_at(out, n);
+    place_at(out, after, address)
+}
+
+fn first_at(text: &mut [u8], at: usize, place: Place, address: Place) -> usize
+    requires { ⌜ at + 9 ≤ length (now text) ⌝ }
+    ensures { λ n. ⌜ WroteAt at (firstText place address) (now (text .entry)) (now (text .exit)) n ⌝ }
+{
+    at + put_first(&mut text[at..], place, address)
 }
 
 // The registers' fields, one after the other.
@@ -110,7 +127,7 @@ fn put_registers(text: &mut [u8], regs: [u16; 8]) -> usize
 }
 
 // Writes bench's line: R0 to R5, SP and PC, PS with bits 15 and 14 clear, the mode's digit, the blanks, the first blank's
-// place. Answers its length, 56. A shorter buffer is left as it is, and the answer is 0.
+// place and the address that it told. Answers its length, 61. A shorter buffer is left as it is, and the answer is 0.
 pub fn write_line(
     text: &mut [u8],
     regs: [u16; 8],
@@ -118,17 +135,18 @@ pub fn write_line(
     mode: u8,
     blanks: u16,
     place: Place,
+    address: Place,
 ) -> usize
-    ensures { λ r. ⌜ left r (now (text .exit)) ≡ written (lineText regs ps mode blanks place) (now (text .entry)) ⌝ }
+    ensures { λ r. ⌜ left r (now (text .exit)) ≡ written (lineText regs ps mode blanks place address) (now (text .entry)) ⌝ }
 {
-    if text.len() < 56 {
+    if text.len() < 61 {
         return 0;
     }
     let registers = put_registers(text, regs);
     let status = field_at(text, registers, ps % 0x4000);
     let digit = mode_at(text, status, mode);
     let count = field_at(text, digit, blanks);
-    place_at(text, count, place)
+    first_at(text, count, place, address)
 }
 
 // REFUSED and a space.

@@ -4,16 +4,18 @@ use mathlib.Core.Bool.{false}
 use mathlib.Core.List.{List}
 use mathlib.Core.Path.{_≡_, _∙_}
 use Rattle.state.specs.declared.Outside.{Outside}
+use Rattle.state.specs.declared.Settings.{Settings}
 use Rattle.state.specs.State.{modeNumber, psOf, heard}
 use Rattle.machine.specs.declared.Ran.{Ran}
 use Rattle.line.specs.declared.Place.{Place}
 use Rattle.line.specs.Line.{lineText, written, Left}
 use Rattle.machine.specs.Numbers.{registers}
-use Rattle.report.specs.Report.{placeOf, endText}
+use Rattle.report.specs.Report.{benchBoard, placeOf, addressOf, endText}
 
-pub end-is : (r : Ran) (text : List ℕ) (w : Left) (regs : List ℕ) (out : Outside) (ps mode : ℕ) (at : Place)
-    → w ≡ written (lineText regs ps mode (r .tally .blanks) at) text
-    → regs ≡ registers (r .state) → out ≡ heard 0 → ps ≡ psOf out false (r .state) → mode ≡ modeNumber (r .state .mode) → at ≡ placeOf (r .tally .first)
+pub end-is : (r : Ran) (text : List ℕ) (w : Left) (regs : List ℕ) (board : Settings) (out : Outside) (ps mode : ℕ) (at told : Place)
+    → w ≡ written (lineText regs ps mode (r .tally .blanks) at told) text
+    → regs ≡ registers (r .state) → board ≡ benchBoard → out ≡ heard board 0 → ps ≡ psOf out false (r .state)
+    → mode ≡ modeNumber (r .state .mode) → at ≡ placeOf (r .tally .first) → told ≡ addressOf (r .tally .first)
     → w ≡ written (endText r) text
 unfolding endText
-end-is r text w regs out ps mode at e e1 e2 e3 e4 e5 = e ∙ rw (e1, e3, e2, e4, e5)
+end-is r text w regs board out ps mode at told e e1 e0 e2 e3 e4 e5 e6 = e ∙ rw (e1, e3, e2, e0, e4, e5, e6)

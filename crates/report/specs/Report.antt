@@ -1,7 +1,8 @@
--- The line of a run's end: R0-R5, SP, PC, PS, mode digit, blanks, first place or ----.
+-- The line of a run's end on bench's board: R0-R5, SP, PC, PS, mode digit, blanks, the first one's place and address, or ---- ----.
 use Prim.Native.Nat.{ℕ}
-use mathlib.Core.Bool.{false}
+use mathlib.Core.Bool.{true, false}
 use mathlib.Core.List.{List}
+use Rattle.state.specs.declared.Settings.{Settings}
 use Rattle.state.specs.State.{modeNumber, psOf, heard}
 use Rattle.machine.specs.declared.Ran.{Ran}
 use Rattle.machine.specs.Numbers.{registers}
@@ -11,11 +12,19 @@ use Rattle.line.specs.declared.Place.{Place}
 use Rattle.line.specs.declared.Place.the-variants as Place
 use Rattle.line.specs.Line.{lineText}
 
+-- bench runs with the third microm fitted
+abbrev pub benchBoard : Settings
+benchBoard = record { blocks = true }
+
 abbrev pub placeOf : First → Place
-placeOf (First.At place) = Place.At place
+placeOf (First.At place address) = Place.At place
 placeOf First.Never = Place.Nowhere
+
+abbrev pub addressOf : First → Place
+addressOf (First.At place address) = Place.At address
+addressOf First.Never = Place.Nowhere
 
 -- PS as it is formed on a quiet line
 unfoldable pub endText : Ran → List ℕ
 endText r =
-    lineText (registers (r .state)) (psOf (heard 0) false (r .state)) (modeNumber (r .state .mode)) (r .tally .blanks) (placeOf (r .tally .first))
+    lineText (registers (r .state)) (psOf (heard benchBoard 0) false (r .state)) (modeNumber (r .state .mode)) (r .tally .blanks) (placeOf (r .tally .first)) (addressOf (r .tally .first))

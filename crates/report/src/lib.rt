@@ -1,12 +1,20 @@
-// The line of a run's end: the machine's answer in the line's own fields.
+// The line of a run's end on bench's board: the machine's answer in the line's own fields.
 use line::Place;
 use machine::First;
 use machine::Ran;
+use state::Settings;
 use state::State;
 ghost use mathlib.Core.Path.{_≡_};
 ghost use Rattle.line.specs.Line.{left, written};
 ghost use Rattle.machine.specs.Numbers.{registers};
 ghost use Rattle.report.specs.Report as Spec;
+
+// How bench's board is set up: the third microm is fitted.
+pub fn bench_board() -> Settings
+    ensures { λ r. ⌜ r ≡ Spec.benchBoard ⌝ }
+{
+    Settings { blocks: true }
+}
 
 // The registers in the line's order.
 fn registers(s: State) -> [u16; 8]
@@ -24,11 +32,22 @@ fn registers(s: State) -> [u16; 8]
     ]
 }
 
+// The first blank's place.
 fn place(first: First) -> Place
     ensures { λ r. ⌜ r ≡ Spec.placeOf first ⌝ }
 {
     match first {
-        First::At(at) => Place::At(at),
+        First::At(at, _) => Place::At(at),
+        First::Never => Place::Nowhere,
+    }
+}
+
+// The address that it told.
+fn address(first: First) -> Place
+    ensures { λ r. ⌜ r ≡ Spec.addressOf first ⌝ }
+{
+    match first {
+        First::At(_, told) => Place::At(told),
         First::Never => Place::Nowhere,
     }
 }
@@ -42,8 +61,9 @@ pub fn write_end(text: &mut [u8], ran: Ran) -> usize
     let mode = s.mode;
     let first = tally.first;
     let regs = registers(s);
-    let ps = s.ps(state::hear(0), false);
+    let ps = s.ps(state::hear(bench_board(), 0), false);
     let number = state::mode_number(mode);
     let at = place(first);
-    line::write_line(text, regs, ps, number, tally.blanks, at)
+    let told = address(first);
+    line::write_line(text, regs, ps, number, tally.blanks, at, told)
 }

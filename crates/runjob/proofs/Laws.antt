@@ -6,6 +6,7 @@ use mathlib.Core.Path.{_≡_, refl, sym, ap, _∙_}
 use native.Mathlib.Omega.{arith}
 use lib.ListN.{length, take}
 use Rattle.state.specs.declared.State.{State}
+use Rattle.state.specs.declared.Settings.{Settings}
 use Rattle.step.specs.Step.{powerUpOf}
 use Rattle.words.specs.Words.{wordAt}
 use Rattle.refusal.specs.Page.{Page, refused, answered, first-both, unless, apart, refused-one, answered-one}
@@ -25,32 +26,32 @@ use Rattle.job.specs.declared.Answer.the-variants as Answer
 use Rattle.job.specs.Job.{After, after, linesAt, imageOf, mapOf, linesOf, lineWords, whyRead, pageOf, jobOf}
 use Rattle.job.specs.Sound.{job-taken}
 use Rattle.line.specs.Line.{Left, refusedText, written}
-use Rattle.report.specs.Report.{endText}
-use Rattle.runjob.specs.Bench.{told, lineAt, imageAt, runIn, benchOf}
+use Rattle.report.specs.Report.{benchBoard, endText}
+use Rattle.runjob.specs.Bench.{told, lineAt, imageAt, fromPowerUp, runIn, benchOf}
 
--- ---- a run that is not refused
+-- ---- a run that is not refused, on bench's board
 
-module _ (m map lines : List ℕ) (s : State) where
-  pub from-done : (text : List ℕ) (r : Finished) (ran : Ran) (m′ : List ℕ) (w : Left) → left (finishedPage r) m′ ≡ runPage m map lines s → r ≡ Finished.Done ran
-      → w ≡ written (endText ran) text → (w ≡ lineAt text (runOf map lines s m)) × (m′ ≡ imageAt (runOf map lines s m))
-  from-done text r ran m′ w e d h =
-      let x : ranOf ran m′ ≡ runOf map lines s m = run-done m map lines s ran m′ (ap (λ z. left (finishedPage z) m′) (sym d) ∙ e) .1 in
+module _ (m map lines : List ℕ) (s : State) (board : Settings) where
+  pub from-done : (text : List ℕ) (r : Finished) (ran : Ran) (m′ : List ℕ) (w : Left) → board ≡ benchBoard → left (finishedPage r) m′ ≡ runPage board m map lines s → r ≡ Finished.Done ran
+      → w ≡ written (endText ran) text → (w ≡ lineAt text (runOf benchBoard map lines s m)) × (m′ ≡ imageAt (runOf benchBoard map lines s m))
+  from-done text r ran m′ w g e d h =
+      let x : ranOf ran m′ ≡ runOf benchBoard map lines s m = run-done benchBoard m map lines s ran m′ (ap (λ z. left (finishedPage z) m′) (sym d) ∙ e ∙ ap (λ z. runPage z m map lines s) g) .1 in
       (h ∙ ap (lineAt text) x, ap imageAt x)
 
-  pub from-refused : {A : Type 0} (r : Finished) (why : ℕ) (m′ : List ℕ) → runRefusal (length m) map lines ≡ 0 → left (finishedPage r) m′ ≡ runPage m map lines s → r ≡ Finished.Refused why → A
+  pub from-refused : {A : Type 0} (r : Finished) (why : ℕ) (m′ : List ℕ) → runRefusal (length m) map lines ≡ 0 → left (finishedPage r) m′ ≡ runPage board m map lines s → r ≡ Finished.Refused why → A
   unfolding runPage
-  from-refused r why m′ n e d = absurd (split (runOf map lines s m) (rw (n, d) at e))
+  from-refused r why m′ n e d = absurd (split (runOf board map lines s m) (rw (n, d) at e))
     where
       split : (x : End) → left (refused why) m′ ≡ ended x → ⊥
       split (end t k y) e = apart (sym (ap (λ z. z .page) e))
 
 -- ---- power-up
 
-module _ (m map : List ℕ) where
-  pub up-done : (s : State) (r : Powered) → poweredPage r ≡ powerUpPage m map → r ≡ Powered.Up s → s ≡ powerUpOf map m
-  up-done s r e d = state-one s (powerUpOf map m) (power-answer m map (statePage s) (ap poweredPage (sym d) ∙ e) .1)
+module _ (m map : List ℕ) (board : Settings) where
+  pub up-done : (s : State) (r : Powered) → board ≡ benchBoard → poweredPage r ≡ powerUpPage board m map → r ≡ Powered.Up s → s ≡ powerUpOf benchBoard map m
+  up-done s r g e d = state-one s (powerUpOf benchBoard map m) (power-answer benchBoard m map (statePage s) (ap poweredPage (sym d) ∙ e ∙ ap (λ z. powerUpPage z m map) g) .1)
 
-  pub up-refused : {A : Type 0} (lines : List ℕ) (r : Powered) (why : ℕ) → runRefusal (length m) map lines ≡ 0 → poweredPage r ≡ powerUpPage m map → r ≡ Powered.Refused why → A
+  pub up-refused : {A : Type 0} (lines : List ℕ) (r : Powered) (why : ℕ) → runRefusal (length m) map lines ≡ 0 → poweredPage r ≡ powerUpPage board m map → r ≡ Powered.Refused why → A
   unfolding powerUpPage runRefusal
   up-refused lines r why n e d =
       let none = first-both (boardRefusal (length m) map) (linesRefusal lines) n .0 in
@@ -83,7 +84,7 @@ module _ (input image map lines : List ℕ) where
   read-taken h = rw (h .countIs, h .imageIs, h .mapIs, h .linesIs) (job-taken input (length image) (length map) (length lines) (h .none))
 
   pub job-done : (text : List ℕ) {image′ map′ lines′ : List ℕ} {count : ℕ} (w : Left) (m : List ℕ) → Read image′ map′ lines′ count
-      → (w ≡ lineAt text (runOf map′ (take count lines′) (powerUpOf map′ image′) image′)) × (m ≡ imageAt (runOf map′ (take count lines′) (powerUpOf map′ image′) image′))
+      → (w ≡ lineAt text (fromPowerUp map′ (take count lines′) image′)) × (m ≡ imageAt (fromPowerUp map′ (take count lines′) image′))
       → told w m map′ lines′ ≡ benchOf input text image map lines
   unfolding benchOf runIn lineWords
   job-done text w m h e = rw (e .0, e .1, h .none, h .countIs, h .imageIs, h .mapIs, h .linesIs)

@@ -7,7 +7,7 @@ use Rattle.refusal.specs.Page.{unless}
 use Rattle.machine.specs.Run.{End, end, runOf}
 use Rattle.job.specs.Job.{imageOf, mapOf, linesOf, lineWords, whyRead}
 use Rattle.line.specs.Line.{Left, refusedText, written}
-use Rattle.report.specs.Report.{endText}
+use Rattle.report.specs.Report.{benchBoard, endText}
 
 -- the line, and the image, the map and the line buffer after the call
 pub record Told : Type 0 where
@@ -27,8 +27,11 @@ abbrev pub imageAt : End → List ℕ
 imageAt (end s m t) = m
 
 -- powers up, runs over the line words
+abbrev pub fromPowerUp : List ℕ → List ℕ → List ℕ → End
+fromPowerUp map lines image = runOf benchBoard map lines (powerUpOf benchBoard map image) image
+
 unfoldable pub runIn : List ℕ → End
-runIn input = runOf (mapOf input) (lineWords input) (powerUpOf (mapOf input) (imageOf input)) (imageOf input)
+runIn input = fromPowerUp (mapOf input) (lineWords input) (imageOf input)
 
 -- a refused job: its number in the line, and all other buffers as lent. An accepted one: the line of its run's end, the image after
 -- the run, the job's map and its line words

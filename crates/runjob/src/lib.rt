@@ -9,16 +9,16 @@ ghost use lib.ListN.{length, take};
 ghost use Rattle.line.specs.Line.{left};
 ghost use Rattle.machine.specs.Run.{runOf};
 ghost use Rattle.refusal.specs.Refusal.{runRefusal};
-ghost use Rattle.step.specs.Step.{powerUpOf};
+ghost use Rattle.report.specs.Report.{benchBoard};
 ghost use Rattle.runjob.specs.Bench as Spec;
 
-// Runs over line words from a state.
+// Runs over line words from a state, on bench's board.
 fn run_from(text: &mut [u8], s: State, image: &mut [u8], map: &[u8], lines: &[u16]) -> usize
     requires { ⌜ runRefusal (length (now image)) (now map) (now lines) ≡ 0 ⌝ }
-    ensures { λ r. ⌜ (left r (now (text .exit)) ≡ Spec.lineAt (now (text .entry)) (runOf (now (map .entry)) (now (lines .entry)) s (now (image .entry))))
-        × (now (image .exit) ≡ Spec.imageAt (runOf (now (map .entry)) (now (lines .entry)) s (now (image .entry)))) ⌝ }
+    ensures { λ r. ⌜ (left r (now (text .exit)) ≡ Spec.lineAt (now (text .entry)) (runOf benchBoard (now (map .entry)) (now (lines .entry)) s (now (image .entry))))
+        × (now (image .exit) ≡ Spec.imageAt (runOf benchBoard (now (map .entry)) (now (lines .entry)) s (now (image .entry)))) ⌝ }
 {
-    match machine::run(s, image, map, lines) {
+    match machine::run(s, image, map, report::bench_board(), lines) {
         Finished::Done(ran) => report::write_end(text, ran),
         Finished::Refused(why) => line::write_refused(text, why),
     }
@@ -27,10 +27,10 @@ fn run_from(text: &mut [u8], s: State, image: &mut [u8], map: &[u8], lines: &[u1
 // The same from power-up.
 fn run_up(text: &mut [u8], image: &mut [u8], map: &[u8], lines: &[u16]) -> usize
     requires { ⌜ runRefusal (length (now image)) (now map) (now lines) ≡ 0 ⌝ }
-    ensures { λ r. ⌜ (left r (now (text .exit)) ≡ Spec.lineAt (now (text .entry)) (runOf (now (map .entry)) (now (lines .entry)) (powerUpOf (now (map .entry)) (now (image .entry))) (now (image .entry))))
-        × (now (image .exit) ≡ Spec.imageAt (runOf (now (map .entry)) (now (lines .entry)) (powerUpOf (now (map .entry)) (now (image .entry))) (now (image .entry)))) ⌝ }
+    ensures { λ r. ⌜ (left r (now (text .exit)) ≡ Spec.lineAt (now (text .entry)) (Spec.fromPowerUp (now (map .entry)) (now (lines .entry)) (now (image .entry))))
+        × (now (image .exit) ≡ Spec.imageAt (Spec.fromPowerUp (now (map .entry)) (now (lines .entry)) (now (image .entry)))) ⌝ }
 {
-    match machine::power_up(image, map) {
+    match machine::power_up(image, map, report::bench_board()) {
         Powered::Up(s) => run_from(text, s, image, map, lines),
         Powered::Refused(why) => line::write_refused(text, why),
     }
@@ -39,8 +39,8 @@ fn run_up(text: &mut [u8], image: &mut [u8], map: &[u8], lines: &[u16]) -> usize
 // The same over the first line words of the buffer.
 fn run_first(text: &mut [u8], image: &mut [u8], map: &[u8], lines: &[u16], count: u16) -> usize
     requires { ⌜ (count ≤ length (now lines)) × (runRefusal (length (now image)) (now map) (take count (now lines)) ≡ 0) ⌝ }
-    ensures { λ r. ⌜ (left r (now (text .exit)) ≡ Spec.lineAt (now (text .entry)) (runOf (now (map .entry)) (take count (now (lines .entry))) (powerUpOf (now (map .entry)) (now (image .entry))) (now (image .entry))))
-        × (now (image .exit) ≡ Spec.imageAt (runOf (now (map .entry)) (take count (now (lines .entry))) (powerUpOf (now (map .entry)) (now (image .entry))) (now (image .entry)))) ⌝ }
+    ensures { λ r. ⌜ (left r (now (text .exit)) ≡ Spec.lineAt (now (text .entry)) (Spec.fromPowerUp (now (map .entry)) (take count (now (lines .entry))) (now (image .entry))))
+        × (now (image .exit) ≡ Spec.imageAt (Spec.fromPowerUp (now (map .entry)) (take count (now (lines .entry))) (now (image .entry)))) ⌝ }
 {
     let n = count as usize;
     run_up(text, image, map, &lines[..n])

@@ -1,4 +1,4 @@
--- The parts of the line stand one after the other; each has its room, since the buffer has 56 characters.
+-- The parts of the line stand one after the other; each has its room, since the buffer has 61 characters.
 -- Assumes nothing.
 use Rattle.letters.specs.Laid.{then}
 use Rattle.line.proofs.Laws.{written-is, written-none, field-length, fields-length, mode-length, line-length}
@@ -10,7 +10,7 @@ use Rattle.line.proofs.write_line.Statement.{statement}
 use Rattle.line.proofs.write_line.Tie as tie
 
 returns : tie.Need-returns
-returns c = let a = c .before .before .args in written-none _ _ (omega (arith, line-length (a .regs) (a .ps) (a .mode) (a .blanks) (a .place), c .if1 .taken))
+returns c = let a = c .before .before .args in written-none _ _ (omega (arith, line-length (a .regs) (a .ps) (a .mode) (a .blanks) (a .place) (a .address), c .if1 .taken))
 
 field-at-requires : tie.Need-field-at-requires
 field-at-requires c κs = omega (arith, c .before .before .before .put-registers .kept .0, c .before .before .before .put-registers .ensures .count, fields-length (c .before .before .before .before .before .before .before .args .regs) 8, c .before .before .before .before .before .if1 .left)
@@ -21,17 +21,17 @@ mode-at-requires c κs = omega (arith, c .before .before .before .before .before
 field-at-requires-2 : tie.Need-field-at-requires-2
 field-at-requires-2 c κs = omega (arith, c .before .before .before .before .before .before .before .before .before .before .before .put-registers .kept .0, c .before .before .before .before .before .before .before .before .before .before .before .put-registers .ensures .count, c .before .before .before .before .before .before .before .field-at .kept .0, simp field-length at (c .before .before .before .before .before .before .before .field-at .ensures .count), c .before .before .before .mode-at .kept .0, c .before .before .before .mode-at .ensures .count, fields-length (c .before .before .before .before .before .before .before .before .before .before .before .before .before .before .before .args .regs) 8, mode-length (c .before .before .before .before .before .before .before .before .before .before .before .before .before .before .before .args .mode), c .before .before .before .before .before .before .before .before .before .before .before .before .before .if1 .left)
 
-place-at-requires : tie.Need-place-at-requires
-place-at-requires c κs = omega (arith, c .before .before .before .before .before .before .before .before .before .before .before .before .before .before .before .put-registers .kept .0, c .before .before .before .before .before .before .before .before .before .before .before .before .before .before .before .put-registers .ensures .count, c .before .before .before .before .before .before .before .before .before .before .before .field-at .kept .0, simp field-length at (c .before .before .before .before .before .before .before .before .before .before .before .field-at .ensures .count), c .before .before .before .before .before .before .before .mode-at .kept .0, c .before .before .before .before .before .before .before .mode-at .ensures .count, c .before .before .before .field-at2 .kept .0, simp field-length at (c .before .before .before .field-at2 .ensures .count), fields-length (c .before .before .before .before .before .before .before .before .before .before .before .before .before .before .before .before .before .before .before .args .regs) 8, mode-length (c .before .before .before .before .before .before .before .before .before .before .before .before .before .before .before .before .before .before .before .args .mode), c .before .before .before .before .before .before .before .before .before .before .before .before .before .before .before .before .before .if1 .left)
+first-at-requires : tie.Need-first-at-requires
+first-at-requires c κs = omega (arith, c .before .before .before .before .before .before .before .before .before .before .before .before .before .before .before .put-registers .kept .0, c .before .before .before .before .before .before .before .before .before .before .before .before .before .before .before .put-registers .ensures .count, c .before .before .before .before .before .before .before .before .before .before .before .field-at .kept .0, simp field-length at (c .before .before .before .before .before .before .before .before .before .before .before .field-at .ensures .count), c .before .before .before .before .before .before .before .mode-at .kept .0, c .before .before .before .before .before .before .before .mode-at .ensures .count, c .before .before .before .field-at2 .kept .0, simp field-length at (c .before .before .before .field-at2 .ensures .count), fields-length (c .before .before .before .before .before .before .before .before .before .before .before .before .before .before .before .before .before .before .before .args .regs) 8, mode-length (c .before .before .before .before .before .before .before .before .before .before .before .before .before .before .before .before .before .before .before .args .mode), c .before .before .before .before .before .before .before .before .before .before .before .before .before .before .before .before .before .if1 .left)
 
 returns-2 : tie.Need-returns-2
 unfolding lineText
 returns-2 c =
     let a = c .before .before .before .before .before .before .before .before .before .before .before .before .before .before .before .before .before .before .before .before .before .before .args in
-    written-is (lineText (a .regs) (a .ps) (a .mode) (a .blanks) (a .place)) _ _ _
-    (omega (arith, line-length (a .regs) (a .ps) (a .mode) (a .blanks) (a .place), c .before .before .before .before .before .before .before .before .before .before .before .before .before .before .before .before .before .before .before .before .if1 .left))
+    written-is (lineText (a .regs) (a .ps) (a .mode) (a .blanks) (a .place) (a .address)) _ _ _
+    (omega (arith, line-length (a .regs) (a .ps) (a .mode) (a .blanks) (a .place) (a .address), c .before .before .before .before .before .before .before .before .before .before .before .before .before .before .before .before .before .before .before .before .if1 .left))
     (then _ _ _ _ _ _ _ (then _ _ _ _ _ _ _ (then _ _ _ _ _ _ _ (then _ _ _ _ _ _ _
-    (c .before .before .before .before .before .before .before .before .before .before .before .before .before .before .before .before .before .before .put-registers .ensures) (c .before .before .before .before .before .before .before .before .before .before .before .before .before .before .field-at .ensures)) (c .before .before .before .before .before .before .before .before .before .before .mode-at .ensures)) (c .before .before .before .before .before .before .field-at2 .ensures)) (c .before .before .place-at .ensures))
+    (c .before .before .before .before .before .before .before .before .before .before .before .before .before .before .before .before .before .before .put-registers .ensures) (c .before .before .before .before .before .before .before .before .before .before .before .before .before .before .field-at .ensures)) (c .before .before .before .before .before .before .before .before .before .before .mode-at .ensures)) (c .before .before .before .before .before .before .field-at2 .ensures)) (c .before .before .first-at .ensures))
 
 pub write-line-spec : {M : Type 1} → statement M
 write-line-spec =
@@ -42,6 +42,6 @@ write-line-spec =
     field-at-requires
     mode-at-requires
     field-at-requires-2
-    place-at-requires
+    first-at-requires
     (λ c. search needs)
     returns-2)

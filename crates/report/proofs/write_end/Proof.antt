@@ -4,13 +4,14 @@ use Rattle.report.proofs.write_end.Statement.{statement}
 use Rattle.report.proofs.write_end.Tie as tie
 
 returns : tie.Need-returns
-returns c =
-    end-is (c .before .before .before .before .before .before .before .before .before .before .before .before .args .ran) _ _ _ _ _ _ _ (c .before .before .write-line .ensures) (c .before .before .before .before .before .before .before .before .registers .ensures) (c .before .before .before .before .before .before .before .hear .ensures) (c .before .before .before .before .before .before .ps .ensures) (c .before .before .before .before .before .mode-number .ensures) (c .before .before .before .before .place .ensures)
+returns c = end-is (c .before .before .before .before .before .before .before .before .before .before .before .before .before .before .args .ran) _ _ _ _ _ _ _ _ _ (c .before .before .write-line .ensures) (c .before .before .before .before .before .before .before .before .before .before .registers .ensures) (c .before .before .before .before .before .before .before .before .before .bench-board .ensures) (c .before .before .before .before .before .before .before .before .hear .ensures) (c .before .before .before .before .before .before .before .ps .ensures) (c .before .before .before .before .before .before .mode-number .ensures) (c .before .before .before .before .before .place .ensures) (c .before .before .before .before .address .ensures)
 
 pub write-end-spec : {M : Type 1} → statement M
 write-end-spec =
     tie.close
     (tie.spec
+    (λ c κs. search needs)
+    (λ c κs. search needs)
     (λ c κs. search needs)
     (λ c κs. search needs)
     (λ c κs. search needs)
