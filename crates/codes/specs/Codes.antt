@@ -15,9 +15,9 @@ use Rattle.codes.specs.declared.Binary.the-variants.{Add, Sub, And, Bic,
 use Rattle.codes.specs.declared.ByteBinary.{ByteBinary}
 use Rattle.codes.specs.declared.ByteBinary.the-variants.{Cmpb, Movb, Bisb}
 
--- by high byte: 01 to 07 are 1 to 7, 80 to 87 are 8 to 15; the last is Bcs
+-- by high byte: 01 to 07 are 0 to 6, 80 to 87 are 7 to 14; the last is Bcs
 abbrev pub branches : List Branch
-branches = Br ∷ Br ∷ Bne ∷ Beq ∷ Bge ∷ Blt ∷ Bgt ∷ Ble ∷ Bpl ∷ Bmi ∷ Bhi ∷ Blos ∷ Bvc ∷ Bvs ∷ Bcc ∷ []
+branches = Br ∷ Bne ∷ Beq ∷ Bge ∷ Blt ∷ Bgt ∷ Ble ∷ Bpl ∷ Bmi ∷ Bhi ∷ Blos ∷ Bvc ∷ Bvs ∷ Bcc ∷ []
 
 abbrev pub branchAt : ℕ → Branch
 branchAt k = getD branches k Bcs

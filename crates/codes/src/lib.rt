@@ -73,26 +73,25 @@ pub enum ByteBinary {
     Bisb,
 }
 
-// By high byte: 01 to 07 are 1 to 7, 80 to 87 are 8 to 15.
+// By high byte: 01 to 07 are 0 to 6, 80 to 87 are 7 to 14.
 pub fn branch_at(k: u16) -> Branch
     ensures { λ r. ⌜ r ≡ branchAt k ⌝ }
 {
     match k {
         0 => Branch::Br,
-        1 => Branch::Br,
-        2 => Branch::Bne,
-        3 => Branch::Beq,
-        4 => Branch::Bge,
-        5 => Branch::Blt,
-        6 => Branch::Bgt,
-        7 => Branch::Ble,
-        8 => Branch::Bpl,
-        9 => Branch::Bmi,
-        10 => Branch::Bhi,
-        11 => Branch::Blos,
-        12 => Branch::Bvc,
-        13 => Branch::Bvs,
-        14 => Branch::Bcc,
+        1 => Branch::Bne,
+        2 => Branch::Beq,
+        3 => Branch::Bge,
+        4 => Branch::Blt,
+        5 => Branch::Bgt,
+        6 => Branch::Ble,
+        7 => Branch::Bpl,
+        8 => Branch::Bmi,
+        9 => Branch::Bhi,
+        10 => Branch::Blos,
+        11 => Branch::Bvc,
+        12 => Branch::Bvs,
+        13 => Branch::Bcc,
         _ => Branch::Bcs,
     }
 }

@@ -5,8 +5,8 @@ use Rattle.codes.specs.Past.{past}
 use Rattle.codes.proofs.branch_at.Statement.{statement}
 use Rattle.codes.proofs.branch_at.Tie as tie
 
-returns-16 : tie.Need-returns-16
-returns-16 c = past branches Bcs (c .before .args .k) (c .match .rest)
+returns-15 : tie.Need-returns-15
+returns-15 c = past branches Bcs (c .before .args .k) (c .match .rest)
 
 pub branch-at-spec : {M : Type 1} → statement M
 branch-at-spec =
@@ -26,5 +26,4 @@ branch-at-spec =
     (λ c. search needs)
     (λ c. search needs)
     (λ c. search needs)
-    (λ c. search needs)
-    returns-16)
+    returns-15)
