@@ -44,6 +44,10 @@ and-right true c e = e
 and-right false true e = refl
 and-right false false e = e
 
+only-gone : {A : Type 0} (b : Bool) (a : ℕ) (st : Store) (x : A) (st₂ : Store) {r : Now A} {c : ℕ} {st₁ : Store} → r ≡ allowed b a st (good x st₂) → r ≡ gone c st₁ → r ≡ gone a st₁
+only-gone true a st x st₂ e h = let z : _≡_ {A = ℕ} 0 1 = cc in absurd (omega arith)
+only-gone false a st x st₂ e h = cc
+
 module _ {map : List ℕ} where
   -- work that came to a value, and then the work that follows it
   pub got-then : {A B : Type 0} {w : Work A} (f : A → Work B) {st st₁ : Store} {x : A} {r₁ : Now A} {r : Now B}
@@ -54,6 +58,10 @@ module _ {map : List ℕ} where
   pub got-gone : {A B : Type 0} {w : Work A} (f : A → Work B) {a : ℕ} {st st₁ : Store} {r₁ : Now A} {r : Now B}
       → Got map w st r₁ → r₁ ≡ gone a st₁ → r ≡ gone a st₁ → Got map (w >>= f) st r
   got-gone {w = w} f {st = st} d e u = record { came = u ∙ sym (exec-bind map w f st ∙ ap (λ c. after c (λ x t. exec map (f x) t)) (sym (d .came) ∙ e)) }
+
+  -- the same in other words
+  pub got-as : {A : Type 0} {w : Work A} {st : Store} {x r : Now A} → Got map w st x → r ≡ x → Got map w st r
+  got-as g e = record { came = e ∙ g .came }
 
   -- a value is given
   pub got-give : {A : Type 0} {x y : A} {st : Store} → y ≡ x → Got map (give x) st (good y st)
@@ -68,6 +76,15 @@ module _ {map : List ℕ} where
   pub got-unread : {A : Type 0} (z : Size) (a : ℕ) {k : ℕ → Work A} {st : Store} → fitted map a ≡ false → Got map (readAt z a k) st (gone a st)
   unfolding exec
   got-unread z a e = record { came = rw e }
+
+  -- an access that was not answered was not answered at its own address
+  pub unread-at : {st : Store} {z : Size} {a : ℕ} {r : Now ℕ} {b : ℕ} {st₁ : Store} → Got map (readAt z a (λ v. give v)) st r → r ≡ gone b st₁ → r ≡ gone a st₁
+  unfolding exec
+  unread-at {st = st} {z = z} {a = a} g e = only-gone (fitted map a) a st (get z (st .image) a) st (g .came) e
+
+  pub unwritten-at : {st : Store} {z : Size} {a v : ℕ} {r : Now (Unit {0})} {b : ℕ} {st₁ : Store} → Got map (writeAt z a v (give tt)) st r → r ≡ gone b st₁ → r ≡ gone a st₁
+  unfolding exec
+  unwritten-at {st = st} {z = z} {a = a} {v = v} g e = only-gone (and (writable map a) (room (st .log))) a st tt (noted z a v st) (g .came ∙ allowed-and (writable map a) (room (st .log)) a st (good tt (noted z a v st))) e
 
   -- a page that is fitted, and room in the log
   pub got-written : {st st′ : Store} (z : Size) (a v : ℕ) → and (writable map a) (room (st .log)) ≡ true → st′ ≡ noted z a v st → Got {A = Unit {0}} map (writeAt z a v (give tt)) st (good tt st′)

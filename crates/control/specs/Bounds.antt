@@ -1,14 +1,15 @@
 -- How often each op code of formats 1 to 4 writes, at most.
-use Prim.Native.Nat.{ℕ, _+_, _/_, _%_}
+use Prim.Native.Nat.{ℕ}
 use native.Mathlib.Omega.{arith}
 use lib.Dec.{eqb, ltb}
+use Rattle.codes.specs.Fields.{format4Code}
 use Rattle.board.specs.Work.{word}
 use Rattle.board.specs.Bounded.{Bounded, gives, bounded-then, bounded-load, bounded-store, bounded-more, bounded-getD, none, also}
 use Rattle.state.specs.declared.State.{State}
 use Rattle.state.specs.declared.Outside.{Outside}
 use Rattle.state.specs.Bounds.{bounded-cond, bounded-push, bounded-popReg, bounded-fromLoc, bounded-pushBoth, bounded-tabled}
 use Rattle.format1.specs.Bounds.{bounded-save, bounded-format1}
-use Rattle.control.specs.Format2.{iak, rtn, msko, prtn, format2}
+use Rattle.control.specs.Format2.{rtn, msko, prtn, number2, format2}
 use Rattle.control.specs.Format4.{svca, svc, format4}
 use Rattle.control.specs.Low.{formats2to4, lowCodes}
 
@@ -27,12 +28,12 @@ bounded-prtn s k = bounded-then {k = 0} (omega arith) (bounded-load {n = 0} word
 bounded-format2 : (out : Outside) (s : State) (op : ℕ) → Bounded 9 (format2 out s op)
 unfolding format2
 bounded-format2 out s op =
-    bounded-getD ((op / 8 + 6) % 8)
-    (also (gives (iak out s (op % 8)))
-    (also (bounded-more (omega arith) (bounded-rtn s (op % 8)))
-    (also (bounded-more (omega arith) (bounded-msko s (op % 8)))
+    bounded-getD (number2 op)
+    (also (gives _)
+    (also (bounded-more (omega arith) (bounded-rtn s _))
+    (also (bounded-more (omega arith) (bounded-msko s _))
     none)))
-    (bounded-more (omega arith) (bounded-prtn s (op % 8)))
+    (bounded-more (omega arith) (bounded-prtn s _))
 
 bounded-svca : (out : Outside) (s : State) (n : ℕ) → Bounded 2 (svca out s n)
 unfolding svca
@@ -52,8 +53,8 @@ bounded-svc out s n at =
 bounded-format4 : (out : Outside) (s : State) (op : ℕ) → Bounded 9 (format4 out s op)
 unfolding format4
 bounded-format4 out s op =
-    bounded-cond (eqb (op / 64) 1) (bounded-more (omega arith) (bounded-svca out s _))
-    (bounded-cond (eqb (op / 64) 2) (bounded-svc out s _ _) (bounded-svc out s _ _))
+    bounded-cond (eqb (format4Code op) 1) (bounded-more (omega arith) (bounded-svca out s _))
+    (bounded-cond (eqb (format4Code op) 2) (bounded-svc out s _ _) (bounded-svc out s _ _))
 
 -- an op code of formats 1 to 4 writes at most nine times: SVCB and SVCC
 pub bounded-lowCodes : (out : Outside) (s : State) (op : ℕ) → Bounded 9 (lowCodes out s op)

@@ -3,6 +3,7 @@ use Prim.Native.Nat.{ℕ, _+_, _/_, _%_, _≤_}
 use mathlib.Core.List.{List, [], _∷_}
 use mathlib.Core.Path.{_≡_}
 use lib.ListN.{getD, List·getD-eq-default}
+use Rattle.codes.specs.Fields.{onlyRegister}
 use Rattle.word.specs.Status.{flagsOf}
 use Rattle.board.specs.Work.{Work, give, load}
 use Rattle.board.specs.Work as Work
@@ -41,12 +42,15 @@ prtn s k = do
 abbrev codes2 : Outside → State → ℕ → List (Work State)
 codes2 out s k = give (iak out s k) ∷ rtn s k ∷ msko s k ∷ []
 
-unfoldable pub format2 : Outside → State → ℕ → Work State
-format2 out s op = getD (codes2 out s (op % 8)) ((op / 8 + 6) % 8) (prtn s (op % 8))
+abbrev pub number2 : ℕ → ℕ
+number2 op = (op / 8 + 6) % 8
 
-pub format2-last : (out : Outside) (s : State) (op : ℕ) → 3 ≤ (op / 8 + 6) % 8 → format2 out s op ≡ prtn s (op % 8)
+unfoldable pub format2 : Outside → State → ℕ → Work State
+format2 out s op = getD (codes2 out s (onlyRegister op)) (number2 op) (prtn s (onlyRegister op))
+
+pub format2-last : (out : Outside) (s : State) (op : ℕ) → 3 ≤ number2 op → format2 out s op ≡ prtn s (onlyRegister op)
 unfolding format2
-format2-last out s op h = List·getD-eq-default (codes2 out s (op % 8)) (prtn s (op % 8)) h
+format2-last out s op h = List·getD-eq-default (codes2 out s (onlyRegister op)) (prtn s (onlyRegister op)) h
 
 -- LCC: N Z V C from bits 3 to 0 of the op code
 abbrev pub lcc : State → ℕ → State

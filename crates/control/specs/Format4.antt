@@ -1,7 +1,8 @@
 -- Format 4, 0040 to 00FF: supervisor calls with a number n of 6 bits. All keep I2.
-use Prim.Native.Nat.{ℕ, _/_, _%_}
+use Prim.Native.Nat.{ℕ}
 use mathlib.Core.Bool.{false, cond}
 use lib.Dec.{eqb}
+use Rattle.codes.specs.Fields.{format4Code, argument}
 use Rattle.board.specs.Work.{Work, load}
 use Rattle.board.specs.Bind.{_>>=_, _>>_}
 use Rattle.state.specs.declared.State.{State}
@@ -29,4 +30,5 @@ svc out s n at = do
 -- SVCA 0040, SVCB 0080, SVCC 00C0
 unfoldable pub format4 : Outside → State → ℕ → Work State
 format4 out s op =
-    cond (eqb (op / 64) 1) (svca out s (op % 64)) (cond (eqb (op / 64) 2) (svc out s (op % 64) 0x24) (svc out s (op % 64) 0x26))
+    cond (eqb (format4Code op) 1) (svca out s (argument op))
+    (cond (eqb (format4Code op) 2) (svc out s (argument op) 0x24) (svc out s (argument op) 0x26))

@@ -4,8 +4,6 @@ use board::Word;
 use state::Outside;
 use state::State;
 use state::Went;
-use state::unread;
-use state::unwritten;
 use word::address::plus;
 ghost use mathlib.Core.Path.{_≡_};
 ghost use Rattle.board.specs.Exec.{beside, Lent, Board, Saw};
@@ -40,9 +38,8 @@ fn msko(s: State, image: &mut [u8], map: &[u8], log: &mut [u16; 32], k: u16) -> 
     requires { ⌜ Board (now map) (beside (now image) (now log)) ⌝ }
     ensures { λ r. ⌜ Works (now (map .entry)) (Spec.msko s k) (now (image .entry)) (now (log .entry)) r (now (image .exit)) (now (log .exit)) ⌝ }
 {
-    let kept = board::store(image, map, log, 0x2e, s.reg(k));
-    let Kept::Done = kept else {
-        return unwritten(kept);
+    let Kept::Done = board::store(image, map, log, 0x2e, s.reg(k)) else {
+        return Went::Blank(0x2e);
     };
     Went::Done(s)
 }
@@ -53,9 +50,8 @@ fn prtn(s: State, image: &[u8], map: &[u8], k: u16) -> Went
     ensures { λ r. ⌜ Saw (now (map .entry)) (Spec.prtn s k) (now (image .entry)) (wentAs r) ⌝ }
 {
     let sp = s.regs.sp;
-    let word = board::load(image, map, sp);
-    let Word::Value(tmp) = word else {
-        return unread(word);
+    let Word::Value(tmp) = board::load(image, map, sp) else {
+        return Went::Blank(sp);
     };
     rtn(s.with_sp(plus(sp, plus(tmp, tmp))), image, map, k)
 }

@@ -4,7 +4,6 @@ use format1::save;
 use state::Outside;
 use state::State;
 use state::Went;
-use state::unread;
 use word::address::plus;
 ghost use mathlib.Core.Path.{_≡_};
 ghost use Rattle.board.specs.Exec.{beside, Lent, Board, Saw};
@@ -21,9 +20,8 @@ fn svca(s: State, image: &mut [u8], map: &[u8], log: &mut [u16; 32], out: Outsid
     let Went::Done(t) = went else {
         return went;
     };
-    let word = board::load(image, map, 0x22);
-    let Word::Value(table) = word else {
-        return unread(word);
+    let Word::Value(table) = board::load(image, map, 0x22) else {
+        return Went::Blank(0x22);
     };
     t.tabled(image, map, plus(table, plus(n, n)))
 }

@@ -20,10 +20,10 @@ use Rattle.operand.specs.Operand.{deferred, incrementDeferred, decrementDeferre
 use Rattle.format6.specs.Format5.{branch}
 use Rattle.state.specs.State.{withDone, withPair}
 use Rattle.format6.specs.Format6.{immediate, single, double, format6}
-use Rattle.operand.specs.Destination.{destination}
+use Rattle.operand.specs.Destination.{operandOf}
 use Rattle.format7.specs.Format7.{wordOf, byteOf, stored, modify, noResult, statusCode, format7}
-use Rattle.format9.specs.Format9.{ash, sob, div, presetCode, format9}
-use Rattle.format10.specs.Format10.{settle, onWords, moveByte, settleByte, onBytes, format10}
+use Rattle.format9.specs.Format9.{ash, sob, div, format9}
+use Rattle.format10.specs.Format10.{settle, moveByte, settleByte, onOperands, format10}
 use Rattle.letters.specs.Digits.{letters, digits, hexOf, hex4, hex2}
 use Rattle.optext.specs.Rows.{theRow, rows}
 use Rattle.optext.specs.Line.{registers, regA, regB, regText, upText, literalText, downText, offsetText, plainText, modeText, modeTakes, addressed, rowOf, sepText, lineText, taken, textOf}
@@ -105,5 +105,5 @@ table =
 
 -- EVERY ROW HOLDS
 pub starred : map (λ (r : Row). r .got) table ≡ map (λ (r : Row). r .says) table
-unfolding table stepOf errorOf kindOf workOf busError opWork begun carry traced byFormat further formatOf run fitted even wordAt withWord withByte _>>=_ regOf setReg reg withReg withFlags withI2 withMode withStatus cleared psOf push pushReg pop popReg popStatus fetch fromLoc pushBoth trap deferred incrementDeferred decrementDeferred indexed indexedDeferred locate moved decode readOf writeTo branch withDone withPair immediate single double format6 destination wordOf byteOf stored modify noResult statusCode format7 ash sob div presetCode format9 settle onWords moveByte settleByte onBytes format10 turns taken textOf lineText rowOf theRow rows sepText modeText modeTakes plainText regText literalText upText downText offsetText regA regB registers hex4 hex2 hexOf digits addressed
+unfolding table stepOf errorOf kindOf workOf busError opWork begun carry traced byFormat further formatOf run fitted even wordAt withWord withByte _>>=_ regOf setReg reg withReg withFlags withI2 withMode withStatus cleared psOf push pushReg pop popReg popStatus fetch fromLoc pushBoth trap deferred incrementDeferred decrementDeferred indexed indexedDeferred locate moved decode readOf writeTo branch withDone withPair immediate single double format6 operandOf wordOf byteOf stored modify noResult statusCode format7 ash sob div format9 settle moveByte settleByte onOperands format10 turns taken textOf lineText rowOf theRow rows sepText modeText modeTakes plainText regText literalText upText downText offsetText regA regB registers hex4 hex2 hexOf digits addressed
 starred = refl

@@ -5,8 +5,8 @@ use Rattle.board.specs.Work.{word}
 use Rattle.board.specs.Bounded.{Bounded, gives, bounded-then, bounded-load, bounded-store, bounded-more, bounded-getD, none, also}
 use Rattle.state.specs.declared.State.{State}
 use Rattle.state.specs.declared.Outside.{Outside}
-use Rattle.state.specs.Bounds.{bounded-push, bounded-pushReg, bounded-pop, bounded-popReg, bounded-popStatus, bounded-fetch, bounded-fromLoc, bounded-pushBoth, bounded-trap}
-use Rattle.format1.specs.Format1.{bpt, save, savs, rest, rtt, rrtn, rrtt, rsts, rsvc, format1}
+use Rattle.state.specs.Bounds.{bounded-push, bounded-pushReg, bounded-pop, bounded-popReg, bounded-popStatus, bounded-fetch, bounded-fromLoc, bounded-pushBoth}
+use Rattle.format1.specs.Format1.{numberOf, bpt, save, savs, rest, rtt, rrtn, rrtt, rsts, rsvc, byNumber, format1}
 
 bounded-bpt : (out : Outside) (s : State) → Bounded 2 (bpt out s)
 unfolding bpt
@@ -66,15 +66,14 @@ unfolding rsvc
 bounded-rsvc s = bounded-then {k = 0} (omega arith) (bounded-rest s) (λ s. bounded-rtt _)
 
 pub bounded-format1 : (out : Outside) (s : State) (op : ℕ) → Bounded 9 (format1 out s op)
-unfolding format1
+unfolding format1 byNumber
 bounded-format1 out s op =
-    bounded-getD op
+    bounded-getD (numberOf op)
     (also (gives _)
     (also (gives _)
     (also (gives _)
     (also (gives _)
     (also (gives _)
-    (also (bounded-more (omega arith) (bounded-trap s _ _))
     (also (bounded-more (omega arith) (bounded-bpt out s))
     (also (gives _)
     (also (bounded-more (omega arith) (bounded-rsvc s))
@@ -84,5 +83,5 @@ bounded-format1 out s op =
     (also (bounded-more (omega arith) (bounded-rest s))
     (also (bounded-more (omega arith) (bounded-rrtn s))
     (also (bounded-more (omega arith) (bounded-rsts s))
-    none)))))))))))))))
+    none))))))))))))))
     (bounded-more (omega arith) (bounded-rtt s))

@@ -4,6 +4,7 @@ use mathlib.Core.Bool.{true, false, not, cond}
 use mathlib.Core.List.{List, [], _∷_}
 use mathlib.Core.Path.{_≡_}
 use lib.Bits.{bitOr}
+use lib.Dec.{ltb}
 use lib.ListN.{getD, List·getD-eq-default}
 use Rattle.board.specs.Work.{Work, give, load}
 use Rattle.board.specs.Work as Work
@@ -12,7 +13,7 @@ use Rattle.state.specs.declared.State.{State}
 use Rattle.state.specs.declared.Outside.{Outside}
 use Rattle.state.specs.declared.Mode.the-variants.{Waiting, PowerHalt, SwitchHalt}
 use Rattle.state.specs.State.{withSp, withI2, withMode, withMark, psOf}
-use Rattle.word.specs.Address.{plus}
+use Rattle.word.specs.Address.{plus, minus}
 use Rattle.state.specs.Stack.{push, pushReg, pop, popReg, popStatus, fetch, fromLoc, pushBoth, trapNow}
 
 -- NOP: no operations are performed. RESET: a pulse is transmitted; here nothing hears it
@@ -106,8 +107,11 @@ rsvc s = do
   s ← rest s
   rtt (withSp s (plus (s .regs .sp) 2))
 
--- 0000 to 000F: NOP, RESET, IEN, IDS, HALT, XCT, BPT, WFI, RSVC, RRTT, SAVE, SAVS, REST, RRTN, RSTS, RTT.
--- XCT itself is begun before an op code is executed (see Xct); it comes here only where an XCT was to execute it.
+-- 0000 to 0004 are 0 to 4, 0006 to 000F are 5 to 14. XCT, 0005, is begun before an op code is executed (step Xct), and never executed itself.
+abbrev pub numberOf : ℕ → ℕ
+numberOf op = cond (ltb op 5) op (minus op 1)
+
+-- NOP, RESET, IEN, IDS, HALT, BPT, WFI, RSVC, RRTT, SAVE, SAVS, REST, RRTN, RSTS; the last is RTT
 abbrev codes1 : Outside → State → List (Work State)
 codes1 out s =
     give (nop s)
@@ -115,7 +119,6 @@ codes1 out s =
     ∷ give (ien s)
     ∷ give (ids s)
     ∷ give (halt out s)
-    ∷ xctError out s
     ∷ bpt out s
     ∷ give (wfi s)
     ∷ rsvc s
@@ -127,9 +130,12 @@ codes1 out s =
     ∷ rsts s
     ∷ []
 
-unfoldable pub format1 : Outside → State → ℕ → Work State
-format1 out s op = getD (codes1 out s) op (rtt s)
+unfoldable pub byNumber : Outside → State → ℕ → Work State
+byNumber out s number = getD (codes1 out s) number (rtt s)
 
-pub format1-last : (out : Outside) (s : State) (op : ℕ) → 15 ≤ op → format1 out s op ≡ rtt s
-unfolding format1
-format1-last out s op h = List·getD-eq-default (codes1 out s) (rtt s) h
+pub byNumber-last : (out : Outside) (s : State) (number : ℕ) → 14 ≤ number → byNumber out s number ≡ rtt s
+unfolding byNumber
+byNumber-last out s number h = List·getD-eq-default (codes1 out s) (rtt s) h
+
+unfoldable pub format1 : Outside → State → ℕ → Work State
+format1 out s op = byNumber out s (numberOf op)

@@ -6,9 +6,8 @@ use state::Outside;
 use state::State;
 use state::Took;
 use state::Went;
-use state::unread;
 use state::untaken;
-use state::unwritten;
+use word::address::minus;
 use word::address::plus;
 ghost use mathlib.Core.Bool.{cond};
 ghost use mathlib.Core.Path.{_≡_};
@@ -101,17 +100,15 @@ fn savs(s: State, image: &mut [u8], map: &[u8], log: &mut [u16; 32]) -> Went
     let Went::Done(saved) = went else {
         return went;
     };
-    let word = board::load(image, map, 0x2e);
-    let Word::Value(old) = word else {
-        return unread(word);
+    let Word::Value(old) = board::load(image, map, 0x2e) else {
+        return Went::Blank(0x2e);
     };
     let went = saved.push(image, map, log, old);
     let Went::Done(pushed) = went else {
         return went;
     };
-    let kept = board::store(image, map, log, 0x2e, old | mask);
-    let Kept::Done = kept else {
-        return unwritten(kept);
+    let Kept::Done = board::store(image, map, log, 0x2e, old | mask) else {
+        return Went::Blank(0x2e);
     };
     Went::Done(ien(pushed))
 }
@@ -189,9 +186,8 @@ fn rsts(s: State, image: &mut [u8], map: &[u8], log: &mut [u16; 32]) -> Went
     let Took::Word(t, mask) = took else {
         return untaken(took);
     };
-    let kept = board::store(image, map, log, 0x2e, mask);
-    let Kept::Done = kept else {
-        return unwritten(kept);
+    let Kept::Done = board::store(image, map, log, 0x2e, mask) else {
+        return Went::Blank(0x2e);
     };
     rrtt(t, image, map)
 }
@@ -208,34 +204,40 @@ fn rsvc(s: State, image: &[u8], map: &[u8]) -> Went
     rtt(t.with_sp(plus(t.regs.sp, 2)), image, map)
 }
 
-// Format 1 by its number.
+// 0000 to 0004 are 0 to 4, 0006 to 000F are 5 to 14. XCT, 0005, is begun before an op code is executed.
+fn number_of(op: u16) -> u16
+    ensures { λ r. ⌜ r ≡ Spec.numberOf op ⌝ }
+{
+    if op < 5 { op } else { minus(op, 1) }
+}
+
+// Format 1 by that number.
 fn by_number(
     s: State,
     image: &mut [u8],
     map: &[u8],
     log: &mut [u16; 32],
     out: Outside,
-    op: u16,
+    number: u16,
 ) -> Went
     requires { ⌜ Board (now map) (beside (now image) (now log)) ⌝ }
-    ensures { λ r. ⌜ Works (now (map .entry)) (Spec.format1 out s op) (now (image .entry)) (now (log .entry)) r (now (image .exit)) (now (log .exit)) ⌝ }
+    ensures { λ r. ⌜ Works (now (map .entry)) (Spec.byNumber out s number) (now (image .entry)) (now (log .entry)) r (now (image .exit)) (now (log .exit)) ⌝ }
 {
-    match op {
+    match number {
         0 => Went::Done(s),
         1 => Went::Done(s),
         2 => Went::Done(ien(s)),
         3 => Went::Done(s.with_i2(false)),
         4 => Went::Done(halt(s, out)),
-        5 => s.trap_now(image, map, log, out, 0x1e),
-        6 => bpt(s, image, map, log, out),
-        7 => Went::Done(wfi(s)),
-        8 => rsvc(s, image, map),
-        9 => rrtt(s, image, map),
-        10 => save(s, image, map, log),
-        11 => savs(s, image, map, log),
-        12 => rest(s, image, map),
-        13 => rrtn(s, image, map),
-        14 => rsts(s, image, map, log),
+        5 => bpt(s, image, map, log, out),
+        6 => Went::Done(wfi(s)),
+        7 => rsvc(s, image, map),
+        8 => rrtt(s, image, map),
+        9 => save(s, image, map, log),
+        10 => savs(s, image, map, log),
+        11 => rest(s, image, map),
+        12 => rrtn(s, image, map),
+        13 => rsts(s, image, map, log),
         _ => rtt(s, image, map),
     }
 }
@@ -264,8 +266,9 @@ pub fn format1(
     }
     let t = s;
     let o = out;
+    let number = number_of(op);
     if op < 8 {
-        return state::apart(by_number(t, image, map, log, o, op));
+        return state::apart(by_number(t, image, map, log, o, number));
     }
-    state::apart(by_number(t, image, map, log, o, op))
+    state::apart(by_number(t, image, map, log, o, number))
 }

@@ -5,14 +5,16 @@ use lib.Dec.{ltb}
 use Rattle.codes.specs.declared.Binary.{Binary}
 use Rattle.codes.specs.declared.ByteBinary.{ByteBinary}
 use Rattle.codes.specs.declared.ByteBinary.the-variants.{Cmpb, Movb, Bisb}
-use Rattle.board.specs.Work.{word, byte}
+use Rattle.board.specs.Work.{Work, Size, word, byte}
+use Rattle.word.specs.declared.Flags.{Flags}
+use Rattle.word.specs.declared.Done.{Done}
 use Rattle.board.specs.Bounded.{Bounded, gives, bounded-then}
 use Rattle.state.specs.declared.State.{State}
 use Rattle.state.specs.Bounds.{bounded-cond}
 use Rattle.operand.specs.declared.Place.{Place}
 use Rattle.operand.specs.declared.Place.the-variants.{Reg, Mem}
-use Rattle.operand.specs.Bounds.{bounded-decode, bounded-read, bounded-write}
-use Rattle.format10.specs.Format10.{stores, settle, onWords, moveByte, settleByte, onBytes, format10}
+use Rattle.operand.specs.Bounds.{bounded-operand, bounded-write}
+use Rattle.format10.specs.Format10.{stores, settle, moveByte, settleByte, onOperands, format10}
 
 bounded-settle : (b : Binary) (s : State) (k : ℕ) (p : Place) (v : ℕ) → Bounded 1 (settle b s k p v)
 unfolding settle
@@ -30,24 +32,14 @@ bounded-settleByte Movb s k p v = bounded-moveByte s k p v
 bounded-settleByte Bisb s k p v = bounded-write byte s k p v
 
 -- two operands are decoded and read, and one write follows
-bounded-onWords : (b : Binary) (s : State) (op : ℕ) → Bounded 1 (onWords b s op)
-unfolding onWords
-bounded-onWords b s op =
-    bounded-then {k = 1} (omega arith) (bounded-decode word s _ _) λ from.
-    bounded-then {k = 1} (omega arith) (bounded-read word _ _) λ x.
-    bounded-then {k = 1} (omega arith) (bounded-decode word _ _ _) λ to.
-    bounded-then {k = 1} (omega arith) (bounded-read word _ _) λ y.
-    bounded-settle b _ _ _ _
-
-bounded-onBytes : (b : ByteBinary) (s : State) (op : ℕ) → Bounded 1 (onBytes b s op)
-unfolding onBytes
-bounded-onBytes b s op =
-    bounded-then {k = 1} (omega arith) (bounded-decode byte s _ _) λ from.
-    bounded-then {k = 1} (omega arith) (bounded-read byte _ _) λ x.
-    bounded-then {k = 1} (omega arith) (bounded-decode byte _ _ _) λ to.
-    bounded-then {k = 1} (omega arith) (bounded-read byte _ _) λ y.
-    bounded-settleByte b _ _ _ _
+bounded-onOperands : (z : Size) (result : ℕ → ℕ → Flags → Done) (settle : State → ℕ → Place → ℕ → Work State)
+    → ((s : State) (k : ℕ) (p : Place) (v : ℕ) → Bounded 1 (settle s k p v)) → (s : State) (op : ℕ) → Bounded 1 (onOperands z result settle s op)
+unfolding onOperands
+bounded-onOperands z result settle h s op =
+    bounded-then {k = 1} (omega arith) (bounded-operand z s _ _) λ from.
+    bounded-then {k = 1} (omega arith) (bounded-operand z _ _ _) λ to.
+    h _ _ _ _
 
 pub bounded-format10 : (s : State) (op : ℕ) → Bounded 1 (format10 s op)
 unfolding format10
-bounded-format10 s op = bounded-cond (ltb op 0xc000) (bounded-onWords _ s op) (bounded-onBytes _ s op)
+bounded-format10 s op = bounded-cond (ltb op 0xc000) (bounded-onOperands word _ _ (bounded-settle _) s op) (bounded-onOperands byte _ _ (bounded-settleByte _) s op)

@@ -1,5 +1,5 @@
 -- Format 10, 1000 to 6FFF and 9000 to EFFF: two operands. The source is decoded and read in full before the destination is decoded.
-use Prim.Native.Nat.{ℕ, _/_, _%_}
+use Prim.Native.Nat.{ℕ, _%_}
 use mathlib.Core.Bool.{Bool, true, false, cond}
 use mathlib.Core.Path.{_≡_}
 use lib.Dec.{ltb}
@@ -9,19 +9,23 @@ use Rattle.codes.specs.declared.ByteBinary.{ByteBinary}
 use Rattle.codes.specs.declared.ByteBinary.the-variants.{Cmpb, Movb, Bisb}
 use Rattle.arith.specs.Binary.{binaryOf, byteBinaryOf}
 use Rattle.codes.specs.Codes.{binaryAt, byteBinaryAt}
+use Rattle.codes.specs.Fields.{highDigit, sourceMode, sourceRegister, destinationRegister}
 use Rattle.arith.specs.Ops.{extended}
-use Rattle.board.specs.Work.{Work, give, word, byte}
+use Rattle.board.specs.Work.{Work, give, Size, word, byte}
 use Rattle.board.specs.Bind.{_>>=_, _>>_}
 use Rattle.state.specs.declared.State.{State}
 use Rattle.state.specs.State.{withReg, withFlags, cond-yes, cond-no}
 use Rattle.word.specs.Address.{minus}
 use Rattle.operand.specs.declared.Place.{Place}
 use Rattle.operand.specs.declared.Place.the-variants.{Reg, Mem}
-use Rattle.operand.specs.Operand.{decode, value, writeTo}
+use Rattle.operand.specs.Operand.{writeTo}
+use Rattle.operand.specs.Destination.{operandOf, destination}
+use Rattle.word.specs.declared.Flags.{Flags}
+use Rattle.word.specs.declared.Done.{Done}
 
 -- ADD 1000 to XOR 6000, CMP 9000, BIT A000, MOV B000
 abbrev pub binaryNumber : ℕ → ℕ
-binaryNumber op = cond (ltb op 0x8000) (minus (op / 4096) 1) (minus (op / 4096) 3)
+binaryNumber op = cond (ltb op 0x8000) (minus (highDigit op) 1) (minus (highDigit op) 3)
 
 -- CMP and BIT alter neither operand
 abbrev pub stores : Binary → Bool
@@ -35,6 +39,10 @@ stores Cmp = false
 stores Bit = false
 stores Mov = true
 
+-- the indicators set, and the result left to be settled
+abbrev pub settled : (State → ℕ → Place → ℕ → Work State) → State → ℕ → Place → Done → Work State
+settled settle s k p d = settle (withFlags s (d .flags)) k p (d .value)
+
 unfoldable pub settle : Binary → State → ℕ → Place → ℕ → Work State
 settle b s k p v = cond (stores b) (writeTo word s k p v) (give s)
 
@@ -46,15 +54,6 @@ pub settle-no : (b : Binary) (s : State) (k : ℕ) (p : Place) (v : ℕ) → sto
 unfolding settle
 settle-no b s k p v e = cond-no (writeTo word s k p v) e
 
--- the op code b on words
-unfoldable pub onWords : Binary → State → ℕ → Work State
-onWords b s op = do
-  from ← decode word s (op / 512 % 8) (op / 64 % 8)
-  x ← value word from
-  to ← decode word (from .state) (op / 8 % 8) (op % 8)
-  y ← value word to
-  settle b (withFlags (to .state) (binaryOf b x y (to .state .flags) .flags)) (op % 8) (to .place) (binaryOf b x y (to .state .flags) .value)
-
 -- MOVB to a register extends the sign through bit 15
 unfoldable pub moveByte : State → ℕ → Place → ℕ → Work State
 moveByte s k Reg v = give (withReg s k (extended (v % 256)))
@@ -65,16 +64,21 @@ settleByte Cmpb s k p v = give s
 settleByte Movb s k p v = moveByte s k p v
 settleByte Bisb s k p v = writeTo byte s k p v
 
--- the op code b on bytes
-unfoldable pub onBytes : ByteBinary → State → ℕ → Work State
-onBytes b s op = do
-  from ← decode byte s (op / 512 % 8) (op / 64 % 8)
-  x ← value byte from
-  to ← decode byte (from .state) (op / 8 % 8) (op % 8)
-  y ← value byte to
-  settleByte b (withFlags (to .state) (byteBinaryOf b x y (to .state .flags) .flags)) (op % 8) (to .place) (byteBinaryOf b x y (to .state .flags) .value)
+-- (DST) ← the result of (SRC) and (DST); the indicators. `settle` says whether and how the result is written
+unfoldable pub onOperands : Size → (ℕ → ℕ → Flags → Done) → (State → ℕ → Place → ℕ → Work State) → State → ℕ → Work State
+onOperands z result settle s op = do
+  from ← operandOf z s (sourceMode op) (sourceRegister op)
+  to ← destination z (from .state) op
+  settled settle (to .state) (destinationRegister op) (to .place) (result (from .operand) (to .operand) (to .state .flags))
+
+-- on words, and on bytes
+abbrev pub onWords : Binary → State → ℕ → Work State
+onWords b = onOperands word (binaryOf b) (settle b)
+
+abbrev pub onBytes : ByteBinary → State → ℕ → Work State
+onBytes b = onOperands byte (byteBinaryOf b) (settleByte b)
 
 -- CMPB C000, MOVB D000, BISB E000 on bytes, the others on words
 unfoldable pub format10 : State → ℕ → Work State
 format10 s op =
-    cond (ltb op 0xc000) (onWords (binaryAt (binaryNumber op)) s op) (onBytes (byteBinaryAt (minus (op / 4096) 12)) s op)
+    cond (ltb op 0xc000) (onWords (binaryAt (binaryNumber op)) s op) (onBytes (byteBinaryAt (minus (highDigit op) 12)) s op)

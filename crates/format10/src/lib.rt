@@ -10,11 +10,10 @@ use operand::locate;
 use operand::moved;
 use operand::read_byte;
 use operand::read_word;
+use operand::unanswered;
 use operand::unfound;
 use state::State;
 use state::Went;
-use state::unread;
-use state::unread_byte;
 use word::address::minus;
 ghost use mathlib.Core.Path.{_≡_};
 ghost use Rattle.board.specs.Work.{word, byte};
@@ -81,9 +80,8 @@ fn on_words(s: State, image: &mut [u8], map: &[u8], log: &mut [u16; 32], b: Bina
         return unfound(found);
     };
     let t = moved(s, source);
-    let word = read_word(image, map, source, t.reg(from));
-    let Word::Value(x) = word else {
-        return unread(word);
+    let Word::Value(x) = read_word(image, map, source, t.reg(from)) else {
+        return unanswered(source);
     };
     let to = op % 8;
     let found = locate(image, map, 2, to, t.reg(to), t.regs.pc, op / 8 % 8);
@@ -91,9 +89,8 @@ fn on_words(s: State, image: &mut [u8], map: &[u8], log: &mut [u16; 32], b: Bina
         return unfound(found);
     };
     let u = moved(t, place);
-    let word = read_word(image, map, place, u.reg(to));
-    let Word::Value(y) = word else {
-        return unread(word);
+    let Word::Value(y) = read_word(image, map, place, u.reg(to)) else {
+        return unanswered(place);
     };
     let done = arith::binary::binary(b, x, y, u.flags);
     settle(
@@ -173,9 +170,8 @@ fn on_bytes(
         return unfound(found);
     };
     let t = moved(s, source);
-    let byte = read_byte(image, map, source, t.reg(from));
-    let Byte::Value(x) = byte else {
-        return unread_byte(byte);
+    let Byte::Value(x) = read_byte(image, map, source, t.reg(from)) else {
+        return unanswered(source);
     };
     let to = op % 8;
     let step = byte_step(to);
@@ -185,9 +181,8 @@ fn on_bytes(
         return unfound(found);
     };
     let u = moved(t, place);
-    let byte = read_byte(image, map, place, u.reg(to));
-    let Byte::Value(y) = byte else {
-        return unread_byte(byte);
+    let Byte::Value(y) = read_byte(image, map, place, u.reg(to)) else {
+        return unanswered(place);
     };
     let done = arith::binary::byte_binary(b, x, y, u.flags);
     let w = u.with_flags(done.flags);

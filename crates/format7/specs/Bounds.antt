@@ -8,7 +8,7 @@ use Rattle.state.specs.declared.State.{State}
 use Rattle.state.specs.declared.Outside.{Outside}
 use Rattle.state.specs.Bounds.{bounded-cond, bounded-push}
 use Rattle.operand.specs.declared.Place.{Place}
-use Rattle.operand.specs.Bounds.{bounded-destination, bounded-decode, bounded-read, bounded-write}
+use Rattle.operand.specs.Bounds.{bounded-operand, bounded-write}
 use Rattle.state.specs.Bounds.{bounded-tabled}
 use Rattle.format7.specs.Format7.{placeOf, stored, modify, tcall, tjmp, lsts, ssts, statusCode, noResult, onWord, format7}
 
@@ -19,28 +19,27 @@ bounded-stored z op at s p v = bounded-cond (eqb at 2) (gives _) (bounded-write 
 bounded-modify : (z : Size) (s : State) (op at : ℕ) → Bounded 2 (modify z s op at)
 unfolding modify
 bounded-modify z s op at =
-    bounded-then {k = 1} (omega arith) (bounded-decode z s _ _) λ to.
-    bounded-then {k = 1} (omega arith) (bounded-read z _ _) λ d.
+    bounded-then {k = 1} (omega arith) (bounded-operand z s _ _) λ o.
     bounded-stored z op at _ _ _
 
 bounded-tcall : (s : State) (op : ℕ) → Bounded 2 (tcall s op)
 unfolding tcall
 bounded-tcall s op =
-    bounded-then {k = 1} (omega arith) (bounded-destination word s op) λ o.
+    bounded-then {k = 1} (omega arith) (bounded-operand word s _ _) λ o.
     bounded-then {k = 0} (omega arith) (bounded-push _ _) λ s.
     bounded-tabled s _
 
 bounded-tjmp : (s : State) (op : ℕ) → Bounded 2 (tjmp s op)
 unfolding tjmp
-bounded-tjmp s op = bounded-then {k = 0} (omega arith) (bounded-destination word s op) (λ o. bounded-tabled _ _)
+bounded-tjmp s op = bounded-then {k = 0} (omega arith) (bounded-operand word s _ _) (λ o. bounded-tabled _ _)
 
 bounded-lsts : (s : State) (op : ℕ) → Bounded 2 (lsts s op)
 unfolding lsts
-bounded-lsts s op = bounded-then {k = 0} (omega arith) (bounded-destination word s op) (λ o. gives _)
+bounded-lsts s op = bounded-then {k = 0} (omega arith) (bounded-operand word s _ _) (λ o. gives _)
 
 bounded-ssts : (out : Outside) (s : State) (op : ℕ) → Bounded 2 (ssts out s op)
 unfolding ssts
-bounded-ssts out s op = bounded-then {k = 1} (omega arith) (bounded-destination word s op) (λ o. bounded-write word _ _ _ _)
+bounded-ssts out s op = bounded-then {k = 1} (omega arith) (bounded-operand word s _ _) (λ o. bounded-write word _ _ _ _)
 
 pub bounded-format7 : (out : Outside) (s : State) (op : ℕ) → Bounded 2 (format7 out s op)
 unfolding format7 noResult statusCode

@@ -7,6 +7,7 @@ use Rattle.word.specs.declared.Done.{Done}
 use Rattle.unary.specs.Ops.{iw2Of, sxtOf, adcOf, sbcOf}
 use Rattle.unary.specs.Unary.{unaryOf}
 use Rattle.codes.specs.Codes.{unaryAt}
+use Rattle.codes.specs.Fields.{destinationMode, destinationRegister}
 use Rattle.board.specs.Work.{Work, give, Size, word, byte}
 use Rattle.board.specs.Bind.{_>>=_, _>>_}
 use Rattle.state.specs.declared.State.{State}
@@ -15,7 +16,7 @@ use Rattle.state.specs.State.{withFlags, withStatus, psOf}
 use Rattle.word.specs.Address.{plus}
 use Rattle.state.specs.Stack.{push}
 use Rattle.operand.specs.declared.Place.{Place}
-use Rattle.operand.specs.Operand.{decode, value, writeTo}
+use Rattle.operand.specs.Operand.{writeTo}
 use Rattle.state.specs.Stack.{tabled}
 use Rattle.operand.specs.Destination.{destination}
 
@@ -25,7 +26,7 @@ placeOf op = (op / 64 + 24) % 64
 
 -- the operand is in a register: mode 0
 abbrev pub inRegister : ℕ → Bool
-inRegister op = eqb (op / 8 % 8) 0
+inRegister op = eqb (destinationMode op) 0
 
 -- IW2 0D00, SXT 0D40; ADC 8D80, SBC 8DC0
 abbrev pub furtherOf : ℕ → ℕ → ℕ → Flags → Done
@@ -46,14 +47,17 @@ resultOf byte op at d f = byteOf op at d f
 
 -- TST and TSTB set the indicators and write nothing
 unfoldable pub stored : Size → ℕ → ℕ → State → Place → ℕ → Work State
-stored z op at s p v = cond (eqb at 2) (give s) (writeTo z s (op % 8) p v)
+stored z op at s p v = cond (eqb at 2) (give s) (writeTo z s (destinationRegister op) p v)
+
+-- the indicators set, and the result left to be stored
+abbrev pub storedDone : Size → ℕ → ℕ → State → Place → Done → Work State
+storedDone z op at s p d = stored z op at (withFlags s (d .flags)) p (d .value)
 
 -- (DST) ← its result; the indicators
 unfoldable pub modify : Size → State → ℕ → ℕ → Work State
 modify z s op at = do
-  to ← decode z s (op / 8 % 8) (op % 8)
-  d ← value z to
-  stored z op at (withFlags (to .state) (resultOf z op at d (to .state .flags) .flags)) (to .place) (resultOf z op at d (to .state .flags) .value)
+  o ← destination z s op
+  storedDone z op at (o .state) (o .place) (resultOf z op at (o .operand) (o .state .flags))
 
 -- TCALL: ↓ SP, @SP ← PC; PC ← PC + (DST); PC ← PC + @PC
 unfoldable pub tcall : State → ℕ → Work State
@@ -78,7 +82,7 @@ lsts s op = do
 unfoldable pub ssts : Outside → State → ℕ → Work State
 ssts out s op = do
   o ← destination word s op
-  writeTo word (o .state) (op % 8) (o .place) (psOf out false (o .state))
+  writeTo word (o .state) (destinationRegister op) (o .place) (psOf out false (o .state))
 
 -- 8D00 LSTS, 8D40 SSTS
 unfoldable pub statusCode : Outside → State → ℕ → ℕ → Work State

@@ -11,12 +11,11 @@ use operand::locate;
 use operand::moved;
 use operand::read_byte;
 use operand::read_word;
+use operand::unanswered;
 use operand::unfound;
 use state::Outside;
 use state::State;
 use state::Went;
-use state::unread;
-use state::unread_byte;
 use word::Done;
 use word::Flags;
 use word::address::plus;
@@ -123,9 +122,8 @@ fn modify_word(
         return unfound(found);
     };
     let t = moved(s, place);
-    let got = read_word(image, map, place, t.reg(k));
-    let Word::Value(d) = got else {
-        return unread(got);
+    let Word::Value(d) = read_word(image, map, place, t.reg(k)) else {
+        return unanswered(place);
     };
     let done = word_result(op, at, d, t.flags);
     stored_word(
@@ -158,9 +156,8 @@ fn modify_byte(
         return unfound(found);
     };
     let t = moved(s, place);
-    let got = read_byte(image, map, place, t.reg(k));
-    let Byte::Value(d) = got else {
-        return unread_byte(got);
+    let Byte::Value(d) = read_byte(image, map, place, t.reg(k)) else {
+        return unanswered(place);
     };
     let done = byte_result(op, at, d, t.flags);
     stored_byte(

@@ -1,18 +1,18 @@
 -- How often each op code of format 9 writes, at most.
-use Prim.Native.Nat.{ℕ, _/_, _%_}
+use Prim.Native.Nat.{ℕ}
 use native.Mathlib.Omega.{arith}
-use lib.Dec.{eqb}
+use Rattle.codes.specs.Fields.{format9Code}
 use Rattle.shift.specs.Shifted.{preset}
 use Rattle.board.specs.Work.{word, byte}
 use Rattle.board.specs.Bounded.{Bounded, gives, bounded-then, bounded-getD, none, also}
 use Rattle.state.specs.declared.State.{State}
 use Rattle.state.specs.declared.Outside.{Outside}
 use Rattle.state.specs.State.{withFlags}
-use Rattle.state.specs.Bounds.{bounded-cond, bounded-pushReg, bounded-trap}
+use Rattle.state.specs.Bounds.{bounded-pushReg, bounded-trap}
 use Rattle.operand.specs.declared.Place.{Place}
 use Rattle.operand.specs.declared.Place.the-variants.{Reg, Mem}
-use Rattle.operand.specs.Bounds.{bounded-destination, bounded-decode, bounded-write}
-use Rattle.format9.specs.Format9.{call, jsrTo, jsr, leaTo, lea, ash, xch, ashc, mul, div, presetCode, format9}
+use Rattle.operand.specs.Bounds.{bounded-operand, bounded-decode, bounded-write}
+use Rattle.format9.specs.Format9.{call, jsrTo, jsr, leaTo, lea, ash, xch, ashc, mul, div, format9}
 
 bounded-call : (s : State) (r a : ℕ) → Bounded 2 (call s r a)
 unfolding call
@@ -38,38 +38,35 @@ bounded-lea out s op = bounded-then {k = 2} (omega arith) (bounded-decode word s
 
 bounded-ash : (s : State) (op : ℕ) → Bounded 2 (ash s op)
 unfolding ash
-bounded-ash s op = bounded-then {k = 0} (omega arith) (bounded-destination byte s op) (λ o. gives _)
+bounded-ash s op = bounded-then {k = 0} (omega arith) (bounded-operand byte s _ _) (λ o. gives _)
 
 bounded-xch : (s : State) (op : ℕ) → Bounded 2 (xch s op)
 unfolding xch
-bounded-xch s op = bounded-then {k = 1} (omega arith) (bounded-destination word s op) (λ o. bounded-write word _ _ _ _)
+bounded-xch s op = bounded-then {k = 1} (omega arith) (bounded-operand word s _ _) (λ o. bounded-write word _ _ _ _)
 
 bounded-ashc : (s : State) (op : ℕ) → Bounded 2 (ashc s op)
 unfolding ashc
-bounded-ashc s op = bounded-then {k = 0} (omega arith) (bounded-destination byte s op) (λ o. gives _)
+bounded-ashc s op = bounded-then {k = 0} (omega arith) (bounded-operand byte s _ _) (λ o. gives _)
 
 bounded-mul : (s : State) (op : ℕ) → Bounded 2 (mul s op)
 unfolding mul
-bounded-mul s op = bounded-then {k = 0} (omega arith) (bounded-destination word s op) (λ o. gives _)
+bounded-mul s op = bounded-then {k = 0} (omega arith) (bounded-operand word s _ _) (λ o. gives _)
 
 bounded-div : (s : State) (op : ℕ) → Bounded 2 (div s op)
 unfolding div
-bounded-div s op = bounded-then {k = 0} (omega arith) (bounded-destination word s op) (λ o. gives _)
-
-bounded-presetCode : (out : Outside) (s : State) (op : ℕ) → Bounded 2 (presetCode out s op)
-unfolding presetCode
-bounded-presetCode out s op =
-    bounded-getD (op / 512 % 8)
-    (also (gives s)
-    (also (bounded-lea out s op)
-    (also (bounded-ash s op)
-    (also (gives s)
-    (also (bounded-xch s op)
-    (also (bounded-ashc s op)
-    (also (bounded-mul s op)
-    none)))))))
-    (bounded-div s op)
+bounded-div s op = bounded-then {k = 0} (omega arith) (bounded-operand word s _ _) (λ o. gives _)
 
 pub bounded-format9 : (out : Outside) (s : State) (op : ℕ) → Bounded 2 (format9 out s op)
 unfolding format9
-bounded-format9 out s op = bounded-cond (eqb (op / 512 % 8) 3) (gives _) (bounded-cond (eqb (op / 512 % 8) 0) (bounded-jsr out (withFlags s preset) op) (bounded-presetCode out (withFlags s preset) op))
+bounded-format9 out s op =
+    let t = withFlags s preset in
+    bounded-getD (format9Code op)
+    (also (bounded-jsr out t op)
+    (also (bounded-lea out t op)
+    (also (bounded-ash t op)
+    (also (gives _)
+    (also (bounded-xch t op)
+    (also (bounded-ashc t op)
+    (also (bounded-mul t op)
+    none)))))))
+    (bounded-div t op)

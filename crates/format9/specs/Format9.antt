@@ -1,10 +1,11 @@
--- Format 9, 7000 to 7FFF: REG in bits 8 to 6, DST in bits 5 to 0. All but SOB preset N1 Z0 V0 C1. REG is read after DST is decoded.
-use Prim.Native.Nat.{ℕ, _*_, _/_, _%_, _≤_}
+-- Format 9, 7000 to 7FFF: REG and DST. All but SOB preset N1 Z0 V0 C1. REG is read after DST is decoded.
+use Prim.Native.Nat.{ℕ, _*_, _%_, _≤_}
 use mathlib.Core.Bool.{false, cond}
 use mathlib.Core.List.{List, [], _∷_}
 use mathlib.Core.Path.{_≡_}
 use lib.Dec.{eqb}
 use lib.ListN.{getD, List·getD-eq-default}
+use Rattle.codes.specs.Fields.{destinationMode, destinationRegister, register, format9Code, offset}
 use Rattle.shift.specs.Shifted.{ashOf, ashcOf, preset}
 use Rattle.arith.specs.Wide.{mulOf, divOf}
 use Rattle.board.specs.Work.{Work, give, word, byte}
@@ -37,8 +38,8 @@ jsrTo out s r (Mem a which v) = call s r a
 -- JSR
 unfoldable pub jsr : Outside → State → ℕ → Work State
 jsr out s op = do
-  to ← decode word s (op / 8 % 8) (op % 8)
-  jsrTo out (to .state) (op / 64 % 8) (to .place)
+  to ← decode word s (destinationMode op) (destinationRegister op)
+  jsrTo out (to .state) (register op) (to .place)
 
 unfoldable pub leaTo : Outside → State → ℕ → Place → Work State
 leaTo out s r Reg = illegal out s
@@ -47,63 +48,63 @@ leaTo out s r (Mem a which v) = give (withReg s r a)
 -- LEA: REG ← DST
 unfoldable pub lea : Outside → State → ℕ → Work State
 lea out s op = do
-  to ← decode word s (op / 8 % 8) (op % 8)
-  leaTo out (to .state) (op / 64 % 8) (to .place)
+  to ← decode word s (destinationMode op) (destinationRegister op)
+  leaTo out (to .state) (register op) (to .place)
 
 -- ASH: REG is shifted by (DST), a signed byte
 unfoldable pub ash : State → ℕ → Work State
 ash s op = do
   o ← destination byte s op
-  give (withDone (o .state) (op / 64 % 8) (ashOf (reg (o .state) (op / 64 % 8)) (o .operand % 256)))
+  give (withDone (o .state) (register op) (ashOf (reg (o .state) (register op)) (o .operand % 256)))
 
 -- SOB: REG ← REG - 1; IF REG is not 0, PC ← PC - (OFFSET * 2)
 unfoldable pub sob : State → ℕ → State
 sob s op =
-    let v = minus (reg s (op / 64 % 8)) 1 in
-    let t = withReg s (op / 64 % 8) v in
-    cond (eqb v 0) t (withPc t (minus (t .regs .pc) (op % 64 * 2)))
+    let v = minus (reg s (register op)) 1 in
+    let t = withReg s (register op) v in
+    cond (eqb v 0) t (withPc t (minus (t .regs .pc) (offset op * 2)))
 
 -- XCH: REG and (DST) are exchanged
 unfoldable pub xch : State → ℕ → Work State
 xch s op = do
   o ← destination word s op
-  writeTo word (withReg (o .state) (op / 64 % 8) (o .operand)) (op % 8) (o .place) (reg (o .state) (op / 64 % 8))
+  writeTo word (withReg (o .state) (register op) (o .operand)) (destinationRegister op) (o .place) (reg (o .state) (register op))
 
 -- ASHC: as ASH, on REG+1:REG
 unfoldable pub ashc : State → ℕ → Work State
 ashc s op = do
   o ← destination byte s op
   give
-      (withPair (o .state) (op / 64 % 8)
-      (ashcOf (reg (o .state) (op / 64 % 8)) (reg (o .state) (next (op / 64 % 8))) (o .operand % 256)))
+      (withPair (o .state) (register op)
+      (ashcOf (reg (o .state) (register op)) (reg (o .state) (next (register op))) (o .operand % 256)))
 
 -- MUL: REG+1:REG ← REG * (DST)
 unfoldable pub mul : State → ℕ → Work State
 mul s op = do
   o ← destination word s op
-  give (withPair (o .state) (op / 64 % 8) (mulOf (reg (o .state) (op / 64 % 8)) (o .operand)))
+  give (withPair (o .state) (register op) (mulOf (reg (o .state) (register op)) (o .operand)))
 
 -- DIV: REG ← REG+1:REG / (DST); REG+1 ← REMAINDER
 unfoldable pub div : State → ℕ → Work State
 div s op = do
   o ← destination word s op
   give
-      (withPair (o .state) (op / 64 % 8)
-      (divOf (reg (o .state) (op / 64 % 8)) (reg (o .state) (next (op / 64 % 8))) (o .operand)))
+      (withPair (o .state) (register op)
+      (divOf (reg (o .state) (register op)) (reg (o .state) (next (register op))) (o .operand)))
 
--- (JSR 7000,) LEA 7200, ASH 7400, (SOB 7600,) XCH 7800, ASHC 7A00, MUL 7C00, DIV 7E00
-abbrev codes9 : Outside → State → ℕ → List (Work State)
-codes9 out s op = give s ∷ lea out s op ∷ ash s op ∷ give s ∷ xch s op ∷ ashc s op ∷ mul s op ∷ []
+-- with the indicators preset: JSR 7000, LEA 7200, ASH 7400; SOB 7600 leaves them; XCH 7800, ASHC 7A00, MUL 7C00, DIV 7E00
+abbrev codes9 : Outside → State → State → ℕ → List (Work State)
+codes9 out s t op =
+    jsr out t op ∷ lea out t op ∷ ash t op ∷ give (sob s op) ∷ xch t op ∷ ashc t op ∷ mul t op ∷ []
 
-unfoldable pub presetCode : Outside → State → ℕ → Work State
-presetCode out s op = getD (codes9 out s op) (op / 512 % 8) (div s op)
+-- neither JSR nor SOB
+pub record Other (op : ℕ) : Type 0 where
+  pub not-jsr : format9Code op ≡ 0 → ⊥
+  pub not-sob : format9Code op ≡ 3 → ⊥
 
-pub presetCode-last : (out : Outside) (s : State) (op : ℕ) → 7 ≤ op / 512 % 8 → presetCode out s op ≡ div s op
-unfolding presetCode
-presetCode-last out s op h = List·getD-eq-default (codes9 out s op) (div s op) h
-
--- SOB by itself; JSR and the others with the indicators preset
 unfoldable pub format9 : Outside → State → ℕ → Work State
-format9 out s op =
-    cond (eqb (op / 512 % 8) 3) (give (sob s op))
-    (cond (eqb (op / 512 % 8) 0) (jsr out (withFlags s preset) op) (presetCode out (withFlags s preset) op))
+format9 out s op = getD (codes9 out s (withFlags s preset) op) (format9Code op) (div (withFlags s preset) op)
+
+pub format9-last : (out : Outside) (s : State) (op : ℕ) → 7 ≤ format9Code op → format9 out s op ≡ div (withFlags s preset) op
+unfolding format9
+format9-last out s op h = List·getD-eq-default (codes9 out s (withFlags s preset) op) (div (withFlags s preset) op) h

@@ -181,7 +181,7 @@ fn div(s: State, image: &[u8], map: &[u8], op: u16) -> Went
     Went::Done(t.with_pair(k, pair))
 }
 
-// All but SOB and JSR, with the indicators preset.
+// All but SOB and JSR, which are told before: with the indicators preset.
 fn preset_code(
     s: State,
     image: &mut [u8],
@@ -190,19 +190,18 @@ fn preset_code(
     out: Outside,
     op: u16,
 ) -> Went
-    requires { ⌜ Board (now map) (beside (now image) (now log)) ⌝ }
-    ensures { λ r. ⌜ Works (now (map .entry)) (Spec.presetCode out s op) (now (image .entry)) (now (log .entry)) r (now (image .exit)) (now (log .exit)) ⌝ }
+    requires { ⌜ (Board (now map) (beside (now image) (now log))) × (Spec.Other op) ⌝ }
+    ensures { λ r. ⌜ Works (now (map .entry)) (Spec.format9 out s op) (now (image .entry)) (now (log .entry)) r (now (image .exit)) (now (log .exit)) ⌝ }
 {
+    let t = s.with_flags(shift::signed::preset());
     let which = op / 512 % 8;
     match which {
-        0 => Went::Done(s),
-        1 => lea(s, image, map, log, out, op),
-        2 => ash(s, image, map, op),
-        3 => Went::Done(s),
-        4 => xch(s, image, map, log, op),
-        5 => ashc(s, image, map, op),
-        6 => mul(s, image, map, op),
-        _ => div(s, image, map, op),
+        1 => lea(t, image, map, log, out, op),
+        2 => ash(t, image, map, op),
+        4 => xch(t, image, map, log, op),
+        5 => ashc(t, image, map, op),
+        6 => mul(t, image, map, op),
+        _ => div(t, image, map, op),
     }
 }
 
@@ -221,14 +220,14 @@ pub fn format9(
     if op / 512 % 8 == 3 {
         return Went::Done(sob(s, op));
     }
-    let t = s.with_flags(shift::signed::preset());
     if op / 512 % 8 == 0 {
+        let t = s.with_flags(shift::signed::preset());
         return jsr(t, image, map, log, out, op);
     }
-    let u = t;
+    let t = s;
     let o = out;
     if op < 0x7600 {
-        return state::apart(preset_code(u, image, map, log, o, op));
+        return state::apart(preset_code(t, image, map, log, o, op));
     }
-    state::apart(preset_code(u, image, map, log, o, op))
+    state::apart(preset_code(t, image, map, log, o, op))
 }

@@ -7,7 +7,7 @@ use Rattle.board.specs.Bounded.{Bounded, gives, bounded-then, bounded-load, bou
 use Rattle.state.specs.declared.State.{State}
 use Rattle.operand.specs.declared.Place.{Place}
 use Rattle.operand.specs.declared.Place.the-variants.{Reg, Mem}
-use Rattle.operand.specs.Destination.{destination}
+use Rattle.operand.specs.Destination.{operandOf}
 use Rattle.operand.specs.Operand.{locate, incrementDeferred, decrementDeferred, indexed, indexedDeferred, deferred, decode, readOf, writeTo}
 
 -- a word read, and a place given
@@ -35,9 +35,9 @@ unfolding writeTo
 bounded-write z s k Reg v = gives _
 bounded-write z s k (Mem a which w) v = bounded-then (omega arith) (bounded-store z a v) (λ _. gives {n = 0} _)
 
-pub bounded-destination : (z : Size) (s : State) (op : ℕ) → Bounded 0 (destination z s op)
-unfolding destination
-bounded-destination z s op =
-    bounded-then {k = 0} (omega arith) (bounded-decode z s _ _) λ to.
+pub bounded-operand : (z : Size) (s : State) (mode k : ℕ) → Bounded 0 (operandOf z s mode k)
+unfolding operandOf
+bounded-operand z s mode k =
+    bounded-then {k = 0} (omega arith) (bounded-decode z s mode k) λ to.
     bounded-then {k = 0} (omega arith) (bounded-read z _ _) λ v.
     gives _

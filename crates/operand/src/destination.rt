@@ -1,6 +1,7 @@
 // A decoded operand and its value, for the op codes that read one.
 use super::Found;
 use super::Held;
+use super::Place;
 use super::byte_step;
 use super::locate;
 use super::moved;
@@ -35,6 +36,16 @@ fn nowhere(found: Found) -> Held
     }
 }
 
+// An operand that was not answered when it was read: nothing is fitted at its address.
+fn absent(place: Place) -> Held
+    ensures { λ r. ⌜ r ≡ Spec.absent place ⌝ }
+{
+    match place {
+        Place::Reg => Held::Blank(0),
+        Place::Mem(a, _, _) => Held::Blank(a),
+    }
+}
+
 // DST of a word op code, decoded and read.
 pub fn destination_word(s: State, image: &[u8], map: &[u8], op: u16) -> Held
     requires { ⌜ Lent (now map) (now image) ⌝ }
@@ -46,10 +57,10 @@ pub fn destination_word(s: State, image: &[u8], map: &[u8], op: u16) -> Held
         return nowhere(found);
     };
     let t = moved(s, to);
-    match read_word(image, map, to, t.reg(k)) {
-        Word::Value(v) => Held::At(t, to, v),
-        Word::Blank(a) => Held::Blank(a),
-    }
+    let Word::Value(v) = read_word(image, map, to, t.reg(k)) else {
+        return absent(to);
+    };
+    Held::At(t, to, v)
 }
 
 // DST of a byte op code, decoded and read.
@@ -63,8 +74,8 @@ pub fn destination_byte(s: State, image: &[u8], map: &[u8], op: u16) -> Held
         return nowhere(found);
     };
     let t = moved(s, to);
-    match read_byte(image, map, to, t.reg(k)) {
-        Byte::Value(v) => Held::At(t, to, v as u16),
-        Byte::Blank(a) => Held::Blank(a),
-    }
+    let Byte::Value(v) = read_byte(image, map, to, t.reg(k)) else {
+        return absent(to);
+    };
+    Held::At(t, to, v as u16)
 }

@@ -4,7 +4,6 @@ use board::Kept;
 use board::Word;
 use state::State;
 use state::Went;
-use state::unwritten;
 use word::address::minus;
 use word::address::plus;
 ghost use mathlib.Core.Path.{_≡_};
@@ -45,6 +44,16 @@ pub fn unfound(found: Found) -> Went
     }
 }
 
+// An operand that was not answered when it was read: nothing is fitted at its address.
+pub fn unanswered(place: Place) -> Went
+    ensures { λ r. ⌜ r ≡ Spec.unanswered place ⌝ }
+{
+    match place {
+        Place::Reg => Went::Blank(0),
+        Place::Mem(a, _, _) => Went::Blank(a),
+    }
+}
+
 // The increment or decrement of a byte op code: 1, but 2 for SP and PC.
 pub fn byte_step(k: u16) -> u16
     ensures { λ r. ⌜ r ≡ Spec.incrementOf byte k ⌝ }
@@ -58,24 +67,15 @@ fn base(k: u16, r: u16, pc: u16) -> u16
     if k == 7 { plus(pc, 2) } else { r }
 }
 
-fn unplaced(word: Word) -> Found
-    ensures { λ r. ⌜ r ≡ Spec.unplaced word ⌝ }
-{
-    match word {
-        Word::Value(_) => Found::Blank(0),
-        Word::Blank(a) => Found::Blank(a),
-    }
-}
-
 // At an address stands the operand's; a register moves.
 fn deferred(image: &[u8], map: &[u8], at: u16, which: u16, v: u16) -> Found
     requires { ⌜ Lent (now map) (now image) ⌝ }
     ensures { λ f. ⌜ Saw (now (map .entry)) (Spec.deferred at which v) (now (image .entry)) (foundAs f) ⌝ }
 {
-    match board::load(image, map, at) {
-        Word::Value(a) => Found::At(Place::Mem(a, which, v)),
-        Word::Blank(a) => Found::Blank(a),
-    }
+    let Word::Value(a) = board::load(image, map, at) else {
+        return Found::Blank(at);
+    };
+    Found::At(Place::Mem(a, which, v))
 }
 
 // Modes 3 and 5: the register points to the operand's address.
@@ -131,9 +131,8 @@ pub fn locate(image: &[u8], map: &[u8], step: u16, k: u16, r: u16, pc: u16, mode
     if mode < 6 {
         return pointed(image, map, step, k, r, mode);
     }
-    let offset = board::load(image, map, pc);
-    let Word::Value(x) = offset else {
-        return unplaced(offset);
+    let Word::Value(x) = board::load(image, map, pc) else {
+        return Found::Blank(pc);
     };
     let at = plus(base(k, r, pc), x);
     let next = plus(pc, 2);
@@ -196,9 +195,8 @@ pub fn write_word(
     match place {
         Place::Reg => Went::Done(s.with_reg(k, v)),
         Place::Mem(a, _, _) => {
-            let kept = board::store(image, map, log, a, v);
-            let Kept::Done = kept else {
-                return unwritten(kept);
+            let Kept::Done = board::store(image, map, log, a, v) else {
+                return Went::Blank(a);
             };
             Went::Done(s)
         }
@@ -221,9 +219,8 @@ pub fn write_byte(
     match place {
         Place::Reg => Went::Done(s.with_reg(k, arith::on_bytes::with_low(s.reg(k), low(v)))),
         Place::Mem(a, _, _) => {
-            let kept = board::store_byte(image, map, log, a, v);
-            let Kept::Done = kept else {
-                return unwritten(kept);
+            let Kept::Done = board::store_byte(image, map, log, a, v) else {
+                return Went::Blank(a);
             };
             Went::Done(s)
         }

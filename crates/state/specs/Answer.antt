@@ -4,12 +4,6 @@ use mathlib.Core.List.{List}
 use mathlib.Core.Path.{_≡_, refl, ap, _∙_}
 use Rattle.board.specs.Work.{Work}
 use Rattle.board.specs.Exec.{Store, beside, Now, good, gone, stateOf, Did}
-use Rattle.board.specs.declared.Word.{Word}
-use Rattle.board.specs.declared.Word.the-variants as Word
-use Rattle.board.specs.declared.Byte.{Byte}
-use Rattle.board.specs.declared.Byte.the-variants as Byte
-use Rattle.board.specs.declared.Kept.{Kept}
-use Rattle.board.specs.declared.Kept.the-variants as Kept
 use Rattle.state.specs.declared.State.{State}
 use Rattle.state.specs.declared.Went.{Went}
 use Rattle.state.specs.declared.Went.the-variants.{Done, Blank}
@@ -48,32 +42,11 @@ took-is {st = st} e = ap (λ z. tookAs z st) e
 pub took-none : {r : Took} {a : ℕ} {st : Store} → r ≡ Took.Blank a → tookAs r st ≡ gone a st
 took-none {st = st} e = ap (λ z. tookAs z st) e
 
--- ---- an access that was not answered ends the work there
-
-abbrev pub unread : Word → Went
-unread (Word.Value v) = Blank 0
-unread (Word.Blank a) = Blank a
-
-abbrev pub unreadByte : Byte → Went
-unreadByte (Byte.Value v) = Blank 0
-unreadByte (Byte.Blank a) = Blank a
-
-abbrev pub unwritten : Kept → Went
-unwritten Kept.Done = Blank 0
-unwritten (Kept.Blank a) = Blank a
+-- ---- a word that was not popped or fetched ends the work there
 
 abbrev pub untaken : Took → Went
 untaken (Took.Word s v) = Blank 0
 untaken (Took.Blank a) = Blank a
-
-pub word-lost : {r : Went} {w : Word} {a : ℕ} {st : Store} → r ≡ unread w → w ≡ Word.Blank a → wentAs r st ≡ gone a st
-word-lost e h = went-none (e ∙ ap unread h)
-
-pub byte-lost : {r : Went} {b : Byte} {a : ℕ} {st : Store} → r ≡ unreadByte b → b ≡ Byte.Blank a → wentAs r st ≡ gone a st
-byte-lost e h = went-none (e ∙ ap unreadByte h)
-
-pub kept-lost : {r : Went} {k : Kept} {a : ℕ} {st : Store} → r ≡ unwritten k → k ≡ Kept.Blank a → wentAs r st ≡ gone a st
-kept-lost e h = went-none (e ∙ ap unwritten h)
 
 pub took-lost : {r : Went} {t : Took} {a : ℕ} {st : Store} → r ≡ untaken t → t ≡ Took.Blank a → wentAs r st ≡ gone a st
 took-lost e h = went-none (e ∙ ap untaken h)

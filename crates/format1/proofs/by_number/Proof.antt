@@ -1,13 +1,10 @@
 use mathlib.Core.Path.{refl, sym, _∙_}
 use Rattle.board.specs.Laws.{got-give, did}
 use Rattle.codes.specs.Past.{at-least}
-use Rattle.format1.specs.Format1.{format1, format1-last}
+use Rattle.format1.specs.Format1.{byNumber, byNumber-last}
 use borrow.Author.Needs.{needs}
 use Rattle.format1.proofs.by_number.Statement.{statement}
 use Rattle.format1.proofs.by_number.Tie as tie
-
-trap-now-requires : tie.Need-trap-now-requires
-trap-now-requires c κs = c .before .before .before .before .before .pre
 
 bpt-requires : tie.Need-bpt-requires
 bpt-requires c κs = c .before .before .before .before .before .pre
@@ -37,83 +34,76 @@ rtt-requires : tie.Need-rtt-requires
 rtt-requires c κs = c .before .before .before .before .pre .lent
 
 returns : tie.Need-returns
-unfolding format1
+unfolding byNumber
 returns c = rw (c .match .keys1) (did refl (c .before .before .before .pre) (got-give refl))
 
 returns-2 : tie.Need-returns-2
-unfolding format1
+unfolding byNumber
 returns-2 c = rw (c .match .keys2) (did refl (c .before .before .before .pre) (got-give refl))
 
 returns-3 : tie.Need-returns-3
-unfolding format1
+unfolding byNumber
 returns-3 c = rw (c .before .match .keys3) (did refl (c .before .before .before .before .pre) (got-give (rw (c .ien .ensures))))
 
 returns-4 : tie.Need-returns-4
-unfolding format1
+unfolding byNumber
 returns-4 c = rw (c .before .match .keys4) (did refl (c .before .before .before .before .pre) (got-give (rw (c .with-i2 .ensures))))
 
 returns-5 : tie.Need-returns-5
-unfolding format1
+unfolding byNumber
 returns-5 c = rw (c .before .match .keys5) (did refl (c .before .before .before .before .pre) (got-give (rw (c .halt .ensures))))
 
 same-length : tie.Need-same-length
-same-length c = c .before .before .trap-now .ensures .board .lent .size ∙ sym (c .before .before .before .before .before .before .before .before .pre .lent .size)
+same-length c = c .before .before .bpt .ensures .board .lent .size ∙ sym (c .before .before .before .before .before .before .before .before .pre .lent .size)
 
 returns-6 : tie.Need-returns-6
-unfolding format1
-returns-6 c = rw (c .before .before .before .before .before .match .keys6) (record { got = c .before .before .trap-now .ensures .got; board = c .before .before .trap-now .ensures .board })
-
-same-length-2 : tie.Need-same-length-2
-same-length-2 c = c .before .before .bpt .ensures .board .lent .size ∙ sym (c .before .before .before .before .before .before .before .before .pre .lent .size)
+unfolding byNumber
+returns-6 c = rw (c .before .before .before .before .before .match .keys6) (record { got = c .before .before .bpt .ensures .got; board = c .before .before .bpt .ensures .board })
 
 returns-7 : tie.Need-returns-7
-unfolding format1
-returns-7 c = rw (c .before .before .before .before .before .match .keys7) (record { got = c .before .before .bpt .ensures .got; board = c .before .before .bpt .ensures .board })
+unfolding byNumber
+returns-7 c = rw (c .before .match .keys7) (did refl (c .before .before .before .before .pre) (got-give (rw (c .wfi .ensures))))
 
 returns-8 : tie.Need-returns-8
-unfolding format1
-returns-8 c = rw (c .before .match .keys8) (did refl (c .before .before .before .before .pre) (got-give (rw (c .wfi .ensures))))
+unfolding byNumber
+returns-8 c = rw (c .before .before .match .keys8) (record { got = c .rsvc .ensures .got; board = c .before .before .before .before .before .pre })
 
 returns-9 : tie.Need-returns-9
-unfolding format1
-returns-9 c = rw (c .before .before .match .keys9) (record { got = c .rsvc .ensures .got; board = c .before .before .before .before .before .pre })
+unfolding byNumber
+returns-9 c = rw (c .before .before .match .keys9) (record { got = c .rrtt .ensures .got; board = c .before .before .before .before .before .pre })
+
+same-length-4 : tie.Need-same-length-4
+same-length-4 c = c .before .before .save .ensures .board .lent .size ∙ sym (c .before .before .before .before .before .before .before .before .pre .lent .size)
 
 returns-10 : tie.Need-returns-10
-unfolding format1
-returns-10 c = rw (c .before .before .match .keys10) (record { got = c .rrtt .ensures .got; board = c .before .before .before .before .before .pre })
+unfolding byNumber
+returns-10 c = rw (c .before .before .before .before .before .match .keys10) (record { got = c .before .before .save .ensures .got; board = c .before .before .save .ensures .board })
 
 same-length-5 : tie.Need-same-length-5
-same-length-5 c = c .before .before .save .ensures .board .lent .size ∙ sym (c .before .before .before .before .before .before .before .before .pre .lent .size)
+same-length-5 c = c .before .before .savs .ensures .board .lent .size ∙ sym (c .before .before .before .before .before .before .before .before .pre .lent .size)
 
 returns-11 : tie.Need-returns-11
-unfolding format1
-returns-11 c = rw (c .before .before .before .before .before .match .keys11) (record { got = c .before .before .save .ensures .got; board = c .before .before .save .ensures .board })
-
-same-length-6 : tie.Need-same-length-6
-same-length-6 c = c .before .before .savs .ensures .board .lent .size ∙ sym (c .before .before .before .before .before .before .before .before .pre .lent .size)
+unfolding byNumber
+returns-11 c = rw (c .before .before .before .before .before .match .keys11) (record { got = c .before .before .savs .ensures .got; board = c .before .before .savs .ensures .board })
 
 returns-12 : tie.Need-returns-12
-unfolding format1
-returns-12 c = rw (c .before .before .before .before .before .match .keys12) (record { got = c .before .before .savs .ensures .got; board = c .before .before .savs .ensures .board })
+unfolding byNumber
+returns-12 c = rw (c .before .before .match .keys12) (record { got = c .rest .ensures .got; board = c .before .before .before .before .before .pre })
 
 returns-13 : tie.Need-returns-13
-unfolding format1
-returns-13 c = rw (c .before .before .match .keys13) (record { got = c .rest .ensures .got; board = c .before .before .before .before .before .pre })
+unfolding byNumber
+returns-13 c = rw (c .before .before .match .keys13) (record { got = c .rrtn .ensures .got; board = c .before .before .before .before .before .pre })
+
+same-length-8 : tie.Need-same-length-8
+same-length-8 c = c .before .before .rsts .ensures .board .lent .size ∙ sym (c .before .before .before .before .before .before .before .before .pre .lent .size)
 
 returns-14 : tie.Need-returns-14
-unfolding format1
-returns-14 c = rw (c .before .before .match .keys14) (record { got = c .rrtn .ensures .got; board = c .before .before .before .before .before .pre })
-
-same-length-9 : tie.Need-same-length-9
-same-length-9 c = c .before .before .rsts .ensures .board .lent .size ∙ sym (c .before .before .before .before .before .before .before .before .pre .lent .size)
+unfolding byNumber
+returns-14 c = rw (c .before .before .before .before .before .match .keys14) (record { got = c .before .before .rsts .ensures .got; board = c .before .before .rsts .ensures .board })
 
 returns-15 : tie.Need-returns-15
-unfolding format1
-returns-15 c = rw (c .before .before .before .before .before .match .keys15) (record { got = c .before .before .rsts .ensures .got; board = c .before .before .rsts .ensures .board })
-
-returns-16 : tie.Need-returns-16
-unfolding format1
-returns-16 c = rw (format1-last _ _ _ (at-least 15 (c .before .before .before .before .before .args .op) (c .before .before .match .rest))) (record { got = c .rtt .ensures .got; board = c .before .before .before .before .before .pre })
+unfolding byNumber
+returns-15 c = rw (byNumber-last _ _ _ (at-least 14 (c .before .before .before .before .before .args .number) (c .before .before .match .rest))) (record { got = c .rtt .ensures .got; board = c .before .before .before .before .before .pre })
 
 pub by-number-spec : {M : Type 1} → statement M
 by-number-spec =
@@ -122,7 +112,6 @@ by-number-spec =
     (λ c κs. search needs)
     (λ c κs. search needs)
     (λ c κs. search needs)
-    trap-now-requires
     bpt-requires
     (λ c κs. search needs)
     rsvc-requires
@@ -140,22 +129,20 @@ by-number-spec =
     returns-5
     same-length
     returns-6
-    same-length-2
     returns-7
+    (λ c. search needs)
     returns-8
     (λ c. search needs)
     returns-9
-    (λ c. search needs)
+    same-length-4
     returns-10
     same-length-5
     returns-11
-    same-length-6
+    (λ c. search needs)
     returns-12
     (λ c. search needs)
     returns-13
-    (λ c. search needs)
+    same-length-8
     returns-14
-    same-length-9
-    returns-15
     (λ c. search needs)
-    returns-16)
+    returns-15)

@@ -1,6 +1,6 @@
-use mathlib.Core.Path.{sym, _∙_}
-use Rattle.board.specs.Laws.{got-then, got-gone, did, kept-is, kept-none}
-use Rattle.state.specs.Answer.{went-store, took-is, took-none, took-lost, kept-lost}
+use mathlib.Core.Path.{refl, sym, _∙_}
+use Rattle.board.specs.Laws.{got-then, got-gone, did, kept-is, kept-none, unwritten-at}
+use Rattle.state.specs.Answer.{went-store, took-is, took-none, took-lost}
 use Rattle.format1.specs.Format1.{rsts}
 use borrow.Author.Needs.{needs}
 use Rattle.format1.proofs.rsts.Statement.{statement}
@@ -19,14 +19,14 @@ store-requires : tie.Need-store-requires
 store-requires c κs = c .before .before .before .before .before .before .before .before .before .pre
 
 same-length-2 : tie.Need-same-length-2
-same-length-2 c = c .before .before .before .before .before .store .ensures .board .lent .size ∙ sym (c .before .before .before .before .before .before .before .before .before .before .before .before .before .before .before .pre .lent .size)
+same-length-2 c = c .before .before .before .before .store .ensures .board .lent .size ∙ sym (c .before .before .before .before .before .before .before .before .before .before .before .before .before .before .pre .lent .size)
 
 returns-2 : tie.Need-returns-2
 unfolding rsts
 returns-2 c =
-    did (went-store (c .unwritten .result)) (c .before .before .before .before .before .before .before .before .before .before .before .before .before .before .before .pre)
-    (got-then _ (c .before .before .before .before .before .before .before .before .before .before .before .pop .ensures .got) (took-is (c .before .before .before .before .before .before .before .before .before .took .given .1))
-    (got-gone _ (c .before .before .before .before .before .store .ensures .got) (kept-none (c .before .enum-told3 .given .1)) (kept-lost (c .unwritten .ensures) (c .before .enum-told3 .given .1))))
+    did refl (c .before .before .before .before .before .before .before .before .before .before .before .before .before .before .pre)
+    (got-then _ (c .before .before .before .before .before .before .before .before .before .before .pop .ensures .got) (took-is (c .before .before .before .before .before .before .before .before .took .given .1))
+    (got-gone _ (c .before .before .before .before .store .ensures .got) (unwritten-at (c .before .before .before .before .store .ensures .got) (kept-none (c .enum-told3 .given .1))) refl))
 
 rrtt-requires : tie.Need-rrtt-requires
 rrtt-requires c κs = c .before .before .before .before .before .store .ensures .board .lent
@@ -57,7 +57,6 @@ rsts-spec =
     store-requires
     (λ c. search needs)
     (λ c. search needs)
-    (λ c κs. search needs)
     same-length-2
     returns-2
     rrtt-requires

@@ -1,6 +1,6 @@
 use mathlib.Core.Path.{refl, sym, _∙_}
-use Rattle.board.specs.Laws.{got-then, got-gone, got-give, did, word-is, word-none, kept-is, kept-none}
-use Rattle.state.specs.Answer.{went-is, went-none, went-store, took-is, took-none, took-lost, word-lost, kept-lost}
+use Rattle.board.specs.Laws.{got-then, got-gone, got-give, did, word-is, word-none, kept-is, kept-none, unread-at, unwritten-at}
+use Rattle.state.specs.Answer.{went-is, went-none, went-store, took-is, took-none, took-lost}
 use Rattle.format1.specs.Format1.{savs}
 use borrow.Author.Needs.{needs}
 use Rattle.format1.proofs.savs.Statement.{statement}
@@ -32,15 +32,15 @@ load-requires : tie.Need-load-requires
 load-requires c κs = c .before .before .before .before .before .before .save .ensures .board .lent
 
 same-length-3 : tie.Need-same-length-3
-same-length-3 c = c .before .before .before .before .before .before .before .before .before .before .save .ensures .board .lent .size ∙ sym (c .before .before .before .before .before .before .before .before .before .before .before .before .before .before .before .before .before .before .before .before .pre .lent .size)
+same-length-3 c = c .before .before .before .before .before .before .before .before .before .save .ensures .board .lent .size ∙ sym (c .before .before .before .before .before .before .before .before .before .before .before .before .before .before .before .before .before .before .before .pre .lent .size)
 
 returns-3 : tie.Need-returns-3
 unfolding savs
 returns-3 c =
-    did (went-store (c .unread .result)) (c .before .before .before .before .before .before .before .before .before .before .before .before .before .before .before .before .before .before .before .before .pre)
-    (got-then _ (c .before .before .before .before .before .before .before .before .before .before .before .before .before .before .before .before .fetch .ensures .got) (took-is (c .before .before .before .before .before .before .before .before .before .before .before .before .before .before .took .given .1))
-    (got-then _ (c .before .before .before .before .before .before .before .before .before .before .save .ensures .got) (went-is (c .before .before .before .before .before .before .went .given .1))
-    (got-gone _ (c .before .before .before .load .ensures .got) (word-none (c .before .enum-told3 .given .1)) (word-lost (c .unread .ensures) (c .before .enum-told3 .given .1)))))
+    did refl (c .before .before .before .before .before .before .before .before .before .before .before .before .before .before .before .before .before .before .before .pre)
+    (got-then _ (c .before .before .before .before .before .before .before .before .before .before .before .before .before .before .before .fetch .ensures .got) (took-is (c .before .before .before .before .before .before .before .before .before .before .before .before .before .took .given .1))
+    (got-then _ (c .before .before .before .before .before .before .before .before .before .save .ensures .got) (went-is (c .before .before .before .before .before .went .given .1))
+    (got-gone _ (c .before .before .load .ensures .got) (unread-at (c .before .before .load .ensures .got) (word-none (c .enum-told3 .given .1))) refl)))
 
 push-requires : tie.Need-push-requires
 push-requires c κs = c .before .before .before .before .before .before .before .before .before .before .before .before .save .ensures .board
@@ -54,24 +54,24 @@ returns-4 c =
     did (went-store (c .before .before .before .before .push .result)) (c .before .before .before .before .before .before .before .before .before .before .before .before .before .before .before .before .before .before .before .before .before .before .before .before .before .before .before .pre)
     (got-then _ (c .before .before .before .before .before .before .before .before .before .before .before .before .before .before .before .before .before .before .before .before .before .before .before .fetch .ensures .got) (took-is (c .before .before .before .before .before .before .before .before .before .before .before .before .before .before .before .before .before .before .before .before .before .took .given .1))
     (got-then _ (c .before .before .before .before .before .before .before .before .before .before .before .before .before .before .before .before .before .save .ensures .got) (went-is (c .before .before .before .before .before .before .before .before .before .before .before .before .before .went .given .1))
-    (got-then _ (c .before .before .before .before .before .before .before .before .before .before .load .ensures .got) (word-is (c .before .before .before .before .before .before .before .before .word .given .1))
+    (got-then _ (c .before .before .before .before .before .before .before .before .before .before .load .ensures .got) (word-is (c .before .before .before .before .before .before .before .before .old .given .1))
     (got-gone _ (c .before .before .before .before .push .ensures .got) (went-none (c .enum-told4 .given .1)) (went-none (c .enum-told4 .given .1))))))
 
 store-requires : tie.Need-store-requires
 store-requires c κs = c .before .before .before .before .before .before .before .push .ensures .board
 
 same-length-5 : tie.Need-same-length-5
-same-length-5 c = c .before .before .before .before .before .store .ensures .board .lent .size ∙ sym (c .before .before .before .before .before .before .before .before .before .before .before .before .before .before .before .before .before .before .before .before .before .before .before .before .before .before .before .before .before .before .before .before .before .before .before .before .pre .lent .size)
+same-length-5 c = c .before .before .before .before .store .ensures .board .lent .size ∙ sym (c .before .before .before .before .before .before .before .before .before .before .before .before .before .before .before .before .before .before .before .before .before .before .before .before .before .before .before .before .before .before .before .before .before .before .before .pre .lent .size)
 
 returns-5 : tie.Need-returns-5
 unfolding savs
 returns-5 c =
-    did (went-store (c .unwritten .result)) (c .before .before .before .before .before .before .before .before .before .before .before .before .before .before .before .before .before .before .before .before .before .before .before .before .before .before .before .before .before .before .before .before .before .before .before .before .pre)
-    (got-then _ (c .before .before .before .before .before .before .before .before .before .before .before .before .before .before .before .before .before .before .before .before .before .before .before .before .before .before .before .before .before .before .before .before .fetch .ensures .got) (took-is (c .before .before .before .before .before .before .before .before .before .before .before .before .before .before .before .before .before .before .before .before .before .before .before .before .before .before .before .before .before .before .took .given .1))
-    (got-then _ (c .before .before .before .before .before .before .before .before .before .before .before .before .before .before .before .before .before .before .before .before .before .before .before .before .before .before .save .ensures .got) (went-is (c .before .before .before .before .before .before .before .before .before .before .before .before .before .before .before .before .before .before .before .before .before .before .went .given .1))
-    (got-then _ (c .before .before .before .before .before .before .before .before .before .before .before .before .before .before .before .before .before .before .before .load .ensures .got) (word-is (c .before .before .before .before .before .before .before .before .before .before .before .before .before .before .before .before .before .word .given .1))
-    (got-then _ (c .before .before .before .before .before .before .before .before .before .before .before .before .before .push .ensures .got) (went-is (c .before .before .before .before .before .before .before .before .before .went2 .given .1))
-    (got-gone _ (c .before .before .before .before .before .store .ensures .got) (kept-none (c .before .enum-told6 .given .1)) (kept-lost (c .unwritten .ensures) (c .before .enum-told6 .given .1)))))))
+    did refl (c .before .before .before .before .before .before .before .before .before .before .before .before .before .before .before .before .before .before .before .before .before .before .before .before .before .before .before .before .before .before .before .before .before .before .before .pre)
+    (got-then _ (c .before .before .before .before .before .before .before .before .before .before .before .before .before .before .before .before .before .before .before .before .before .before .before .before .before .before .before .before .before .before .before .fetch .ensures .got) (took-is (c .before .before .before .before .before .before .before .before .before .before .before .before .before .before .before .before .before .before .before .before .before .before .before .before .before .before .before .before .before .took .given .1))
+    (got-then _ (c .before .before .before .before .before .before .before .before .before .before .before .before .before .before .before .before .before .before .before .before .before .before .before .before .before .save .ensures .got) (went-is (c .before .before .before .before .before .before .before .before .before .before .before .before .before .before .before .before .before .before .before .before .before .went .given .1))
+    (got-then _ (c .before .before .before .before .before .before .before .before .before .before .before .before .before .before .before .before .before .before .load .ensures .got) (word-is (c .before .before .before .before .before .before .before .before .before .before .before .before .before .before .before .before .old .given .1))
+    (got-then _ (c .before .before .before .before .before .before .before .before .before .before .before .before .push .ensures .got) (went-is (c .before .before .before .before .before .before .before .before .went2 .given .1))
+    (got-gone _ (c .before .before .before .before .store .ensures .got) (unwritten-at (c .before .before .before .before .store .ensures .got) (kept-none (c .enum-told6 .given .1))) refl)))))
 
 same-length-6 : tie.Need-same-length-6
 same-length-6 c = c .before .before .before .before .before .store .ensures .board .lent .size ∙ sym (c .before .before .before .before .before .before .before .before .before .before .before .before .before .before .before .before .before .before .before .before .before .before .before .before .before .before .before .before .before .before .before .before .before .before .before .before .pre .lent .size)
@@ -82,7 +82,7 @@ returns-6 c =
     did refl (c .before .before .before .before .before .before .before .before .before .before .before .before .before .before .before .before .before .before .before .before .before .before .before .before .before .before .before .before .before .before .before .before .before .before .before .before .pre)
     (got-then _ (c .before .before .before .before .before .before .before .before .before .before .before .before .before .before .before .before .before .before .before .before .before .before .before .before .before .before .before .before .before .before .before .before .fetch .ensures .got) (took-is (c .before .before .before .before .before .before .before .before .before .before .before .before .before .before .before .before .before .before .before .before .before .before .before .before .before .before .before .before .before .before .took .given .1))
     (got-then _ (c .before .before .before .before .before .before .before .before .before .before .before .before .before .before .before .before .before .before .before .before .before .before .before .before .before .before .save .ensures .got) (went-is (c .before .before .before .before .before .before .before .before .before .before .before .before .before .before .before .before .before .before .before .before .before .before .went .given .1))
-    (got-then _ (c .before .before .before .before .before .before .before .before .before .before .before .before .before .before .before .before .before .before .before .load .ensures .got) (word-is (c .before .before .before .before .before .before .before .before .before .before .before .before .before .before .before .before .before .word .given .1))
+    (got-then _ (c .before .before .before .before .before .before .before .before .before .before .before .before .before .before .before .before .before .before .before .load .ensures .got) (word-is (c .before .before .before .before .before .before .before .before .before .before .before .before .before .before .before .before .before .old .given .1))
     (got-then _ (c .before .before .before .before .before .before .before .before .before .before .before .before .before .push .ensures .got) (went-is (c .before .before .before .before .before .before .before .before .before .went2 .given .1))
     (got-then _ (c .before .before .before .before .before .store .ensures .got) (kept-is (c .before .enum-told5 .given .1))
     (got-give (rw (c .ien .ensures))))))))
@@ -105,7 +105,6 @@ savs-spec =
     load-requires
     (λ c. search needs)
     (λ c. search needs)
-    (λ c κs. search needs)
     same-length-3
     returns-3
     push-requires
@@ -116,7 +115,6 @@ savs-spec =
     store-requires
     (λ c. search needs)
     (λ c. search needs)
-    (λ c κs. search needs)
     same-length-5
     returns-5
     (λ c κs. search needs)

@@ -1,9 +1,10 @@
 use mathlib.Core.Path.{refl, sym, _∙_}
-use Rattle.board.specs.Laws.{got-then, got-gone, did, word-is, word-none}
-use Rattle.state.specs.Answer.{went-store, word-lost}
-use Rattle.operand.specs.Operand.{found-lost, decoded, undecoded}
 use Rattle.board.specs.Work.{word}
-use Rattle.format10.specs.Format10.{onWords}
+use Rattle.board.specs.Laws.{got-then, got-gone, did, word-is, word-none}
+use Rattle.state.specs.Answer.{went-none, went-store}
+use Rattle.operand.specs.Operand.{found-lost}
+use Rattle.operand.specs.Destination.{never-found, never-read, held}
+use Rattle.format10.specs.Format10.{onOperands}
 use borrow.Author.Needs.{needs}
 use Rattle.format10.proofs.on_words.Statement.{statement}
 use Rattle.format10.proofs.on_words.Tie as tie
@@ -12,43 +13,39 @@ locate-requires : tie.Need-locate-requires
 locate-requires c κs = c .before .before .before .before .pre .lent
 
 returns : tie.Need-returns
-unfolding onWords
+unfolding onOperands
 returns c =
     did (went-store (c .unfound .result)) (c .before .before .before .before .before .before .before .before .pre)
-    (got-gone _ (undecoded word _ _ _ ((rw (c .before .before .before .before .reg .ensures) at (c .before .before .before .locate .ensures)) .got) (c .before .enum-told .given .1)) refl (found-lost (c .unfound .ensures) (c .before .enum-told .given .1)))
+    (got-gone _ (never-found word _ _ _ refl (c .before .before .before .before .reg .ensures) (c .before .before .before .locate .ensures) (c .before .enum-told .given .1)) refl (found-lost (c .unfound .ensures) (c .before .enum-told .given .1)))
 
 read-word-requires : tie.Need-read-word-requires
 read-word-requires c κs = c .before .before .before .before .before .before .before .before .before .before .before .pre .lent
 
 returns-2 : tie.Need-returns-2
-unfolding onWords
+unfolding onOperands
 returns-2 c =
-    did (went-store (c .unread .result)) (c .before .before .before .before .before .before .before .before .before .before .before .before .before .before .before .pre)
-    (got-then _ (decoded word _ _ _ ((rw (c .before .before .before .before .before .before .before .before .before .before .before .reg .ensures) at (c .before .before .before .before .before .before .before .before .before .before .locate .ensures)) .got) (c .before .before .before .before .before .before .before .before .found .given .1) (c .before .before .before .before .before .before .moved .ensures)) refl
-    (got-gone _ ((rw (c .before .before .before .before .reg2 .ensures) at (c .before .before .before .read-word .ensures)) .got) (word-none (c .before .enum-told2 .given .1)) (word-lost (c .unread .ensures) (c .before .enum-told2 .given .1))))
+    did (went-store (c .unanswered .result)) (c .before .before .before .before .before .before .before .before .before .before .before .before .before .before .before .pre)
+    (got-gone _ (never-read word _ _ _ refl (c .before .before .before .before .before .before .before .before .before .before .before .reg .ensures) (c .before .before .before .before .before .before .before .before .before .before .locate .ensures) (c .before .before .before .before .before .before .before .before .found .given .1) (c .before .before .before .before .before .before .moved .ensures) (c .before .before .before .before .reg2 .ensures) (c .before .before .before .read-word .ensures) (word-none (c .before .enum-told2 .given .1))) refl (went-none (c .unanswered .ensures)))
 
 locate-requires-2 : tie.Need-locate-requires-2
 locate-requires-2 c κs = c .before .before .before .before .before .before .before .before .before .before .before .before .before .before .before .before .before .pre .lent
 
 returns-3 : tie.Need-returns-3
-unfolding onWords
+unfolding onOperands
 returns-3 c =
     did (went-store (c .unfound2 .result)) (c .before .before .before .before .before .before .before .before .before .before .before .before .before .before .before .before .before .before .before .before .before .pre)
-    (got-then _ (decoded word _ _ _ ((rw (c .before .before .before .before .before .before .before .before .before .before .before .before .before .before .before .before .before .reg .ensures) at (c .before .before .before .before .before .before .before .before .before .before .before .before .before .before .before .before .locate .ensures)) .got) (c .before .before .before .before .before .before .before .before .before .before .before .before .before .before .found .given .1) (c .before .before .before .before .before .before .before .before .before .before .before .before .moved .ensures)) refl
-    (got-then _ ((rw (c .before .before .before .before .before .before .before .before .before .before .reg2 .ensures) at (c .before .before .before .before .before .before .before .before .before .read-word .ensures)) .got) (word-is (c .before .before .before .before .before .before .before .word .given .1))
-    (got-gone _ (undecoded word _ _ _ ((rw (c .before .before .before .before .reg3 .ensures) at (c .before .before .before .locate2 .ensures)) .got) (c .before .enum-told3 .given .1)) refl (found-lost (c .unfound2 .ensures) (c .before .enum-told3 .given .1)))))
+    (got-then _ (held word _ _ _ refl (c .before .before .before .before .before .before .before .before .before .before .before .before .before .before .before .before .before .reg .ensures) (c .before .before .before .before .before .before .before .before .before .before .before .before .before .before .before .before .locate .ensures) (c .before .before .before .before .before .before .before .before .before .before .before .before .before .before .found .given .1) (c .before .before .before .before .before .before .before .before .before .before .before .before .moved .ensures) (c .before .before .before .before .before .before .before .before .before .before .reg2 .ensures) (c .before .before .before .before .before .before .before .before .before .read-word .ensures) (word-is (c .before .before .before .before .before .before .before .x .given .1))) refl
+    (got-gone _ (never-found word _ _ _ refl (c .before .before .before .before .reg3 .ensures) (c .before .before .before .locate2 .ensures) (c .before .enum-told3 .given .1)) refl (found-lost (c .unfound2 .ensures) (c .before .enum-told3 .given .1))))
 
 read-word-requires-2 : tie.Need-read-word-requires-2
 read-word-requires-2 c κs = c .before .before .before .before .before .before .before .before .before .before .before .before .before .before .before .before .before .before .before .before .before .before .before .before .pre .lent
 
 returns-4 : tie.Need-returns-4
-unfolding onWords
+unfolding onOperands
 returns-4 c =
-    did (went-store (c .unread2 .result)) (c .before .before .before .before .before .before .before .before .before .before .before .before .before .before .before .before .before .before .before .before .before .before .before .before .before .before .before .before .pre)
-    (got-then _ (decoded word _ _ _ ((rw (c .before .before .before .before .before .before .before .before .before .before .before .before .before .before .before .before .before .before .before .before .before .before .before .before .reg .ensures) at (c .before .before .before .before .before .before .before .before .before .before .before .before .before .before .before .before .before .before .before .before .before .before .before .locate .ensures)) .got) (c .before .before .before .before .before .before .before .before .before .before .before .before .before .before .before .before .before .before .before .before .before .found .given .1) (c .before .before .before .before .before .before .before .before .before .before .before .before .before .before .before .before .before .before .before .moved .ensures)) refl
-    (got-then _ ((rw (c .before .before .before .before .before .before .before .before .before .before .before .before .before .before .before .before .before .reg2 .ensures) at (c .before .before .before .before .before .before .before .before .before .before .before .before .before .before .before .before .read-word .ensures)) .got) (word-is (c .before .before .before .before .before .before .before .before .before .before .before .before .before .before .word .given .1))
-    (got-then _ (decoded word _ _ _ ((rw (c .before .before .before .before .before .before .before .before .before .before .before .reg3 .ensures) at (c .before .before .before .before .before .before .before .before .before .before .locate2 .ensures)) .got) (c .before .before .before .before .before .before .before .before .found2 .given .1) (c .before .before .before .before .before .before .moved2 .ensures)) refl
-    (got-gone _ ((rw (c .before .before .before .before .reg4 .ensures) at (c .before .before .before .read-word2 .ensures)) .got) (word-none (c .before .enum-told4 .given .1)) (word-lost (c .unread2 .ensures) (c .before .enum-told4 .given .1))))))
+    did (went-store (c .unanswered2 .result)) (c .before .before .before .before .before .before .before .before .before .before .before .before .before .before .before .before .before .before .before .before .before .before .before .before .before .before .before .before .pre)
+    (got-then _ (held word _ _ _ refl (c .before .before .before .before .before .before .before .before .before .before .before .before .before .before .before .before .before .before .before .before .before .before .before .before .reg .ensures) (c .before .before .before .before .before .before .before .before .before .before .before .before .before .before .before .before .before .before .before .before .before .before .before .locate .ensures) (c .before .before .before .before .before .before .before .before .before .before .before .before .before .before .before .before .before .before .before .before .before .found .given .1) (c .before .before .before .before .before .before .before .before .before .before .before .before .before .before .before .before .before .before .before .moved .ensures) (c .before .before .before .before .before .before .before .before .before .before .before .before .before .before .before .before .before .reg2 .ensures) (c .before .before .before .before .before .before .before .before .before .before .before .before .before .before .before .before .read-word .ensures) (word-is (c .before .before .before .before .before .before .before .before .before .before .before .before .before .before .x .given .1))) refl
+    (got-gone _ (never-read word _ _ _ refl (c .before .before .before .before .before .before .before .before .before .before .before .reg3 .ensures) (c .before .before .before .before .before .before .before .before .before .before .locate2 .ensures) (c .before .before .before .before .before .before .before .before .found2 .given .1) (c .before .before .before .before .before .before .moved2 .ensures) (c .before .before .before .before .reg4 .ensures) (c .before .before .before .read-word2 .ensures) (word-none (c .before .enum-told4 .given .1))) refl (went-none (c .unanswered2 .ensures))))
 
 settle-requires : tie.Need-settle-requires
 settle-requires c κs = c .before .before .before .before .before .before .before .before .before .before .before .before .before .before .before .before .before .before .before .before .before .before .before .before .before .before .before .before .before .before .before .before .pre
@@ -57,14 +54,12 @@ same-length-5 : tie.Need-same-length-5
 same-length-5 c = c .before .before .settle .ensures .board .lent .size ∙ sym (c .before .before .before .before .before .before .before .before .before .before .before .before .before .before .before .before .before .before .before .before .before .before .before .before .before .before .before .before .before .before .before .before .before .before .before .pre .lent .size)
 
 returns-5 : tie.Need-returns-5
-unfolding onWords
+unfolding onOperands
 returns-5 c =
     record {
-      got = got-then _ (decoded word _ _ _ ((rw (c .before .before .before .before .before .before .before .before .before .before .before .before .before .before .before .before .before .before .before .before .before .before .before .before .before .before .before .before .before .before .before .reg .ensures) at (c .before .before .before .before .before .before .before .before .before .before .before .before .before .before .before .before .before .before .before .before .before .before .before .before .before .before .before .before .before .before .locate .ensures)) .got) (c .before .before .before .before .before .before .before .before .before .before .before .before .before .before .before .before .before .before .before .before .before .before .before .before .before .before .before .before .found .given .1) (c .before .before .before .before .before .before .before .before .before .before .before .before .before .before .before .before .before .before .before .before .before .before .before .before .before .before .moved .ensures)) refl
-          (got-then _ ((rw (c .before .before .before .before .before .before .before .before .before .before .before .before .before .before .before .before .before .before .before .before .before .before .before .before .reg2 .ensures) at (c .before .before .before .before .before .before .before .before .before .before .before .before .before .before .before .before .before .before .before .before .before .before .before .read-word .ensures)) .got) (word-is (c .before .before .before .before .before .before .before .before .before .before .before .before .before .before .before .before .before .before .before .before .before .word .given .1))
-          (got-then _ (decoded word _ _ _ ((rw (c .before .before .before .before .before .before .before .before .before .before .before .before .before .before .before .before .before .before .reg3 .ensures) at (c .before .before .before .before .before .before .before .before .before .before .before .before .before .before .before .before .before .locate2 .ensures)) .got) (c .before .before .before .before .before .before .before .before .before .before .before .before .before .before .before .found2 .given .1) (c .before .before .before .before .before .before .before .before .before .before .before .before .before .moved2 .ensures)) refl
-          (got-then _ ((rw (c .before .before .before .before .before .before .before .before .before .before .before .reg4 .ensures) at (c .before .before .before .before .before .before .before .before .before .before .read-word2 .ensures)) .got) (word-is (c .before .before .before .before .before .before .before .before .word2 .given .1))
-          ((rw (c .before .before .before .before .before .with-flags .ensures, c .before .before .before .before .before .before .binary .ensures) at (c .before .before .settle .ensures)) .got))));
+      got = got-then _ (held word _ _ _ refl (c .before .before .before .before .before .before .before .before .before .before .before .before .before .before .before .before .before .before .before .before .before .before .before .before .before .before .before .before .before .before .before .reg .ensures) (c .before .before .before .before .before .before .before .before .before .before .before .before .before .before .before .before .before .before .before .before .before .before .before .before .before .before .before .before .before .before .locate .ensures) (c .before .before .before .before .before .before .before .before .before .before .before .before .before .before .before .before .before .before .before .before .before .before .before .before .before .before .before .before .found .given .1) (c .before .before .before .before .before .before .before .before .before .before .before .before .before .before .before .before .before .before .before .before .before .before .before .before .before .before .moved .ensures) (c .before .before .before .before .before .before .before .before .before .before .before .before .before .before .before .before .before .before .before .before .before .before .before .before .reg2 .ensures) (c .before .before .before .before .before .before .before .before .before .before .before .before .before .before .before .before .before .before .before .before .before .before .before .read-word .ensures) (word-is (c .before .before .before .before .before .before .before .before .before .before .before .before .before .before .before .before .before .before .before .before .before .x .given .1))) refl
+          (got-then _ (held word _ _ _ refl (c .before .before .before .before .before .before .before .before .before .before .before .before .before .before .before .before .before .before .reg3 .ensures) (c .before .before .before .before .before .before .before .before .before .before .before .before .before .before .before .before .before .locate2 .ensures) (c .before .before .before .before .before .before .before .before .before .before .before .before .before .before .before .found2 .given .1) (c .before .before .before .before .before .before .before .before .before .before .before .before .before .moved2 .ensures) (c .before .before .before .before .before .before .before .before .before .before .before .reg4 .ensures) (c .before .before .before .before .before .before .before .before .before .before .read-word2 .ensures) (word-is (c .before .before .before .before .before .before .before .before .y .given .1))) refl
+          ((rw (c .before .before .before .before .before .with-flags .ensures, c .before .before .before .before .before .before .binary .ensures) at (c .before .before .settle .ensures)) .got));
       board = c .before .before .settle .ensures .board;
     }
 

@@ -1,7 +1,7 @@
 use mathlib.Core.Path.{refl, sym, _∙_}
-use Rattle.board.specs.Laws.{got-then, got-gone, got-give, did, kept-is, kept-none}
-use Rattle.state.specs.Answer.{went-store, kept-lost}
-use Rattle.operand.specs.Operand.{writeTo}
+use Rattle.board.specs.Work.{byte}
+use Rattle.board.specs.Laws.{did, kept-is, kept-none}
+use Rattle.operand.specs.Operand.{left-in-register, left-in-memory, not-left}
 use borrow.Author.Needs.{needs}
 use Rattle.operand.proofs.write_byte.Statement.{statement}
 use Rattle.operand.proofs.write_byte.Tie as tie
@@ -10,32 +10,25 @@ store-byte-requires : tie.Need-store-byte-requires
 store-byte-requires c κs = c .before .before .before .before .before .before .before .pre
 
 same-length : tie.Need-same-length
-same-length c = c .before .before .before .before .before .store-byte .ensures .board .lent .size ∙ sym (c .before .before .before .before .before .before .before .before .before .before .before .before .before .pre .lent .size)
+same-length c = c .before .before .before .before .store-byte .ensures .board .lent .size ∙ sym (c .before .before .before .before .before .before .before .before .before .before .before .before .pre .lent .size)
 
 returns : tie.Need-returns
-unfolding writeTo
 returns c =
-    rw (c .before .before .before .before .before .before .before .before .before .place .given .1)
-    (did (went-store (c .unwritten .result)) (c .before .before .before .before .before .before .before .before .before .before .before .before .before .pre)
-    (got-gone _ (c .before .before .before .before .before .store-byte .ensures .got) (kept-none (c .before .enum-told3 .given .1)) (kept-lost (c .unwritten .ensures) (c .before .enum-told3 .given .1))))
+    rw (c .before .before .before .before .before .before .before .before .place .given .1)
+    (did refl (c .before .before .before .before .before .before .before .before .before .before .before .before .pre) (not-left byte _ _ _ _ _ _ (c .before .before .before .before .store-byte .ensures .got) (kept-none (c .enum-told3 .given .1))))
 
 returns-2 : tie.Need-returns-2
-unfolding writeTo
 returns-2 c =
     rw (c .before .before .before .before .enum-told .given .1)
-    (did refl (c .before .before .before .before .before .before .before .before .pre)
-    (got-give (rw (c .with-reg .ensures, c .before .with-low .ensures, c .before .before .low .ensures, c .before .before .before .reg .ensures))))
+    (did refl (c .before .before .before .before .before .before .before .before .pre) (left-in-register byte _ _ _ (rw (c .with-reg .ensures, c .before .with-low .ensures, c .before .before .low .ensures, c .before .before .before .reg .ensures))))
 
 same-length-2 : tie.Need-same-length-2
 same-length-2 c = c .before .before .before .before .store-byte .ensures .board .lent .size ∙ sym (c .before .before .before .before .before .before .before .before .before .before .before .before .pre .lent .size)
 
 returns-3 : tie.Need-returns-3
-unfolding writeTo
 returns-3 c =
     rw (c .before .before .before .before .before .before .before .before .place .given .1)
-    (did refl (c .before .before .before .before .before .before .before .before .before .before .before .before .pre)
-    (got-then _ (c .before .before .before .before .store-byte .ensures .got) (kept-is (c .enum-told2 .given .1))
-    (got-give refl)))
+    (did refl (c .before .before .before .before .before .before .before .before .before .before .before .before .pre) (left-in-memory byte _ _ _ _ _ _ (c .before .before .before .before .store-byte .ensures .got) (kept-is (c .enum-told2 .given .1))))
 
 pub write-byte-spec : {M : Type 1} → statement M
 write-byte-spec =
@@ -50,7 +43,6 @@ write-byte-spec =
     store-byte-requires
     (λ c. search needs)
     (λ c. search needs)
-    (λ c κs. search needs)
     same-length
     returns
     returns-2

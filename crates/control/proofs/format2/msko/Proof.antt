@@ -1,6 +1,5 @@
 use mathlib.Core.Path.{refl, sym, _∙_}
-use Rattle.board.specs.Laws.{got-then, got-gone, got-give, did, kept-is, kept-none}
-use Rattle.state.specs.Answer.{went-store, kept-lost}
+use Rattle.board.specs.Laws.{got-then, got-gone, got-give, did, kept-is, kept-none, unwritten-at}
 use Rattle.control.specs.Format2.{msko}
 use borrow.Author.Needs.{needs}
 use Rattle.control.proofs.format2.msko.Statement.{statement}
@@ -10,13 +9,13 @@ store-requires : tie.Need-store-requires
 store-requires c κs = c .before .before .before .before .before .pre
 
 same-length : tie.Need-same-length
-same-length c = c .before .before .before .before .before .store .ensures .board .lent .size ∙ sym (c .before .before .before .before .before .before .before .before .before .before .before .pre .lent .size)
+same-length c = c .before .before .before .before .store .ensures .board .lent .size ∙ sym (c .before .before .before .before .before .before .before .before .before .before .pre .lent .size)
 
 returns : tie.Need-returns
 unfolding msko
 returns c =
-    did (went-store (c .unwritten .result)) (c .before .before .before .before .before .before .before .before .before .before .before .pre)
-    (got-gone _ ((rw (c .before .before .before .before .before .before .reg .ensures) at (c .before .before .before .before .before .store .ensures)) .got) (kept-none (c .before .enum-told2 .given .1)) (kept-lost (c .unwritten .ensures) (c .before .enum-told2 .given .1)))
+    let kept = (rw (c .before .before .before .before .before .reg .ensures) at (c .before .before .before .before .store .ensures)) .got in
+    did refl (c .before .before .before .before .before .before .before .before .before .before .pre) (got-gone _ kept (unwritten-at kept (kept-none (c .enum-told2 .given .1))) refl)
 
 same-length-2 : tie.Need-same-length-2
 same-length-2 c = c .before .before .before .before .store .ensures .board .lent .size ∙ sym (c .before .before .before .before .before .before .before .before .before .before .pre .lent .size)
@@ -26,7 +25,7 @@ unfolding msko
 returns-2 c =
     did refl (c .before .before .before .before .before .before .before .before .before .before .pre)
     (got-then _ ((rw (c .before .before .before .before .before .reg .ensures) at (c .before .before .before .before .store .ensures)) .got) (kept-is (c .enum-told .given .1))
-    (got-give cc))
+    (got-give refl))
 
 pub msko-spec : {M : Type 1} → statement M
 msko-spec =
@@ -36,7 +35,6 @@ msko-spec =
     store-requires
     (λ c. search needs)
     (λ c. search needs)
-    (λ c κs. search needs)
     same-length
     returns
     same-length-2

@@ -1,5 +1,5 @@
-use Rattle.board.specs.Laws.{got-then, got-gone, word-is, word-none}
-use Rattle.state.specs.Answer.{word-lost}
+use mathlib.Core.Path.{refl}
+use Rattle.board.specs.Laws.{got-then, got-gone, word-is, word-none, unread-at}
 use Rattle.control.specs.Format2.{prtn}
 use borrow.Author.Needs.{needs}
 use Rattle.control.proofs.format2.prtn.Statement.{statement}
@@ -11,7 +11,7 @@ load-requires c κs = c .before .before .pre
 returns : tie.Need-returns
 unfolding prtn
 returns c =
-    record { got = got-gone _ (c .before .before .before .load .ensures .got) (word-none (c .before .enum-told .given .1)) (word-lost (c .unread .ensures) (c .before .enum-told .given .1)) }
+    record { got = got-gone _ (c .before .before .load .ensures .got) (unread-at (c .before .before .load .ensures .got) (word-none (c .enum-told .given .1))) refl }
 
 rtn-requires : tie.Need-rtn-requires
 rtn-requires c κs = c .before .before .before .before .before .before .before .before .before .pre
@@ -20,7 +20,7 @@ returns-2 : tie.Need-returns-2
 unfolding prtn
 returns-2 c =
     record {
-      got = got-then _ (c .before .before .before .before .before .before .before .load .ensures .got) (word-is (c .before .before .before .before .before .word .given .1))
+      got = got-then _ (c .before .before .before .before .before .before .before .load .ensures .got) (word-is (c .before .before .before .before .before .tmp .given .1))
           ((rw (c .before .with-sp .ensures, c .before .before .plus2 .ensures, c .before .before .before .plus .ensures) at (c .rtn .ensures)) .got);
     }
 
@@ -31,7 +31,6 @@ prtn-spec =
     load-requires
     (λ c. search needs)
     (λ c. search needs)
-    (λ c κs. search needs)
     returns
     (λ c κs. search needs)
     (λ c κs. search needs)

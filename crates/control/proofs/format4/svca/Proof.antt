@@ -1,6 +1,6 @@
-use mathlib.Core.Path.{sym, _∙_}
-use Rattle.board.specs.Laws.{got-then, got-gone, did, word-is, word-none}
-use Rattle.state.specs.Answer.{went-is, went-none, went-store, word-lost}
+use mathlib.Core.Path.{refl, sym, _∙_}
+use Rattle.board.specs.Laws.{got-then, got-gone, did, word-is, word-none, unread-at}
+use Rattle.state.specs.Answer.{went-is, went-none, went-store}
 use Rattle.control.specs.Format4.{svca}
 use borrow.Author.Needs.{needs}
 use Rattle.control.proofs.format4.svca.Statement.{statement}
@@ -22,14 +22,14 @@ load-requires : tie.Need-load-requires
 load-requires c κs = c .before .before .before .before .before .before .push-both .ensures .board .lent
 
 same-length-2 : tie.Need-same-length-2
-same-length-2 c = c .before .before .before .before .before .before .before .before .before .before .push-both .ensures .board .lent .size ∙ sym (c .before .before .before .before .before .before .before .before .before .before .before .before .before .before .before .before .pre .lent .size)
+same-length-2 c = c .before .before .before .before .before .before .before .before .before .push-both .ensures .board .lent .size ∙ sym (c .before .before .before .before .before .before .before .before .before .before .before .before .before .before .before .pre .lent .size)
 
 returns-2 : tie.Need-returns-2
 unfolding svca
 returns-2 c =
-    did (went-store (c .unread .result)) (c .before .before .before .before .before .before .before .before .before .before .before .before .before .before .before .before .pre)
-    (got-then _ ((rw (c .before .before .before .before .before .before .before .before .before .before .before .ps .ensures) at (c .before .before .before .before .before .before .before .before .before .before .push-both .ensures)) .got) (went-is (c .before .before .before .before .before .before .went .given .1))
-    (got-gone _ (c .before .before .before .load .ensures .got) (word-none (c .before .enum-told2 .given .1)) (word-lost (c .unread .ensures) (c .before .enum-told2 .given .1))))
+    did refl (c .before .before .before .before .before .before .before .before .before .before .before .before .before .before .before .pre)
+    (got-then _ ((rw (c .before .before .before .before .before .before .before .before .before .before .ps .ensures) at (c .before .before .before .before .before .before .before .before .before .push-both .ensures)) .got) (went-is (c .before .before .before .before .before .went .given .1))
+    (got-gone _ (c .before .before .load .ensures .got) (unread-at (c .before .before .load .ensures .got) (word-none (c .enum-told2 .given .1))) refl))
 
 tabled-requires : tie.Need-tabled-requires
 tabled-requires c κs = c .before .before .before .before .before .before .before .before .before .before .before .before .before .push-both .ensures .board .lent
@@ -42,7 +42,7 @@ unfolding svca
 returns-3 c =
     record {
       got = got-then _ ((rw (c .before .before .before .before .before .before .before .before .before .before .before .before .before .before .before .ps .ensures) at (c .before .before .before .before .before .before .before .before .before .before .before .before .before .before .push-both .ensures)) .got) (went-is (c .before .before .before .before .before .before .before .before .before .before .went .given .1))
-          (got-then _ (c .before .before .before .before .before .before .before .load .ensures .got) (word-is (c .before .before .before .before .before .word .given .1))
+          (got-then _ (c .before .before .before .before .before .before .before .load .ensures .got) (word-is (c .before .before .before .before .before .table .given .1))
           ((rw (c .before .plus2 .ensures, c .before .before .plus .ensures) at (c .tabled .ensures)) .got));
       board = c .before .before .before .before .before .before .before .before .before .before .before .before .before .before .push-both .ensures .board;
     }
@@ -60,7 +60,6 @@ svca-spec =
     load-requires
     (λ c. search needs)
     (λ c. search needs)
-    (λ c κs. search needs)
     same-length-2
     returns-2
     (λ c κs. search needs)

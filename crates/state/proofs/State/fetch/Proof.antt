@@ -1,5 +1,5 @@
 use mathlib.Core.Path.{refl}
-use Rattle.board.specs.Laws.{got-then, got-gone, got-give, word-is, word-none}
+use Rattle.board.specs.Laws.{got-then, got-gone, got-give, word-is, word-none, unread-at}
 use Rattle.state.specs.Stack.{fetch}
 use borrow.Author.Needs.{needs}
 use Rattle.state.proofs.State.fetch.Statement.{statement}
@@ -11,15 +11,15 @@ load-requires c κs = c .before .before .pre
 returns : tie.Need-returns
 unfolding fetch
 returns c =
-    record {
-      got = got-then _ (c .before .before .before .before .before .load .ensures .got) (word-is (c .before .before .before .v .given .1))
-          (got-give (rw (c .with-pc .ensures, c .before .plus .ensures)));
-    }
+    record { got = got-gone _ (c .before .before .load .ensures .got) (unread-at (c .before .before .load .ensures .got) (word-none (c .enum-told .given .1))) refl }
 
 returns-2 : tie.Need-returns-2
 unfolding fetch
 returns-2 c =
-    record { got = got-gone _ (c .before .before .before .load .ensures .got) (word-none (c .before .a .given .1)) refl }
+    record {
+      got = got-then _ (c .before .before .before .before .before .load .ensures .got) (word-is (c .before .before .before .v .given .1))
+          (got-give (rw (c .with-pc .ensures, c .before .plus .ensures)));
+    }
 
 pub fetch-spec : {M : Type 1} → statement M
 fetch-spec =
@@ -27,8 +27,8 @@ fetch-spec =
     (tie.spec
     load-requires
     (λ c. search needs)
-    (λ c κs. search needs)
-    (λ c κs. search needs)
     (λ c. search needs)
     returns
+    (λ c κs. search needs)
+    (λ c κs. search needs)
     returns-2)
