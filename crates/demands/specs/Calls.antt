@@ -25,17 +25,17 @@ use Rattle.demands.specs.Terms.{Numbered}
 pub numbered : {why number : ℕ} {AsLent As : Type 0} (n : ℕ) → n ≡ number → (AsLent → As) → Numbered why number AsLent → Numbered why n As
 numbered n e f h = record { numberIs = e ∙ h .numberIs; unchanged = λ z. f (h .unchanged (λ k. z (e ∙ k))) }
 
--- power-up: `good` says that the state's bytes are 20
+-- power-up: `bad` says that the lent bytes are no state's or no settings'
 up-page : (b : List ℕ) (why : ℕ) (p : StatePage) (x : Up) → x ≡ upFrom b (unless why (answered p) (refused why)) → Numbered why (x .number) (x .state ≡ b)
 up-page b zero p x e = record { numberIs = ap (λ z. z .number) e; unchanged = λ n. absurd (n (ap (λ z. z .number) e)) }
 up-page b (suc why) p x e = record { numberIs = ap (λ z. z .number) e; unchanged = λ n. ap (λ z. z .state) e }
 
-pub up-numbered : (good : Bool) (b : List ℕ) (why : ℕ) (p : StatePage) (x : Up) → x ≡ cond good (upFrom b (unless why (answered p) (refused why))) (up noState b)
-    → Numbered (first (cond good 0 noState) why) (x .number) (x .state ≡ b)
-up-numbered true b why p x e = up-page b why p x e
-up-numbered false b why p x e = record { numberIs = ap (λ z. z .number) e; unchanged = λ n. ap (λ z. z .state) e }
+pub up-numbered : (bad : Bool) (b : List ℕ) (why : ℕ) (p : StatePage) (x : Up) → x ≡ cond bad (up noState b) (upFrom b (unless why (answered p) (refused why)))
+    → Numbered (first (cond bad noState 0) why) (x .number) (x .state ≡ b)
+up-numbered true b why p x e = record { numberIs = ap (λ z. z .number) e; unchanged = λ n. ap (λ z. z .state) e }
+up-numbered false b why p x e = up-page b why p x e
 
--- a step: `bad` says that the state's bytes are none
+-- a step
 module _ (b m : List ℕ) where
   abbrev sameWent : Went → Type 0
   sameWent x = (x .state ≡ b) × (x .image ≡ m)
@@ -52,7 +52,7 @@ module _ (b m : List ℕ) where
   went-numbered true why a x e = record { numberIs = ap (λ z. z .number) e; unchanged = λ n. (ap (λ z. z .state) e, ap (λ z. z .image) e) }
   went-numbered false why a x e = went-page why a x e
 
--- a run: and that the tally's are not 4
+-- a run
 module _ (b t m : List ℕ) where
   abbrev sameEnded : Ended → Type 0
   sameEnded x = (x .state ≡ b) × (x .tally ≡ t) × (x .image ≡ m)
@@ -66,12 +66,11 @@ module _ (b t m : List ℕ) where
   ended-bad : (why : ℕ) (x : Ended) → x ≡ ended noState b t m → Numbered noState (x .number) (sameEnded x)
   ended-bad why x e = record { numberIs = ap (λ z. z .number) e; unchanged = λ n. (ap (λ z. z .state) e, ap (λ z. z .tally) e, ap (λ z. z .image) e) }
 
-  pub ended-numbered : (bad good : Bool) (why : ℕ) (y : End) (x : Ended)
-      → x ≡ cond bad (ended noState b t m) (cond good (endedFrom b t (unless why (Entry.ended y) (left (refused why) m) .page) (unless why (Entry.ended y) (left (refused why) m) .image)) (ended noState b t m))
-      → Numbered (first (cond bad noState 0) (first (cond good 0 noState) why)) (x .number) (sameEnded x)
-  ended-numbered true good why y x e = ended-bad why x e
-  ended-numbered false true why y x e = ended-page why y x e
-  ended-numbered false false why y x e = ended-bad why x e
+  pub ended-numbered : (bad : Bool) (why : ℕ) (y : End) (x : Ended)
+      → x ≡ cond bad (ended noState b t m) (endedFrom b t (unless why (Entry.ended y) (left (refused why) m) .page) (unless why (Entry.ended y) (left (refused why) m) .image))
+      → Numbered (first (cond bad noState 0) why) (x .number) (sameEnded x)
+  ended-numbered true why y x e = ended-bad why x e
+  ended-numbered false why y x e = ended-page why y x e
 
 -- ---- demand 3
 
@@ -106,10 +105,9 @@ module _ (map m n : List ℕ) (g : Agree map m n) where
       at (answered u) = record { answer = refl; fittedAgree = h; unfittedStay = i; unfittedStayToo = j }
       at (refused why) = record { answer = refl; fittedAgree = h; unfittedStay = i; unfittedStayToo = j }
 
-  pub ended-blind : (bad good : Bool) (b t : List ℕ) (x y : Left RanPage) → SameLeft map x y → Untouched map m (x .image) → Untouched map n (y .image)
-      → (let v = cond bad (ended noState b t m) (cond good (endedFrom b t (x .page) (x .image)) (ended noState b t m)) in
-      let w = cond bad (ended noState b t n) (cond good (endedFrom b t (y .page) (y .image)) (ended noState b t n)) in
+  pub ended-blind : (bad : Bool) (b t : List ℕ) (x y : Left RanPage) → SameLeft map x y → Untouched map m (x .image) → Untouched map n (y .image)
+      → (let v = cond bad (ended noState b t m) (endedFrom b t (x .page) (x .image)) in
+      let w = cond bad (ended noState b t n) (endedFrom b t (y .page) (y .image)) in
       Blind {A = ℕ × List ℕ × List ℕ} map m n (v .number, v .state, v .tally) (w .number, w .state, w .tally) (v .image) (w .image))
-  ended-blind true good b t x y same i j = same-lent {A = ℕ × List ℕ × List ℕ} (noState, b, t)
-  ended-blind false true b t x y same i j = ended-same b t (x .page) (y .page) (x .image) (y .image) (same .page) (same .agree) i j
-  ended-blind false false b t x y same i j = same-lent {A = ℕ × List ℕ × List ℕ} (noState, b, t)
+  ended-blind true b t x y same i j = same-lent {A = ℕ × List ℕ × List ℕ} (noState, b, t)
+  ended-blind false b t x y same i j = ended-same b t (x .page) (y .page) (x .image) (y .image) (same .page) (same .agree) i j

@@ -17,6 +17,9 @@ use Rattle.board.specs.declared.Kept.{Kept}
 use Rattle.board.specs.declared.Kept.the-variants as Kept
 use Rattle.word.specs.Address.{plus, minus}
 use Rattle.state.specs.declared.State.{State}
+use Rattle.state.specs.declared.Went.{Went}
+use Rattle.state.specs.declared.Went.the-variants as Went
+use Rattle.state.specs.Answer.{wentAs, went-none}
 use Rattle.state.specs.State.{reg, withReg, withPc}
 use Rattle.format8.specs.declared.Row.{Row}
 
@@ -94,6 +97,14 @@ unmoved (Word.Blank a) = Kept.Blank a
 abbrev pub unmovedByte : Byte → Kept
 unmovedByte (Byte.Value v) = Kept.Done
 unmovedByte (Byte.Blank a) = Kept.Blank a
+
+-- an element that was not moved ends the work there
+abbrev pub unwritten : Kept → Went
+unwritten Kept.Done = Went.Blank 0
+unwritten (Kept.Blank a) = Went.Blank a
+
+pub kept-lost : {r : Went} {k : Kept} {a : ℕ} {st : Store} → r ≡ unwritten k → k ≡ Kept.Blank a → wentAs r st ≡ gone a st
+kept-lost e h = went-none (e ∙ ap unwritten h)
 
 pub kept-store : (r : Kept) {st : Store} → stateOf (keptAs r st) ≡ st
 kept-store Kept.Done = refl

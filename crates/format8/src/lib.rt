@@ -4,7 +4,6 @@ use board::Kept;
 use board::Word;
 use state::State;
 use state::Went;
-use state::unwritten;
 use word::address::minus;
 use word::address::plus;
 ghost use mathlib.Core.Path.{_≡_};
@@ -53,6 +52,16 @@ fn wide(b: u8) -> u16
 }
 
 // A read that was not answered ends the transfer there.
+// An element that was not moved ends the work there.
+fn unwritten(kept: Kept) -> Went
+    ensures { λ r. ⌜ r ≡ Spec.unwritten kept ⌝ }
+{
+    match kept {
+        Kept::Done => Went::Blank(0),
+        Kept::Blank(a) => Went::Blank(a),
+    }
+}
+
 fn unmoved(word: Word) -> Kept
     ensures { λ r. ⌜ r ≡ Spec.unmoved word ⌝ }
 {
