@@ -9,12 +9,13 @@ use Rattle.word.specs.Number.{digit}
 use Rattle.shift.specs.Shift.{turns}
 use Rattle.word.specs.Status.{flagsOf}
 use Rattle.plate.specs.Plate.{formatOf}
-use Rattle.board.specs.Work.{run, fitted, even, wordAt, withWord, withByte}
+use Rattle.board.specs.Work.{run, fitted, writable, even, wordAt, withWord, withByte}
 use Rattle.board.specs.Bind.{_>>=_}
 use Rattle.state.specs.declared.State.{State}
+use Rattle.state.specs.declared.Settings.{Settings}
 use Rattle.state.specs.declared.Mode.the-variants.{Running}
 use Rattle.state.specs.Registers.{regOf, setReg}
-use Rattle.state.specs.State.{reg, withReg, withPc, withSp, withFlags, withI2, withMode, withStatus, cleared, heard, psOf}
+use Rattle.state.specs.State.{reg, withReg, withPc, withSp, withFlags, withI2, withMode, withMark, withStatus, cleared, heard, psOf}
 use Rattle.state.specs.Stack.{push, pushReg, pop, popReg, popStatus, fetch, fromLoc, pushBoth, trap}
 use Rattle.operand.specs.Operand.{deferred, incrementDeferred, decrementDeferred, indexed, indexedDeferred, locate, moved, decode, readOf, writeTo}
 use Rattle.format6.specs.Format5.{branch}
@@ -29,7 +30,7 @@ use Rattle.optext.specs.Rows.{theRow, rows}
 use Rattle.optext.specs.Line.{registers, regA, regB, regText, upText, literalText, downText, offsetText, plainText, modeText, modeTakes, addressed, rowOf, sepText, lineText, taken, textOf}
 use Rattle.step.specs.Execute.{further, byFormat}
 use Rattle.step.specs.Xct.{begun, traced, carry, opWork}
-use Rattle.step.specs.Step.{After, kindOf, workOf, busError, errorOf, stepOf}
+use Rattle.step.specs.Step.{After, kindIn, workOf, busError, errorOf, stepOf}
 
 -- a row: what is got, and what the page says
 pub record Row : Type 0 where
@@ -51,9 +52,13 @@ image op at v = withWord (withWord (replicate 65536 0) 0x100 op) at v
 abbrev before : ℕ → ℕ → ℕ → ℕ → Bool → State
 before r0 r1 r2 f i = withI2 (withFlags (withSp (withPc (withReg (withReg (withReg cleared 0 r0) 1 r1) 2 r2) 0x100) 0x200) (flagsOf f)) i
 
+-- the third microm is fitted, as on bench's board
+abbrev settings : Settings
+settings = record { blocks = true }
+
 -- a step with quiet lines
 abbrev stepped : ℕ → State → ℕ → ℕ → After
-stepped op s at v = stepOf board (heard 0) s (image op at v)
+stepped op s at v = stepOf board (heard settings 0) s (image op at v)
 
 -- N 8, Z 4, V 2, C 1
 abbrev nzvc : State → ℕ
@@ -105,5 +110,5 @@ table =
 
 -- EVERY ROW HOLDS
 pub starred : map (λ (r : Row). r .got) table ≡ map (λ (r : Row). r .says) table
-unfolding table stepOf errorOf kindOf workOf busError opWork begun carry traced byFormat further formatOf run fitted even wordAt withWord withByte _>>=_ regOf setReg reg withReg withFlags withI2 withMode withStatus cleared psOf push pushReg pop popReg popStatus fetch fromLoc pushBoth trap deferred incrementDeferred decrementDeferred indexed indexedDeferred locate moved decode readOf writeTo branch withDone withPair immediate single double format6 operandOf wordOf byteOf stored modify noResult statusCode format7 ash sob div format9 settle moveByte settleByte onOperands format10 turns taken textOf lineText rowOf theRow rows sepText modeText modeTakes plainText regText literalText upText downText offsetText regA regB registers hex4 hex2 hexOf digits addressed
+unfolding table stepOf errorOf kindIn workOf busError opWork begun carry traced byFormat further formatOf run fitted writable even wordAt withWord withByte _>>=_ regOf setReg reg withReg withFlags withI2 withMode withMark withStatus cleared psOf push pushReg pop popReg popStatus fetch fromLoc pushBoth trap deferred incrementDeferred decrementDeferred indexed indexedDeferred locate moved decode readOf writeTo branch withDone withPair immediate single double format6 operandOf wordOf byteOf stored modify noResult statusCode format7 ash sob div format9 settle moveByte settleByte onOperands format10 turns taken textOf lineText rowOf theRow rows sepText modeText modeTakes plainText regText literalText upText downText offsetText regA regB registers hex4 hex2 hexOf digits addressed
 starred = refl

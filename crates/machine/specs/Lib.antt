@@ -7,3 +7,4 @@ pub mod Blind
 pub mod Trail
 pub mod Counted
 pub mod Answered
+pub mod Block

@@ -1,0 +1,68 @@
+-- THE END IS THE PAGE'S: the steps of a whole block move end where the manual's page says. Assumes nothing.
+use Prim.Native.Nat.{ℕ, _/_, _<_}
+use native.Mathlib.Omega.{arith}
+use mathlib.Core.Bool.{Bool, true}
+use mathlib.Core.List.{List, [], _∷_}
+use mathlib.Core.Path.{_≡_, refl, sym, ap, _∙_}
+use lib.ListN.{length}
+use Rattle.state.specs.declared.State.{State}
+use Rattle.state.specs.declared.Settings.{Settings}
+use Rattle.state.specs.State.{heard, reg}
+use Rattle.format8.specs.Format8.{rowOf, sourceOf, destinationOf}
+use Rattle.format8.specs.Page.{Plain, countOf, imageAfter, stateAfter}
+use Rattle.step.specs.declared.Cause.{Cause}
+use Rattle.step.specs.declared.Cause.the-variants as Cause
+use Rattle.step.specs.Step.{After, after, hears, stepOf}
+use Rattle.step.specs.Block.{afterOne, elementIn, Ready, Left, all-left, Unheard, step-once, step-last, ready-on, left-on, image-on, state-on, hearing-on, image-last}
+use Rattle.machine.specs.Run.{noBlanks}
+use Rattle.machine.specs.Trail.{trailOf, lastOf, blanksIn, moved, firstIn, tallyIn}
+
+-- line words in which nothing is heard
+pub data AllUnheard (settings : Settings) (hearing : Bool) : List ℕ → Type 0 where
+  none : AllUnheard settings hearing []
+  also : {line : ℕ} {lines : List ℕ} → Unheard hearing (heard settings line) → AllUnheard settings hearing lines → AllUnheard settings hearing (line ∷ lines)
+
+-- n elements as the manual's page has them: the state and the image after, with cause 0
+abbrev pub elementsOf : ℕ → ℕ → State → List ℕ → After
+elementsOf op n s m = after (stateAfter (rowOf op) (sourceOf op) (destinationOf op) n s) (imageAfter (rowOf op) (sourceOf op) (destinationOf op) n s m) Cause.OpCode
+
+-- THE WHOLE BLOCK MOVE: as many elements as R0 says, 65,536 where it is 0
+abbrev pub blockMove : ℕ → State → List ℕ → After
+blockMove op s m = elementsOf op (countOf (reg s 0)) s m
+
+-- a trail that ends here, with no blank on it
+pub record EndsAt (b : After) (rs : List After) (e : After) : Type 0 where
+  pub last : lastOf b rs ≡ e
+  pub tally : tallyIn rs ≡ noBlanks
+
+-- a step with cause 0, and what follows it
+step-ends : (settings : Settings) (map : List ℕ) (line : ℕ) (lines : List ℕ) (s : State) (m : List ℕ) (c : Cause) {u : State} {n : List ℕ} {e : After}
+    → stepOf map (heard settings line) s m ≡ after u n Cause.OpCode → EndsAt (after u n Cause.OpCode) (trailOf settings map lines u n) e
+    → EndsAt (after s m c) (trailOf settings map (line ∷ lines) s m) e
+unfolding trailOf blanksIn firstIn
+step-ends settings map line lines s m c h k =
+    rw h
+    (record {
+      last = k .last;
+      tally = rw (ap (λ t. t .blanks) (k .tally), ap (λ t. t .first) (k .tally)) refl;
+    })
+
+module _ (settings : Settings) (fit : settings .blocks ≡ true) (map : List ℕ) (op : ℕ) (eight : op / 512 ≡ 7) (p : Plain (sourceOf op) (destinationOf op)) where
+  elements : (lines : List ℕ) (s : State) (m : List ℕ) (c : Cause)
+      → Left (length lines) s → Ready map op (length lines) s m → AllUnheard settings (hears s) lines
+      → EndsAt (after s m c) (trailOf settings map lines s m) (elementsOf op (length lines) s m)
+  unfolding trailOf blanksIn firstIn
+  elements [] s m c l a none = absurd (omega (arith, l .some))
+  elements (line ∷ []) s m c l a (also q none) =
+      step-ends settings map line [] s m c (step-last p eight (heard settings line) fit q l a)
+      (record { last = ap (λ x. after (stateAfter (rowOf op) (sourceOf op) (destinationOf op) 1 s) x Cause.OpCode) (sym (image-last op p s m)); tally = refl })
+  elements (line ∷ two ∷ lines) s m c l a (also q qs) =
+      step-ends settings map line (two ∷ lines) s m c (step-once p eight (heard settings line) fit q l a)
+      (rw (← state-on op p s (length lines), ← image-on op p s (length lines) m)
+      (elements (two ∷ lines) (afterOne op s) (elementIn op s m) Cause.OpCode (left-on op p s (length lines) l) (ready-on p a) (rw (hearing-on op p s) qs)))
+
+  -- a line word for each element, in which nothing is heard
+  pub block-move : (lines : List ℕ) (s : State) (m : List ℕ) (c : Cause)
+      → reg s 0 < 65536 → Ready map op (countOf (reg s 0)) s m → length lines ≡ countOf (reg s 0) → AllUnheard settings (hears s) lines
+      → EndsAt (after s m c) (trailOf settings map lines s m) (blockMove op s m)
+  block-move lines s m c w a e q = rw (← e) (elements lines s m c (rw (← e) at (all-left s w)) (rw (← e) at a) q)
