@@ -3,9 +3,9 @@
 
 Lines of the text, all numbers hex but a count after x or cut:
     pages 00 04 10-1F     fitted pages; a range stands for each page of it
+    read-only 10-1F       those of them that can't be written; without such a line the job has no fourth section
     0080 = 09BF B7C0      words at 0080, 0082, ..
     lines 0000 x12 0008   line words; x12 repeats the one before, so that there are 12
-    read-only 10-1F       read-only pages, each of them in pages too; without such a line there is no fourth section
     bytes 00 FF           bytes after the last section, for a job that is to be refused
     cut 3                 leaves out the last 3 bytes, for the same
 A # starts a comment. Sections are written in the order of the format, entries in the order of the text.
@@ -100,7 +100,8 @@ class Job:
     """What the lines of a text come to."""
 
     def __init__(self):
-        self.pages, self.entries, self.lines, self.read_only, self.rest, self.cuts = [], [], [], None, b"", []
+        self.pages, self.entries, self.lines, self.rest, self.cuts = [], [], [], b"", []
+        self.read_only = None
 
     def take(self, at, words):
         """Adds what one line says."""
