@@ -253,7 +253,19 @@ fn joined<T>(items: &[T], by: &str, text: impl Fn(&T) -> String) -> String {
     items.iter().map(text).collect::<Vec<_>>().join(by)
 }
 
-fn state_text(state: &State) -> String {
+/// Settings as a case has them.
+pub fn setup_text(settings: &Settings) -> String {
+    let Settings {
+        microm,
+        power_up,
+        halt,
+        address,
+    } = settings;
+    format!("{},{power_up:X},{halt:X},{address:02X}", u8::from(*microm))
+}
+
+/// A state as cases and answers have it.
+pub fn state_text(state: &State) -> String {
     let registers = joined(&state.r, ",", |register| format!("{register:04X}"));
     let (nzvc, i2, mark) = (state.flags.bits(), u8::from(state.i2), u8::from(state.mark));
     format!("{registers},{nzvc:X},{i2},{},{mark}", state.mode as u8)

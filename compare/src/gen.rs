@@ -54,7 +54,7 @@ pub struct RandomBoard {
     pub map: [u8; PAGES],
 }
 
-fn random_map(random: &mut Random, level: Level) -> [u8; PAGES] {
+pub fn random_map(random: &mut Random, level: Level) -> [u8; PAGES] {
     let fitted = random.pick(&[100, 97, 90, 75, 50, 10]);
     let mut map = [0; PAGES];
     for page in &mut map {
@@ -150,7 +150,7 @@ fn put(image: &mut [u8], at: u16, word: u16) {
 }
 
 /// The fixed locations, from 12 to 2E.
-fn vectors(random: &mut Random, map: &[u8; PAGES]) -> Vec<(u16, u16)> {
+pub fn vectors(random: &mut Random, map: &[u8; PAGES]) -> Vec<(u16, u16)> {
     (0x12..0x30)
         .step_by(2)
         .map(|at| (at, address(random, map)))

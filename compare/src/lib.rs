@@ -15,6 +15,7 @@ mod columns;
 pub mod coverage;
 mod execute;
 pub mod gen;
+pub mod gencases;
 pub mod job;
 pub mod level;
 pub mod listing;

@@ -38,7 +38,7 @@ fn entries_of(trace: &[u8]) -> Result<Vec<[u16; FIELDS]>, Refusal> {
 }
 
 /// The fields after each step of a job on bench's board.
-fn steps_of(level: Level, job: &[u8]) -> Result<Vec<[u16; FIELDS]>, Refusal> {
+pub fn steps_of(level: Level, job: &[u8]) -> Result<Vec<[u16; FIELDS]>, Refusal> {
     let setup = Setup::bench(level);
     let mut job = load(level, job)?;
     let mut state = power_up(&setup, &mut job.image, &job.map)?;

@@ -4,24 +4,34 @@
 //! difftest self SEED CASES            the interpreter with itself; prints what was reached
 //! difftest served COMMAND SEED CASES  with the static library, through a program that serves its calls
 //! difftest bench COMMAND SEED JOBS    with a bench program, by jobs on its standard input
+//! difftest text COMMAND SEED CASES    case lines of texts, through a program that serves calls;
+//! difftest asm | trace | scans ..     the same for assemblies, traces and scans
+//! difftest list COMMAND SEED CASES    the same for listings, through a listing program
 //! ```
+//!
+//! There COMMAND is `self` for the interpreter with itself.
 //!
 //! After each step state, cause and the whole image must be the same. The first
 //! difference is printed, and the answer is then 1. A last argument is the level; without
 //! one it is the landed one.
 
+use std::collections::BTreeMap;
 use std::process::ExitCode;
 
 use wd16::abi::{self, Buffers, Call, Interface};
 use wd16::bench::bench;
 use wd16::board::{IMAGE, PAGES, READ_ONLY, WRITABLE};
 use wd16::calls::Plain;
+use wd16::cases::{self, Answers};
 use wd16::coverage::{cut_kinds, Ahead, Coverage, RunKind};
 use wd16::gen::{self, Random};
+use wd16::gencases::{shown, Kind};
 use wd16::machine::MOST_LINES;
+use wd16::recorder::{Tallies, CHANNELS};
 use wd16::served::{printed, Served};
 use wd16::text::text_of;
-use wd16::{step, Level, Mode, Ran, Settings, Setup, State, Stepped, Wish, PC};
+use wd16::through::Through;
+use wd16::{step, Level, Mode, Ran, Refusal, Settings, Setup, State, Stepped, Wish, PC};
 
 /// What differs, told to a person.
 type Difference = String;
@@ -499,10 +509,66 @@ fn compare_served(level: Level, command: &str, seed: u64, cases: usize) -> ExitC
     }
 }
 
+// ---- case lines ----
+
+/// The interpreter behind the interface, or a program that serves it.
+fn other_answers(kind: Kind, command: &str, level: Level) -> std::io::Result<Box<dyn Answers>> {
+    if command == "self" {
+        return Ok(Box::new(cases::Plain));
+    }
+    let (serve, list) = match kind {
+        Kind::List => ("cat", command),
+        _ => (command, ""),
+    };
+    Ok(Box::new(Through {
+        interface: Served::start(serve, level)?,
+        level,
+        bench: String::new(),
+        list: list.to_string(),
+    }))
+}
+
+/// Holds the answers to random case lines against each other.
+fn compare_lines(
+    kind: Kind,
+    other: &mut dyn Answers,
+    seed: u64,
+    cases: usize,
+    level: Level,
+) -> ExitCode {
+    println!("seed {seed}, {cases} cases");
+    let mut random = Random::new(seed);
+    let mut reached: BTreeMap<String, u64> = BTreeMap::new();
+    for _ in 0..cases {
+        let (case, meant) = kind.case(&mut random, level);
+        let ours = cases::answer(&mut cases::Plain, &case);
+        let theirs = cases::answer(other, &case);
+        if ours != theirs || ours == "BAD" {
+            println!("{case}\n  ours   {ours}\n  theirs {theirs}");
+            return ExitCode::FAILURE;
+        }
+        for what in shown(level, &case, &ours, &meant) {
+            *reached.entry(what).or_default() += 1;
+        }
+    }
+    if kind == Kind::Scans {
+        let refused = other.report(&Tallies::new(), CHANNELS as u8);
+        assert_eq!(
+            refused,
+            Some(Err(Refusal(34).into())),
+            "a report on channel 16"
+        );
+    }
+    println!("{reached:?}");
+    println!("0 differences");
+    let wanted = kind.wanted().iter().map(|what| what.to_string());
+    let missing: Vec<String> = wanted.filter(|what| !reached.contains_key(what)).collect();
+    all_reached(&missing)
+}
+
 fn usage() -> ExitCode {
-    println!(
-        "difftest self SEED CASES | served COMMAND SEED CASES | bench COMMAND SEED JOBS [LEVEL]"
-    );
+    println!("difftest self SEED CASES [LEVEL]");
+    println!("difftest served|bench|text|asm|trace|scans|list COMMAND SEED CASES [LEVEL]");
     ExitCode::FAILURE
 }
 
@@ -511,7 +577,7 @@ fn main() -> ExitCode {
     let words: Vec<&str> = arguments.iter().map(String::as_str).collect();
     let (what, command, numbers) = match words[..] {
         ["self", ref numbers @ ..] => ("self", "", numbers),
-        [what @ ("served" | "bench"), command, ref numbers @ ..] => (what, command, numbers),
+        [what, command, ref numbers @ ..] => (what, command, numbers),
         _ => return usage(),
     };
     let numbers: Option<Vec<u64>> = numbers.iter().map(|n| n.parse().ok()).collect();
@@ -523,6 +589,13 @@ fn main() -> ExitCode {
     match what {
         "self" => compare(level, &mut Plain(level), seed, count),
         "served" => compare_served(level, command, seed, count),
-        _ => compare_jobs(level, command, seed, count),
+        "bench" => compare_jobs(level, command, seed, count),
+        name => {
+            let Some(kind) = Kind::named(name) else {
+                return usage();
+            };
+            let mut other = other_answers(kind, command, level).expect("a program");
+            compare_lines(kind, &mut *other, seed, count, level)
+        }
     }
 }

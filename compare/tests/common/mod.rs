@@ -2,7 +2,7 @@
 #![allow(dead_code)]
 
 use wd16::board::{IMAGE, PAGES};
-use wd16::{step, Cause, Flags, Level, Mode, Setup, State, PC, SP};
+use wd16::{step, Cause, Flags, Level, Mode, Settings, Setup, State, Stepped, PC, SP};
 
 /// Bench's board by document 01 alone.
 pub const BASE: Setup = Setup::bench(Level::BASE);
@@ -57,6 +57,35 @@ impl Rig {
         self
     }
 
+    /// All wishes, with these jumpers and address register.
+    pub fn jumpers(mut self, power_up: u8, halt: u8, address: u8) -> Rig {
+        self.setup = Setup {
+            level: Level::ALL,
+            settings: Settings {
+                microm: true,
+                power_up,
+                halt,
+                address,
+            },
+        };
+        self
+    }
+
+    /// All wishes, on bench's board.
+    pub fn all(self) -> Rig {
+        self.jumpers(3, 3, 0)
+    }
+
+    pub fn mark(mut self) -> Rig {
+        self.s.mark = true;
+        self
+    }
+
+    pub fn page(mut self, page: usize, value: u8) -> Rig {
+        self.map[page] = value;
+        self
+    }
+
     pub fn i2(mut self) -> Rig {
         self.s.i2 = true;
         self
@@ -74,9 +103,22 @@ impl Rig {
 
     /// One step on a line word that must have this cause.
     pub fn step(mut self, line: u16, cause: Cause) -> Rig {
-        let stepped = step(&self.setup, self.s, &mut self.image, &self.map, line);
-        let stepped = stepped.expect("a good call");
+        let stepped = self.stepped(line);
         assert_eq!(stepped.cause, cause);
+        self.s = stepped.state;
+        self
+    }
+
+    /// What a step comes to; the image changes.
+    pub fn stepped(&mut self, line: u16) -> Stepped {
+        let stepped = step(&self.setup, self.s, &mut self.image, &self.map, line);
+        stepped.expect("a good call")
+    }
+
+    /// One step that must have this cause and tell this address.
+    pub fn blank(mut self, line: u16, cause: Cause, told: Option<u16>) -> Rig {
+        let stepped = self.stepped(line);
+        assert_eq!((stepped.cause, stepped.blank), (cause, told));
         self.s = stepped.state;
         self
     }

@@ -1,0 +1,491 @@
+//! Random case lines of texts, listings, assemblies, traces and scans, and what their answers
+//! must reach.
+
+use crate::assembler::{LEAST_SECTION, LINE};
+use crate::board::PAGES;
+use crate::cases::{setup_text, state_text};
+use crate::gen::{self, Random};
+use crate::level::Level;
+use crate::recorder::CHANNELS;
+use crate::state::{Mode, PC};
+use crate::table::{rows, Operands};
+use crate::text::text_of;
+use crate::trace::{steps_of, FIELDS};
+
+/// The kinds of case lines that are made here.
+#[derive(Clone, Copy, PartialEq, Eq, Debug)]
+pub enum Kind {
+    Text,
+    List,
+    Patch,
+    Trace,
+    Scans,
+}
+
+impl Kind {
+    pub fn named(name: &str) -> Option<Kind> {
+        match name {
+            "text" => Some(Kind::Text),
+            "list" => Some(Kind::List),
+            "asm" => Some(Kind::Patch),
+            "trace" => Some(Kind::Trace),
+            "scans" => Some(Kind::Scans),
+            _ => None,
+        }
+    }
+
+    /// A case, and what it is meant to show where it is not refused.
+    pub fn case(self, random: &mut Random, level: Level) -> (String, Vec<&'static str>) {
+        match self {
+            Kind::Text => (text_case(random, level), vec![]),
+            Kind::List => (list_case(random, level), vec![]),
+            Kind::Patch => patch_case(random, level),
+            Kind::Trace => (trace_case(random, level), vec![]),
+            Kind::Scans => (scans_case(random, level), vec![]),
+        }
+    }
+
+    /// What must be shown, as `shown` tells it.
+    pub fn wanted(self) -> &'static [&'static str] {
+        match self {
+            Kind::Text => &[
+                "write OK",
+                "write REFUSED 6",
+                "write REFUSED 7",
+                "write REFUSED 8",
+                "cwrite OK",
+                "cwrite REFUSED 38",
+                "cwrite REFUSED 6",
+                "cwrite REFUSED 7",
+                "cwrite REFUSED 8",
+                "read OK",
+                "read REFUSED 10",
+                "read REFUSED 9",
+                "read REFUSED 30",
+                "read REFUSED 31",
+                "read REFUSED 32",
+                "cread OK",
+                "cread REFUSED 38",
+                "cread REFUSED 10",
+                "cread REFUSED 9",
+                "cread REFUSED 30",
+                "cread REFUSED 31",
+                "cread REFUSED 32",
+            ],
+            Kind::List => &[
+                "list OK",
+                "list ----",
+                "list cut",
+                "list FFFE",
+                "list REFUSED 11",
+                "list REFUSED 12",
+                "list REFUSED 13",
+                "list REFUSED 14",
+                "list REFUSED 15",
+                "list REFUSED 16",
+                "list REFUSED 17",
+                "list REFUSED 18",
+                "list REFUSED 19",
+                "list REFUSED 20",
+                "list REFUSED 22",
+                "list REFUSED 23",
+            ],
+            Kind::Patch => &[
+                "asm OK",
+                "asm REFUSED 10",
+                "asm REFUSED 36",
+                "asm REFUSED 24",
+                "asm REFUSED 25",
+                "asm REFUSED 26",
+                "asm REFUSED 27",
+                "asm REFUSED 28",
+                "asm branch",
+                "asm SOB",
+                "asm relative",
+                "asm deferred",
+                "asm alias",
+                "asm .ORG",
+                "asm .WORD",
+            ],
+            Kind::Trace => &[
+                "trace ACCEPTED",
+                "trace WRONG field",
+                "trace WRONG length",
+                "trace REFUSED 29",
+                "trace REFUSED 11",
+            ],
+            Kind::Scans => &[
+                "scans OK",
+                "scans REFUSED 3",
+                "scans REFUSED 4",
+                "scans REFUSED 5",
+                "scans REFUSED 33",
+                "scans REFUSED 35",
+                "scans REFUSED 37",
+                "scans blank in FE",
+            ],
+        }
+    }
+}
+
+/// What a case's answer shows.
+pub fn shown(level: Level, case: &str, answer: &str, meant: &[&'static str]) -> Vec<String> {
+    let kind = case.split(' ').next().unwrap_or_default();
+    let mut shown = Vec::new();
+    for part in answer.split(" ; ") {
+        let words: Vec<&str> = part.split(' ').collect();
+        shown.push(match words[..] {
+            ["REFUSED", number, ..] => format!("{kind} REFUSED {number}"),
+            ["WRONG", _, "-"] => format!("{kind} WRONG length"),
+            ["WRONG", ..] => format!("{kind} WRONG field"),
+            ["ACCEPTED"] => format!("{kind} ACCEPTED"),
+            _ => format!("{kind} OK"),
+        });
+        if kind == "scans" && words.len() == 6 && words[4].starts_with("FE") {
+            shown.push("scans blank in FE".to_string());
+        }
+    }
+    if kind == "list" && !answer.starts_with("REFUSED") {
+        shown.extend(answer.split('|').filter_map(|line| listed(level, line)));
+    }
+    if !answer.starts_with("REFUSED") {
+        shown.extend(meant.iter().map(|what| format!("{kind} {what}")));
+    }
+    shown
+}
+
+/// What a line of a listing shows.
+fn listed(level: Level, line: &str) -> Option<String> {
+    let (address, rest) = line.split_once(' ')?;
+    if rest == "----" {
+        return Some("list ----".to_string());
+    }
+    let word = u16::from_str_radix(rest.get(..4)?, 16).ok()?;
+    let whole = text_of(level, &[word, 0, 0]).ok()?.0;
+    match rest.contains(".WORD") && !whole.starts_with(".WORD") {
+        true => Some("list cut".to_string()),
+        false => (address == "FFFE").then(|| "list FFFE".to_string()),
+    }
+}
+
+fn hex(bytes: &[u8]) -> String {
+    if bytes.is_empty() {
+        return "-".to_string();
+    }
+    bytes.iter().map(|byte| format!("{byte:02X}")).collect()
+}
+
+fn joined(words: &[u16]) -> String {
+    if words.is_empty() {
+        return "-".to_string();
+    }
+    let words: Vec<String> = words.iter().map(|word| format!("{word:04X}")).collect();
+    words.join(",")
+}
+
+// ---- texts ----
+
+/// One to three words that begin with an op code.
+fn op_words(random: &mut Random) -> Vec<u16> {
+    vec![gen::op_code(random), random.word(), random.word()]
+}
+
+fn op_text(random: &mut Random, level: Level) -> String {
+    let words = op_words(random);
+    text_of(level, &words).expect("words enough").0
+}
+
+const CHARACTERS: &[u8] = b" ,.:@#()+-0139AFRSPCWXx\t\0?\xFF";
+
+/// A text as it is, or with one thing wrong.
+fn mutated(random: &mut Random, text: &str) -> Vec<u8> {
+    let mut bytes = text.as_bytes().to_vec();
+    let at = random.below(bytes.len() + 1);
+    let character = random.pick(CHARACTERS);
+    match random.below(7) {
+        0 | 1 => {}
+        2 => bytes.truncate(at),
+        3 => bytes.insert(at, character),
+        4 if at < bytes.len() => bytes[at] = character,
+        5 if at < bytes.len() => {
+            bytes.remove(at);
+        }
+        _ => bytes.push(character),
+    }
+    bytes
+}
+
+fn text_case(random: &mut Random, level: Level) -> String {
+    let mut words = op_words(random);
+    words.truncate(random.pick(&[3, 3, 3, 2, 1, 0]));
+    let text = op_text(random, level);
+    let text = mutated(random, &text);
+    let length = random.pick(&[0x20, 0x20, 0x21, 0x40, 0x1F, 0]);
+    let room = random.pick(&[3, 3, 3, 5, 2, 0]);
+    let level = level.0;
+    match random.below(4) {
+        0 => format!("write {level} {length:X} {}", joined(&words)),
+        1 => {
+            let mut bytes: Vec<u8> = words.iter().flat_map(|word| word.to_le_bytes()).collect();
+            if random.percent(20) {
+                bytes.pop();
+            }
+            format!("cwrite {level} {length:X} {}", hex(&bytes))
+        }
+        2 => format!("read {level} {room:X} {}", hex(&text)),
+        _ => {
+            let odd = usize::from(random.percent(20));
+            format!("cread {level} {:X} {}", 2 * room + odd, hex(&text))
+        }
+    }
+}
+
+// ---- listings ----
+
+fn list_case(random: &mut Random, level: Level) -> String {
+    let refusals = gen::job_refusals(level);
+    let job = if random.percent(25) {
+        let number = random.pick(&refusals);
+        gen::damaged_job(random, number, level)
+    } else {
+        gen::good_job(random, level)
+    };
+    // A page that the job has, as far as it is one.
+    let pages = job.len().min(PAGES).saturating_sub(2).max(1);
+    let page = job.get(2 + random.below(pages)).copied().unwrap_or(0xFF);
+    let page = random.pick(&[page, page, 0xFF]);
+    let mut first = u16::from(page) << 8 | random.word() & 0xFE;
+    let stretch = random.below(40) as u16;
+    let stretch = 2 * random.pick(&[0, 1, stretch, stretch]);
+    let mut last = first.saturating_add(stretch).min(0xFFFE);
+    match random.below(12) {
+        0 => first |= 1,
+        1 => last |= 1,
+        2 => last = first.saturating_sub(2),
+        _ => {}
+    }
+    let mut input = [first.to_le_bytes(), last.to_le_bytes()].concat();
+    input.extend(job);
+    if random.percent(2) {
+        input.truncate(random.below(4));
+    }
+    format!("list {} {}", level.0, hex(&input))
+}
+
+// ---- assemblies ----
+
+const LABELS: [&str; 6] = ["TAG", "LOOP", "NOP", "X", "STABLE", "RET"];
+
+/// An operand with a mode, with a label now and then.
+fn operand(random: &mut Random, level: Level, meant: &mut Vec<&'static str>) -> String {
+    let label = random.pick(&LABELS);
+    match random.below(4) {
+        0 => {
+            meant.push("relative");
+            label.to_string()
+        }
+        1 => {
+            meant.push("deferred");
+            format!("@{label}")
+        }
+        _ => {
+            let tst = [0x0A80 | random.word() & 0x3F, random.word()];
+            text_of(level, &tst).expect("words enough").0[4..].to_string()
+        }
+    }
+}
+
+/// A line's text after its label.
+fn body(random: &mut Random, level: Level, meant: &mut Vec<&'static str>) -> String {
+    let with_operands = |row: &&crate::table::Row| row.operands == Operands::SourceDestination;
+    let doubles: Vec<&str> = rows(level)
+        .iter()
+        .filter(with_operands)
+        .map(|row| row.name)
+        .collect();
+    match random.below(12) {
+        0 => String::new(),
+        1 => {
+            meant.push(".WORD");
+            format!(".WORD {:04X}", random.word())
+        }
+        2 => {
+            meant.push("branch");
+            format!(
+                "{} {}",
+                random.pick(&["BR", "BNE", "BCC", "BHIS", "BLO"]),
+                random.pick(&LABELS)
+            )
+        }
+        3 => {
+            meant.push("SOB");
+            format!("SOB R{},{}", random.below(6), random.pick(&LABELS))
+        }
+        4 => {
+            meant.push("alias");
+            let alias = random.pick(&["CALL", "JMP"]);
+            format!("{alias} {}", operand(random, level, meant))
+        }
+        5 => format!(
+            "{} {}",
+            random.pick(&["TST", "INC", "CLRB"]),
+            operand(random, level, meant)
+        ),
+        6..=8 => {
+            let source = operand(random, level, meant);
+            let destination = operand(random, level, meant);
+            format!("{} {source},{destination}", random.pick(&doubles))
+        }
+        _ => op_text(random, level),
+    }
+}
+
+fn patch_case(random: &mut Random, level: Level) -> (String, Vec<&'static str>) {
+    let mut meant = Vec::new();
+    let number = LABELS.len() + random.below(20);
+    let mut lines: Vec<String> = (0..number)
+        .map(|_| body(random, level, &mut meant))
+        .collect();
+    for (place, label) in LABELS.iter().enumerate() {
+        lines[place] = format!("{label}: {}", lines[place]);
+    }
+    for place in 1..lines.len() {
+        lines.swap(place, random.below(place + 1));
+    }
+    let origin = 2 * random.below(0x7F00);
+    if random.percent(50) {
+        meant.push(".ORG");
+        lines.insert(0, format!(".ORG {origin:04X}"));
+    }
+    let mut room = LEAST_SECTION;
+    let at = random.below(lines.len());
+    match random.below(16) {
+        0 => room -= 1,
+        1 => lines[at] = String::from_utf8_lossy(&mutated(random, &lines[at])).into_owned(),
+        2 => lines.push(format!("{}: NOP", random.pick(&LABELS))),
+        3 => lines.push("TST NONE".to_string()),
+        4 => lines.insert(at, format!(".ORG {:04X}", random.word())),
+        5 => lines.insert(at, format!(".ORG {:04X}", origin & 0xFFFE)),
+        6 => lines.push(format!(".ORG {:04X}", random.word() | 1)),
+        7 => lines.insert(0, ".ORG FFF0".to_string()),
+        8 if random.percent(20) => lines.resize(random.pick(&[1_024, 1_025]), String::new()),
+        _ => {}
+    }
+    let mut bytes = Vec::new();
+    for line in &lines {
+        let mut padded = line.as_bytes().to_vec();
+        padded.resize(LINE, b' ');
+        bytes.extend(padded);
+    }
+    if random.percent(3) {
+        bytes.pop();
+    }
+    (format!("asm {} {room:X} {}", level.0, hex(&bytes)), meant)
+}
+
+// ---- traces ----
+
+fn trace_case(random: &mut Random, level: Level) -> String {
+    let job = if random.percent(10) {
+        gen::damaged_job(random, 11, level)
+    } else {
+        gen::good_job(random, level)
+    };
+    let mut entries = steps_of(level, &job).unwrap_or_default();
+    match random.below(5) {
+        0 if !entries.is_empty() => {
+            let step = random.below(entries.len());
+            entries[step][random.below(FIELDS)] ^= 1 << random.below(16);
+        }
+        1 => entries.truncate(random.below(entries.len() + 1)),
+        2 => entries.push([random.word(); FIELDS]),
+        _ => {}
+    }
+    let words = entries
+        .iter()
+        .flatten()
+        .flat_map(|field| field.to_le_bytes());
+    let mut trace = (entries.len() as u16).to_le_bytes().to_vec();
+    trace.extend(words);
+    match random.below(10) {
+        0 => trace.truncate(random.below(trace.len())),
+        1 => trace.push(0),
+        _ => {}
+    }
+    format!("trace {} {} {}", level.0, hex(&job), hex(&trace))
+}
+
+// ---- scans ----
+
+/// Sixteen readings, all present about half of the time, and line words.
+fn scan(random: &mut Random) -> String {
+    let missing = random.pick(&[0, 0, 0, 10, 100]);
+    let wrong = random.percent(10);
+    let mut reading = |place: usize| {
+        if random.percent(missing) {
+            return "x".to_string();
+        }
+        let spread = random.below(1_001) as i32 - 500;
+        let limits = [-500, 500, 0, spread, spread];
+        let count = if wrong && place == 7 {
+            random.pick(&[-501, 501, 32_767, -32_768])
+        } else {
+            random.pick(&limits)
+        };
+        count.to_string()
+    };
+    let readings: Vec<String> = (0..CHANNELS).map(&mut reading).collect();
+    let mut lines: Vec<u16> = (0..random.below(6)).map(|_| gen::line(random)).collect();
+    match random.below(40) {
+        0 => lines.push(4),
+        1 => lines.resize(4_097, 0),
+        _ => {}
+    }
+    format!("{}/{}", readings.join(","), joined(&lines))
+}
+
+fn scans_case(random: &mut Random, level: Level) -> String {
+    let mut map = gen::random_map(random, level);
+    let mut state = gen::state(random, &map, level);
+    if random.percent(70) {
+        state.mode = Mode::Running;
+    }
+    for register in 0..6 {
+        if random.percent(50) {
+            state.r[register] = 0xFE00 + random.below(0x22) as u16;
+        }
+    }
+    let mut settings = gen::settings(random, level);
+    let mut words = gen::vectors(random, &map);
+    for place in 0..12 {
+        words.push((state.r[PC].wrapping_add(2 * place), gen::op_code(random)));
+    }
+    match random.below(30) {
+        0 => settings.halt = 4,
+        1 => map[random.below(PAGES)] = 3,
+        _ => {}
+    }
+    let image: Vec<String> = words
+        .iter()
+        .flat_map(|&(at, word)| [(at & 0xFFFE, word & 0xFF), (at | 1, word >> 8)])
+        .map(|(at, byte)| format!("{at:04X}={byte:02X}"))
+        .collect();
+    let pages: Vec<String> = (0..PAGES)
+        .filter(|&page| map[page] != 0)
+        .map(|page| format!("{page:02X}={:02X}", map[page]))
+        .collect();
+    // Once in a while all scans that there may be, and one more.
+    let scans: Vec<String> = if random.percent(1) {
+        vec![format!("{}/-", ["x"; CHANNELS].join(",")); 4_097]
+    } else {
+        (0..=random.below(6)).map(|_| scan(random)).collect()
+    };
+    let (setup, state) = (setup_text(&settings), state_text(&state));
+    let (map, image) = (pages.join(","), image.join(","));
+    let seed = random.number() as u32;
+    let scans = scans.join(" ");
+    format!(
+        "scans {} {setup} {state} 100:{map} 10000:U{seed:08X}:{image} {scans}",
+        level.0
+    )
+}
