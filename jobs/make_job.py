@@ -3,6 +3,7 @@
 
 Lines of the text, all numbers hex but a count after x or cut:
     pages 00 04 10-1F     fitted pages; a range stands for each page of it
+    read-only 10-1F       those of them that can't be written; without such a line the job has no fourth section
     0080 = 09BF B7C0      words at 0080, 0082, ..
     lines 0000 x12 0008   line words; x12 repeats the one before, so that there are 12
     bytes 00 FF           bytes after the last section, for a job that is to be refused
@@ -100,11 +101,14 @@ class Job:
 
     def __init__(self):
         self.pages, self.entries, self.lines, self.rest, self.cuts = [], [], [], b"", []
+        self.read_only = None
 
     def take(self, at, words):
         """Adds what one line says."""
         if words[0] == "pages":
             self.pages = counted(self.pages + pages_of(words[1:]))
+        elif words[0] == "read-only":
+            self.read_only = counted((self.read_only or []) + pages_of(words[1:]))
         elif words[0] == "lines":
             self.lines = counted(self.lines + lines_of(words[1:]))
         elif words[0] == "bytes":
@@ -122,7 +126,10 @@ class Job:
         """The job's bytes before a cut."""
         job = two(len(self.pages)) + bytes(self.pages)
         job += two(len(self.entries)) + b"".join(two(address) + two(word) for address, word in self.entries)
-        return job + two(len(self.lines)) + b"".join(two(word) for word in self.lines) + self.rest
+        job += two(len(self.lines)) + b"".join(two(word) for word in self.lines)
+        if self.read_only is not None:
+            job += two(len(self.read_only)) + bytes(self.read_only)
+        return job + self.rest
 
     def bytes(self):
         """The job's bytes."""

@@ -27,15 +27,16 @@ python3 jobs/make_job.py jobs/example.txt >"$made/job"
 half=$(($(wc -c <"$made/job") / 2))
 slow() { head -c "$half" "$made/job"; sleep 0.3; tail -c "+$((half + 1))" "$made/job"; }
 same pipe "$(slow | $bench)" "$(cat jobs/example.line)"
-# The longest job: all pages, 4,096 words from 0000 on, 4,096 line words. All op codes are NOP.
+# The longest job: all pages, 4,096 words from 0000 on, 4,096 line words, all pages read-only. All op codes are NOP.
 longest() {
     python3 -c 'import sys
 word = lambda n: n.to_bytes(2, "little")
 job = word(256) + bytes(range(256)) + word(4096) + b"".join(word(2 * n) + word(0) for n in range(4096)) + word(4096) + bytes(8192)
-assert len(job) == 24838
+job += word(256) + bytes(range(256))
+assert len(job) == 25096
 sys.stdout.buffer.write(job + bytes(int(sys.argv[1])))' "$1"
 }
-same longest "$(longest 0 | $bench)" "0000 0000 0000 0000 0000 0000 0000 2000 0F00 0 0000 ----"
+same longest "$(longest 0 | $bench)" "0000 0000 0000 0000 0000 0000 0000 2000 0F00 0 0000 ---- ----"
 same one-byte-more "$(longest 1 | $bench)" "REFUSED 20"
 same much-more "$(longest 100000 | $bench)" "REFUSED 20"
 same empty "$($bench </dev/null)" "REFUSED 11"

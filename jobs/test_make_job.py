@@ -28,6 +28,12 @@ class Bytes(unittest.TestCase):
         job = "0400 00101112 0200 80000100 82000200 0400 0000 0000 0000 0801"
         self.assertEqual(job_of(text), bytes.fromhex(job))
 
+    def test_read_only_pages(self):
+        job = "0300 040506 0000 0000"
+        self.assertEqual(job_of("pages 4-6"), bytes.fromhex(job))
+        self.assertEqual(job_of("pages 4-6\nread-only"), bytes.fromhex(job + "0000"))
+        self.assertEqual(job_of("read-only 5\npages 4-6\nread-only 6\nbytes 7"), bytes.fromhex(job + "0200 0506 07"))
+
     def test_order_of_the_format_whatever_the_text(self):
         self.assertEqual(job_of("lines 1\n2=3\npages 4"), job_of("pages 4\n2=3\nlines 1"))
 
@@ -85,6 +91,7 @@ class Refused(unittest.TestCase):
     def test_ranges(self):
         self.refused("pages 00\npages 1F-10", "line 2: '1F-10' is a falling range")
         self.refused("pages 10-100", "line 1: '100' is over FF")
+        self.refused("read-only 1F-10", "line 1: '1F-10' is a falling range")
         for word in ("10-", "-10", "-"):
             self.refused(f"pages {word}", f"line 1: {word!r} is no range")
         self.refused("pages 10--1F", "line 1: '-1F' is not a hex number")
@@ -182,7 +189,7 @@ class Samples(unittest.TestCase):
             with self.subTest(text.name):
                 job_of(text.read_text(encoding="utf-8"))
                 line = text.with_suffix(".line").read_text(encoding="utf-8")
-                self.assertRegex(line, r"\A(([0-9A-F]{4} ){9}[0-4] [0-9A-F]{4} ([0-9A-F]{4}|----)|REFUSED \d+)\n\Z")
+                self.assertRegex(line, r"\A(([0-9A-F]{4} ){9}[0-4] [0-9A-F]{4} ([0-9A-F]{4} [0-9A-F]{4}|---- ----)|REFUSED \d+)\n\Z")
                 self.assertIn(f"| {text.stem} |", readme)
 
 

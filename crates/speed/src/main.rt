@@ -67,7 +67,7 @@ fn sum(image: &[u8]) -> u32 {
 
 // Bench's line of a run.
 fn print_line(ran: Ran) {
-    let mut text = [0u8; 56];
+    let mut text = [0u8; 61];
     report::write_end(&mut text, ran);
     io::write_all(STDOUT_FILENO, &text);
 }
@@ -118,7 +118,13 @@ fn repeat(name: &[u8], s: State, image: &mut [u8; 65536], map: &[u8; 256], runs:
     let mut i: u16 = 0;
     while i < runs {
         let state = last.state;
-        if let Finished::Done(ran) = machine::run(state, image, map, &lines) {
+        if let Finished::Done(ran) = machine::run(
+            state,
+            image,
+            map,
+            report::bench_board(),
+            &lines,
+        ) {
             let tally = ran.tally;
             blanks = std::num::wrapping_add_u32(blanks, tally.blanks as u32);
             last = ran;
@@ -129,7 +135,7 @@ fn repeat(name: &[u8], s: State, image: &mut [u8; 65536], map: &[u8; 256], runs:
 }
 
 fn powered(image: &[u8; 65536], map: &[u8; 256]) -> Powered {
-    machine::power_up(image, map)
+    machine::power_up(image, map, report::bench_board())
 }
 
 // A program is powered up once.

@@ -52,10 +52,11 @@ fn read(p: Progress, text: &[u8]) -> Deed {
     deed_at(next_place(p.column, p.words), hex(text))
 }
 
-// One step on the board, all of whose pages are fitted.
+// One step on the board, all of whose pages are fitted, and the third microm.
 fn step(state: &mut [u8], image: &mut [u8], line: u16) -> bool {
     let map = [1u8; 256];
-    firmware::wd16_step(state, image, &map, line) == 0
+    let settings = [1u8];
+    firmware::wd16_step(state, image, &map, &settings, line) == 0
 }
 
 // Puts a value in its place, or compares it where it is wanted. Says whether that can be done and is right.
@@ -118,7 +119,32 @@ fn with_words(state: &mut [u8], image: &mut [u8], line: &[u8]) -> Progress {
 
 // SP is 0200, PC is 0100, and all words are 0 before the sets. There must be a want.
 pub(crate) fn tried(line: &[u8]) -> bool {
-    let mut state = [0, 0, 0, 0, 0, 0, 0, 0, 0, 0, 0, 0, 0, 2, 0, 1, 0, 0, 0, 0];
+    let mut state = [
+        0,
+        0,
+        0,
+        0,
+        0,
+        0,
+        0,
+        0,
+        0,
+        0,
+        0,
+        0,
+        0,
+        2,
+        0,
+        1,
+        0,
+        0,
+        0,
+        0,
+        0,
+        0,
+        0,
+        0,
+    ];
     let mut image = io::large_buffer();
     let p = with_words(&mut state, &mut image, line);
     p.right & (p.column == 3) & (0 < p.words)
