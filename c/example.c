@@ -1,4 +1,5 @@
-/* A board's firmware in small: an image with a converter card that was pulled, powered up, run, stepped; and two refusals.
+/* A board's firmware in small: an image with a converter card that was pulled, powered up, run, stepped; a halt that
+   saves; and three refusals.
    What it prints is held to example.out. */
 #include "hitchbriar.h"
 
@@ -7,7 +8,8 @@
 
 static uint8_t image[WD16_IMAGE];
 static uint8_t map[WD16_MAP];
-static const uint8_t settings[WD16_SETTINGS] = {[WD16_BLOCKS] = 1};
+static uint8_t settings[WD16_SETTINGS] = {
+    [WD16_BLOCKS] = 1, [WD16_POWER_UP] = WD16_UP_FETCH, [WD16_HALT] = WD16_HALT_FETCH};
 static uint8_t state[WD16_STATE];
 static uint8_t tally[WD16_TALLY];
 
@@ -72,7 +74,15 @@ int main(void)
         show("step", step(0));
     show("I3", step(WD16_LINE_I3));
 
+    settings[WD16_HALT] = WD16_HALT_SAVE; /* the halt switch saves the state in the image, and it is restored */
+    show("I3", step(WD16_LINE_I3));
+    show("I3", step(WD16_LINE_I3));
+    show("step", step(0));
+    printf("saved PC %04X, PS %04X\n", word_at(image, 0x000E), word_at(image, 0x0010));
+
     show("refused", step(0x4000)); /* an unused bit: 5, and nothing changes */
+    settings[WD16_HALT] = 4;
+    show("refused", step(0)); /* a jumper number over 3: 35 */
     map[0xC0] = 3;
     show("refused", step(0)); /* a map byte over 2: 3 */
     return 0;

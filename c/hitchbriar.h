@@ -19,7 +19,7 @@ extern "C" {
 enum {
     WD16_IMAGE = 65536,     /* bytes of an image: the low byte of a word at the even address */
     WD16_MAP = 256,         /* bytes of a map, one for each page of 256 addresses */
-    WD16_SETTINGS = 1,      /* bytes of the settings */
+    WD16_SETTINGS = 4,      /* bytes of the settings */
     WD16_STATE = 24,        /* bytes of a state */
     WD16_TALLY = 6,         /* bytes of a tally */
     WD16_MOST_LINES = 4096, /* line words of a run, at most */
@@ -33,7 +33,24 @@ enum { /* a map's bytes */
 
 /* The settings' bytes: how the board is set up. */
 enum {
-    WD16_BLOCKS = 0, /* 1 where the third microm is fitted, with the block moves 0E00 to 0FFF; else 0 */
+    WD16_BLOCKS = 0,   /* 1 where the third microm is fitted, with the block moves 0E00 to 0FFF; else 0 */
+    WD16_POWER_UP = 1, /* the jumpers of the power-up option, 0 to 3 */
+    WD16_HALT = 2,     /* the jumpers of the halt option, 0 to 3 */
+    WD16_EXTERNAL = 3, /* the External Address Register, 0 to 63 */
+};
+
+enum { /* the power-up option's jumpers */
+    WD16_UP_BOOTSTRAP = 0, /* PC is C000, with bits 8 to 13 from the External Address Register; nothing is read */
+    WD16_UP_PICK_UP = 1,   /* R0 to R5, SP, PC and PS are picked up from 0000 to 0010 */
+    WD16_UP_HALT = 2,      /* the halt option is executed */
+    WD16_UP_FETCH = 3,     /* PC is fetched from 0016 */
+};
+
+enum { /* the halt option's jumpers: what I3 does */
+    WD16_HALT_BOOTSTRAP = 0, /* as at power-up */
+    WD16_HALT_SAVE = 1,      /* R0 to R5, SP, PC and PS are saved at 0000 to 0010, and picked up when I3 is clear again */
+    WD16_HALT_LOCK = 2,      /* the processor locks up */
+    WD16_HALT_FETCH = 3,     /* PC is fetched from 0016 */
 };
 
 /* A state's bytes. R0 to R5, SP and PC are bytes 0 to 15, two each, low byte first. */
@@ -57,20 +74,22 @@ enum { /* modes */
     WD16_HALTED_POWER_FAIL = 2,
     WD16_HALTED_SWITCH = 3,
     WD16_LOCKED = 4,
+    WD16_SAVED = 5, /* by the halt option, until I3 is clear */
 };
 
-enum { /* causes; 5 and 6 tell an address, and 8 in the step that locks. 7 is free: no step gives it */
+enum { /* causes; 5, 6 and 9 tell an address, and 8 in the step that locks by a bus error. 7 is free: no step gives it */
     WD16_BY_OP_CODE = 0, /* or its trap */
-    WD16_BY_I3 = 1,
+    WD16_BY_I3 = 1, /* the halt option, or the end of its save */
     WD16_BY_I1 = 2,
     WD16_BY_I0 = 3,
-    WD16_BY_NOTHING = 4,      /* waiting or halted */
+    WD16_BY_NOTHING = 4,      /* waiting, halted or saved */
     WD16_BLANK_OP_CODE = 5,   /* a bus error in an op code */
     WD16_BLANK_INTERRUPT = 6, /* a bus error in an interrupt */
     WD16_BY_LOCK = 8,         /* locked, now or before */
+    WD16_BLANK_SAVE = 9,      /* a bus error in a save */
 };
 
-/* A tally's bytes: the number of steps with cause 5 or 6, then the place of the first of them, from 0, or FFFF where there
+/* A tally's bytes: the number of steps with cause 5, 6 or 9, then the place of the first of them, from 0, or FFFF where there
    was none, then the address that it told, or 0; two each, low byte first. */
 enum {
     WD16_BLANKS = 0,
@@ -90,27 +109,29 @@ enum {
 /* Refusals, in the order in which they are looked for. */
 enum {
     WD16_DONE = 0,
-    WD16_BAD_BUFFER = 21,    /* the state is not 24 bytes, the tally not 6 or the settings not 1; the settings' byte is
-                                over 1; or, where the state is read, indicators over 15, I2 over 1, a mode over 4, a cause
-                                over 8, or byte 20 or 21 over 1 */
+    WD16_BAD_BUFFER = 21,    /* the state is not 24 bytes, the tally not 6 or the settings not 4; the settings' first
+                                byte is over 1; or, where the state is read, indicators over 15, I2 over 1, a mode over 5,
+                                a cause over 9, or byte 20 or 21 over 1 */
     WD16_BAD_IMAGE = 1,      /* not 65,536 bytes */
     WD16_BAD_MAP = 2,        /* not 256 bytes */
     WD16_BAD_MAP_BYTE = 3,   /* over 2 */
+    WD16_BAD_SETUP = 35,     /* a jumper number is over 3, or the External Address Register over 63 */
     WD16_TOO_MANY_LINES = 4, /* over 4,096 */
     WD16_BAD_LINE = 5,       /* an unused bit of a line word is set */
 };
 
-/* Writes the state after power-up, with cause 0. The state's bytes are not read. Refusals: 21 for its length and for the
-   settings, 1, 2, 3. */
-uint8_t wd16_power_up(uint8_t *state, size_t state_length, const uint8_t *image, size_t image_length, const uint8_t *map,
+/* Writes the state after power-up, with cause 0. The state's bytes are not read; the image is written where the power-up
+   option is the halt option and that is a save. Refusals: 21 for the state's length and for the settings, 1, 2, 3, 35. */
+uint8_t wd16_power_up(uint8_t *state, size_t state_length, uint8_t *image, size_t image_length, const uint8_t *map,
                       size_t map_length, const uint8_t *settings, size_t settings_length);
 
 /* One step over a line word: the state, with its cause and the address that it tells, and the image after it. Refusals: 21,
-   1, 2, 3, 5. */
+   1, 2, 3, 35, 5. */
 uint8_t wd16_step(uint8_t *state, size_t state_length, uint8_t *image, size_t image_length, const uint8_t *map,
                   size_t map_length, const uint8_t *settings, size_t settings_length, uint16_t line);
 
-/* One step for each line word: the state, with cause 0, the tally and the image after them. Refusals: 21, 1 to 5. */
+/* One step for each line word: the state, with cause 0, the tally and the image after them. Refusals: 21, 1, 2,
+   3, 35, 4, 5. */
 uint8_t wd16_run(uint8_t *state, size_t state_length, uint8_t *tally, size_t tally_length, uint8_t *image,
                  size_t image_length, const uint8_t *map, size_t map_length, const uint8_t *settings,
                  size_t settings_length, const uint16_t *lines, size_t lines_length);

@@ -23,7 +23,7 @@ use Rattle.refusal.specs.Numbers.{noState}
 use Rattle.machine.specs.Numbers.{statePage, nowhere, toldOf, placeOf}
 use Rattle.machine.specs.Entry.{left, poweredPage, steppedPage, finishedPage, powerUpPage, stepPage, runPage}
 use Rattle.firmware.specs.Layout.{bytesOf, tallyBytes, stateFrom, settingsFrom, over, notState, notTally, refusedState, refusedSettings, refusedUp, refusedStep, refusedRun}
-use Rattle.firmware.specs.Calls.{up, powerUpCall, went, stepCall, ended, runCall}
+use Rattle.firmware.specs.Calls.{powerUpCall, went, stepCall, ended, runCall}
 
 -- a buffer that is as long as what is copied into it is what was copied
 pub copied : (from b b′ : List ℕ) → length b ≡ length from → b′ ≡ take (length from) from ++ drop (length from) b → b′ ≡ from
@@ -61,19 +61,19 @@ tally-length b t w e = eqb-true _ _ (not-false _ (right-no (refusedStep b w) (no
 -- ---- power-up
 
 module _ (b image map w : List ℕ) where
-  pub up-bad : refusedUp b w ≡ true → up noState b ≡ powerUpCall b image map w
+  pub up-bad : refusedUp b w ≡ true → went noState b image ≡ powerUpCall b image map w
   unfolding powerUpCall
   up-bad e = rw e
 
-  pub up-done : (b′ : List ℕ) (g : Settings) (s : State) (r : Powered) → refusedUp b w ≡ false → g ≡ settingsFrom w → poweredPage r ≡ powerUpPage g image map
-      → r ≡ Powered.Up s → b′ ≡ bytesOf (statePage s) 0 nowhere → up 0 b′ ≡ powerUpCall b image map w
+  pub up-done : (b′ m : List ℕ) (g : Settings) (s : State) (r : Powered) → refusedUp b w ≡ false → g ≡ settingsFrom w → left (poweredPage r) m ≡ powerUpPage g image map
+      → r ≡ Powered.Up s → b′ ≡ bytesOf (statePage s) 0 nowhere → went 0 b′ m ≡ powerUpCall b image map w
   unfolding powerUpCall
-  up-done b′ g s r e j f h d = rw (e, ← j, ← f, h, d)
+  up-done b′ m g s r e j f h d = rw (e, ← j, ← f, h, d)
 
-  pub up-refused : (g : Settings) (why : ℕ) (r : Powered) → refusedUp b w ≡ false → g ≡ settingsFrom w → poweredPage r ≡ powerUpPage g image map
-      → r ≡ Powered.Refused why → up why b ≡ powerUpCall b image map w
+  pub up-refused : (m : List ℕ) (g : Settings) (why : ℕ) (r : Powered) → refusedUp b w ≡ false → g ≡ settingsFrom w → left (poweredPage r) m ≡ powerUpPage g image map
+      → r ≡ Powered.Refused why → went why b m ≡ powerUpCall b image map w
   unfolding powerUpCall
-  up-refused g why r e j f h = rw (e, ← j, ← f, h)
+  up-refused m g why r e j f h = rw (e, ← j, ← f, h)
 
 -- ---- one step
 

@@ -8,7 +8,7 @@ use Rattle.word.specs.declared.Flags.{Flags}
 use Rattle.word.specs.Number.{digit}
 use Rattle.state.specs.declared.State.{State}
 use Rattle.state.specs.declared.Mode.{Mode}
-use Rattle.state.specs.declared.Mode.the-variants.{Running, Waiting, PowerHalt, SwitchHalt, Locked}
+use Rattle.state.specs.declared.Mode.the-variants.{Running, Waiting, PowerHalt, SwitchHalt, Locked, Saved}
 use Rattle.state.specs.State.{modeNumber}
 use Rattle.machine.specs.Numbers.{indicators, statePage, Address, address, nowhere}
 use Rattle.machine.specs.Back.{stateOf, state-back}
@@ -29,12 +29,13 @@ digit-le : (b : Bool) → digit b ≤ 1
 digit-le true = omega arith
 digit-le false = omega arith
 
-mode-le : (m : Mode) → modeNumber m ≤ 4
+mode-le : (m : Mode) → modeNumber m ≤ 5
 mode-le Running = omega arith
 mode-le Waiting = omega arith
 mode-le PowerHalt = omega arith
 mode-le SwitchHalt = omega arith
 mode-le Locked = omega arith
+mode-le Saved = omega arith
 
 tells-le : (told : Address) → tells told ≤ 1
 tells-le (address a) = omega arith
@@ -44,14 +45,14 @@ indicators-le : (f : Flags) → indicators f ≤ 15
 indicators-le f = omega (arith, digit-le (f .n), digit-le (f .z), digit-le (f .v), digit-le (f .c))
 
 -- AND ITS BYTES ARE NOT REFUSED
-pub state-taken : (s : State) (cause : ℕ) (told : Address) → cause ≤ 8 → refusedState (bytesOf (statePage s) cause told) ≡ false
+pub state-taken : (s : State) (cause : ℕ) (told : Address) → cause ≤ 9 → refusedState (bytesOf (statePage s) cause told) ≡ false
 unfolding refusedState bytesOf statePage
 state-taken s cause told h =
     rw (
       le-ltb 15 (indicators (s .flags)) (indicators-le (s .flags)),
       le-ltb 1 (digit (s .i2)) (digit-le (s .i2)),
-      le-ltb 4 (modeNumber (s .mode)) (mode-le (s .mode)),
-      le-ltb 8 cause h,
+      le-ltb 5 (modeNumber (s .mode)) (mode-le (s .mode)),
+      le-ltb 9 cause h,
       le-ltb 1 (digit (s .mark)) (digit-le (s .mark)),
       le-ltb 1 (tells told) (tells-le told),
     )

@@ -9,23 +9,7 @@ use Rattle.machine.specs.Numbers.{StatePage, nowhere, TurnPage, RanPage}
 use Rattle.machine.specs.Entry.{powerUpPage, stepPage, runPage}
 use Rattle.firmware.specs.Layout.{bytesOf, tallyBytes, stateFrom, settingsFrom, refusedUp, refusedStep, refusedRun}
 
--- ---- power-up
-
-pub record Up : Type 0 where
-  pub number : ℕ
-  pub state : List ℕ
-
-abbrev pub up : ℕ → List ℕ → Up
-up n b = record { number = n; state = b }
-
-abbrev pub upFrom : List ℕ → Page StatePage → Up
-upFrom b (answered p) = up 0 (bytesOf p 0 nowhere)
-upFrom b (refused why) = up why b
-
-unfoldable pub powerUpCall : List ℕ → List ℕ → List ℕ → List ℕ → Up
-powerUpCall b image map w = cond (refusedUp b w) (up noState b) (upFrom b (powerUpPage (settingsFrom w) image map))
-
--- ---- one step
+-- ---- power-up, and one step
 
 pub record Went : Type 0 where
   pub number : ℕ
@@ -35,14 +19,27 @@ pub record Went : Type 0 where
 abbrev pub went : ℕ → List ℕ → List ℕ → Went
 went n b m = record { number = n; state = b; image = m }
 
-abbrev pub wentFrom : List ℕ → Page TurnPage → List ℕ → Went
-wentFrom b (answered p) m = went 0 (bytesOf (p .state) (p .cause) (p .told)) m
-wentFrom b (refused why) m = went why b m
+-- the state's bytes after an answer, and as lent at a refusal
+abbrev pub wentFrom : {A : Type 0} → (A → List ℕ) → List ℕ → Page A → List ℕ → Went
+wentFrom bytes b (answered p) m = went 0 (bytes p) m
+wentFrom bytes b (refused why) m = went why b m
+
+-- the cause that a power-up leaves is 0, and it tells no address
+abbrev pub upBytes : StatePage → List ℕ
+upBytes p = bytesOf p 0 nowhere
+
+abbrev pub stepBytes : TurnPage → List ℕ
+stepBytes p = bytesOf (p .state) (p .cause) (p .told)
+
+unfoldable pub powerUpCall : List ℕ → List ℕ → List ℕ → List ℕ → Went
+powerUpCall b image map w =
+    let l = powerUpPage (settingsFrom w) image map in
+    cond (refusedUp b w) (went noState b image) (wentFrom upBytes b (l .page) (l .image))
 
 unfoldable pub stepCall : List ℕ → List ℕ → List ℕ → List ℕ → ℕ → Went
 stepCall b image map w line =
     let l = stepPage (settingsFrom w) image map line (stateFrom b) in
-    cond (refusedStep b w) (went noState b image) (wentFrom b (l .page) (l .image))
+    cond (refusedStep b w) (went noState b image) (wentFrom stepBytes b (l .page) (l .image))
 
 -- ---- a run: the cause that it leaves is 0, and it tells no address but in the tally
 

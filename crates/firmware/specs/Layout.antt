@@ -35,9 +35,9 @@ pageFrom b = record { registers = registersIn b; indicators = byteAt b 16; i2 = 
 abbrev pub stateFrom : List ℕ → State
 stateFrom b = stateOf (pageFrom b)
 
--- refused: not 24 bytes, indicators over 15, I2 over 1, a mode over 4, a cause over 8, a mark over 1, a 21st byte over 1
+-- refused: not 24 bytes, indicators over 15, I2 over 1, a mode over 5, a cause over 9, a mark over 1, a 21st byte over 1
 abbrev pub over : List ℕ → Bool
-over b = ((((ltb 15 (byteAt b 16) || ltb 1 (byteAt b 17)) || ltb 4 (byteAt b 18)) || ltb 8 (byteAt b 19)) || ltb 1 (byteAt b 20)) || ltb 1 (byteAt b 21)
+over b = ((((ltb 15 (byteAt b 16) || ltb 1 (byteAt b 17)) || ltb 5 (byteAt b 18)) || ltb 9 (byteAt b 19)) || ltb 1 (byteAt b 20)) || ltb 1 (byteAt b 21)
 
 abbrev pub notState : List ℕ → Bool
 notState b = not (eqb (length b) 24)
@@ -61,14 +61,14 @@ tallyBytes blanks first = bytesIn (blanks ∷ placeNumber first ∷ placeTold fi
 abbrev pub notTally : List ℕ → Bool
 notTally t = not (eqb (length t) 6)
 
--- ---- 1 byte: 1 where the third microm is fitted, with the block moves
+-- ---- 4 bytes: 1 where the third microm is fitted, with the block moves; the jumpers of the power-up option; those of the halt option; the External Address Register
 
 unfoldable pub settingsFrom : List ℕ → Settings
-settingsFrom w = record { blocks = eqb (byteAt w 0) 1 }
+settingsFrom w = record { blocks = eqb (byteAt w 0) 1; powerup = byteAt w 1; halt = byteAt w 2; register = byteAt w 3 }
 
--- refused: not 1 byte, a byte over 1
+-- refused: not 4 bytes, the first over 1; what is over of the others is 35
 unfoldable pub refusedSettings : List ℕ → Bool
-refusedSettings w = not (eqb (length w) 1) || ltb 1 (byteAt w 0)
+refusedSettings w = not (eqb (length w) 4) || ltb 1 (byteAt w 0)
 
 -- ---- what each call refuses as 21, in one number; power-up only writes the state
 

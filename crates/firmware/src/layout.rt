@@ -41,7 +41,8 @@ fn mode_of(n: u8) -> Mode
         1 => Mode::Waiting,
         2 => Mode::PowerHalt,
         3 => Mode::SwitchHalt,
-        _ => Mode::Locked,
+        4 => Mode::Locked,
+        _ => Mode::Saved,
     }
 }
 
@@ -51,8 +52,8 @@ fn over(b: &[u8]) -> bool
 {
     (15 < byte_at(b, 16))
         | (1 < byte_at(b, 17))
-        | (4 < byte_at(b, 18))
-        | (8 < byte_at(b, 19))
+        | (5 < byte_at(b, 18))
+        | (9 < byte_at(b, 19))
         | (1 < byte_at(b, 20))
         | (1 < byte_at(b, 21))
 }
@@ -68,7 +69,7 @@ fn refused_state(b: &[u8]) -> bool
 fn refused_settings(w: &[u8]) -> bool
     ensures { λ r. ⌜ r ≡ Spec.refusedSettings (now (w .entry)) ⌝ }
 {
-    (w.len() != 1) | (1 < byte_at(w, 0))
+    (w.len() != 4) | (1 < byte_at(w, 0))
 }
 
 // What power-up refuses as 21: it only writes the state.
@@ -98,6 +99,9 @@ pub(crate) fn settings_from(w: &[u8]) -> Settings
 {
     Settings {
         blocks: byte_at(w, 0) == 1,
+        powerup: byte_at(w, 1),
+        halt: byte_at(w, 2),
+        register: byte_at(w, 3),
     }
 }
 

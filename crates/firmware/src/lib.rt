@@ -16,10 +16,15 @@ ghost use Rattle.firmware.specs.Calls as Spec;
 
 mod layout;
 
-// The state after power-up; or 21, 1, 2 or 3.
+// The state after power-up; or 21, 1, 2, 3 or 35.
 #[no_mangle]
-pub extern "C" fn wd16_power_up(state: &mut [u8], image: &[u8], map: &[u8], settings: &[u8]) -> u8
-    ensures { λ r. ⌜ Spec.up r (now (state .exit)) ≡ Spec.powerUpCall (now (state .entry)) (now (image .entry)) (now (map .entry)) (now (settings .entry)) ⌝ }
+pub extern "C" fn wd16_power_up(
+    state: &mut [u8],
+    image: &mut [u8],
+    map: &[u8],
+    settings: &[u8],
+) -> u8
+    ensures { λ r. ⌜ Spec.went r (now (state .exit)) (now (image .exit)) ≡ Spec.powerUpCall (now (state .entry)) (now (image .entry)) (now (map .entry)) (now (settings .entry)) ⌝ }
 {
     if refused_up(state, settings) {
         return NO_STATE;
@@ -33,7 +38,7 @@ pub extern "C" fn wd16_power_up(state: &mut [u8], image: &[u8], map: &[u8], sett
     }
 }
 
-// One step over a line word; or 21, 1, 2, 3 or 5.
+// One step over a line word; or 21, 1, 2, 3, 35 or 5.
 #[no_mangle]
 pub extern "C" fn wd16_step(
     state: &mut [u8],
@@ -63,7 +68,7 @@ pub extern "C" fn wd16_step(
     }
 }
 
-// A run over line words; or 21, or 1 to 5.
+// A run over line words; or 21, 1, 2, 3, 35, 4 or 5.
 #[no_mangle]
 pub extern "C" fn wd16_run(
     state: &mut [u8],

@@ -11,7 +11,7 @@ use borrow.Author.Tests.{eq-eqb, le-leb, leb-true}
 use Rattle.words.specs.Words.{byteAt, wordAt}
 use Rattle.refusal.specs.Numbers.{imageLength, mapLength, linesLength, manyLines, jobLineBit}
 use Rattle.refusal.specs.Page.{first, first-both}
-use Rattle.refusal.specs.Refusal.{allOf, flat, plain, boardRefusal, linesRefusal, runRefusal}
+use Rattle.refusal.specs.Refusal.{allOf, flat, plain, boardRefusal, setUp, powerRefusal, linesRefusal, runRefusal}
 use Rattle.job.specs.declared.Section.the-variants as section
 use Rattle.job.specs.Job.{sections, sizeOf, keyAt, note, cut, next, whyEntry, whyEntries, noted, whyCount, whyLeft, whySections, whyJob, stored, listed, marked, readOnlyAt, wordsAt, linesAt, imageOf, mapOf, linesOf, lineWords, whyRead}
 
@@ -122,14 +122,15 @@ module _ (input : List ℕ) where
       pages : List ℕ
       pages = marked 1 input (wordAt input 0) 2 (replicate 256 0)
 
-  pub job-taken : (image map lines : ℕ) → whyRead image map lines input ≡ 0
-      → (wordAt input (linesAt input) ≤ length (linesOf input)) × (runRefusal (length (imageOf input)) (mapOf input) (lineWords input) ≡ 0)
-  unfolding whyRead runRefusal linesRefusal lineWords
-  job-taken image map lines e =
+  -- on a board that is set up right
+  pub job-taken : (p h r image map lines : ℕ) → setUp p h r ≡ true → whyRead image map lines input ≡ 0
+      → (wordAt input (linesAt input) ≤ length (linesOf input)) × (runRefusal (length (imageOf input)) (mapOf input) p h r (lineWords input) ≡ 0)
+  unfolding whyRead powerRefusal runRefusal linesRefusal lineWords
+  job-taken p h r image map lines right e =
       let a = first-both (cond (eqb image 65536) 0 imageLength) _ e in
       let b = first-both (cond (eqb map 256) 0 mapLength) _ (a .1) in
       let c = first-both (cond (eqb lines 4096) 0 linesLength) _ (b .1) in
       let l = lines-taken (c .1) in
       let short : wordAt input (linesAt input) ≤ length (linesOf input) = omega (arith, l .0, lines-length) in
       let few : length (take (wordAt input (linesAt input)) (linesOf input)) ≤ 4096 = omega (arith, length-take-le (wordAt input (linesAt input)) (linesOf input) short, l .0) in
-      (short, rw (board-taken, le-leb (length (take (wordAt input (linesAt input)) (linesOf input))) 4096 few, all-take plain (wordAt input (linesAt input)) (linesOf input) (l .1)))
+      (short, rw (board-taken, right, le-leb (length (take (wordAt input (linesAt input)) (linesOf input))) 4096 few, all-take plain (wordAt input (linesAt input)) (linesOf input) (l .1)))

@@ -10,7 +10,7 @@ use Rattle.word.specs.Number.{digit}
 use Rattle.word.specs.Status.{flagsOf}
 use Rattle.state.specs.declared.State.{State}
 use Rattle.state.specs.declared.Mode.{Mode}
-use Rattle.state.specs.declared.Mode.the-variants.{Running, Waiting, PowerHalt, SwitchHalt, Locked}
+use Rattle.state.specs.declared.Mode.the-variants.{Running, Waiting, PowerHalt, SwitchHalt, Locked, Saved}
 use Rattle.state.specs.State.{modeNumber, cleared, withReg, withFlags, withI2, withMode, withMark}
 use Rattle.state.specs.Registers.{setReg}
 use Rattle.step.specs.declared.Turn.{Turn}
@@ -36,12 +36,12 @@ one back again x y e = sym (again x) ∙ ap back e ∙ again y
 
 -- ---- a state, from its page
 
--- the modes in the order of their numbers; the last is Locked
+-- the modes in the order of their numbers; the last is Saved
 abbrev pub modes : List Mode
-modes = Running ∷ Waiting ∷ PowerHalt ∷ SwitchHalt ∷ []
+modes = Running ∷ Waiting ∷ PowerHalt ∷ SwitchHalt ∷ Locked ∷ []
 
 abbrev pub modeOf : ℕ → Mode
-modeOf k = getD modes k Locked
+modeOf k = getD modes k Saved
 
 -- R0 to R5, SP and PC of a list
 unfoldable pub fromRegisters : List ℕ → State
@@ -89,6 +89,7 @@ mode-again Waiting = refl
 mode-again PowerHalt = refl
 mode-again SwitchHalt = refl
 mode-again Locked = refl
+mode-again Saved = refl
 
 -- A STATE'S PAGE GIVES IT BACK
 pub state-back : (s : State) → stateOf (statePage s) ≡ s
@@ -100,10 +101,10 @@ state-one = one stateOf state-back
 
 -- ---- an answer, from its page
 
--- the causes in the order of their numbers; the last are the lock-ups
+-- the causes in the order of their numbers, a lock-up in the free place of 7 too; the last are a save's blank and the old lock-up
 abbrev causeOf : ℕ → Address → Cause
 causeOf k (address a) =
-    getD (Cause.OpCode ∷ Cause.Switch ∷ Cause.NonVectored ∷ Cause.Vectored ∷ Cause.Nothing ∷ Cause.OpCodeBlank a ∷ Cause.InterruptBlank a ∷ []) k (Cause.LockedAt a)
+    getD (Cause.OpCode ∷ Cause.Switch ∷ Cause.NonVectored ∷ Cause.Vectored ∷ Cause.Nothing ∷ Cause.OpCodeBlank a ∷ Cause.InterruptBlank a ∷ Cause.LockedAt a ∷ Cause.LockedAt a ∷ []) k (Cause.SaveBlank a)
 causeOf k nowhere = getD (Cause.OpCode ∷ Cause.Switch ∷ Cause.NonVectored ∷ Cause.Vectored ∷ Cause.Nothing ∷ []) k Cause.Locked
 
 cause-back : (c : Cause) → causeOf (causeNumber c) (toldOf (addressOf c)) ≡ c
@@ -114,6 +115,7 @@ cause-back Cause.Vectored = refl
 cause-back Cause.Nothing = refl
 cause-back (Cause.OpCodeBlank a) = refl
 cause-back (Cause.InterruptBlank a) = refl
+cause-back (Cause.SaveBlank a) = refl
 cause-back (Cause.LockedAt a) = refl
 cause-back Cause.Locked = refl
 
@@ -169,14 +171,17 @@ finished-back (Finished.Refused why) = refl
 
 -- ---- one outcome
 
-pub one-power : (r q : Powered) → poweredPage r ≡ poweredPage q → r ≡ q
-one-power = one poweredOf powered-back
+pub powered-one : (r q : Powered) → poweredPage r ≡ poweredPage q → r ≡ q
+powered-one = one poweredOf powered-back
 
 pub stepped-one : (r q : Stepped) → steppedPage r ≡ steppedPage q → r ≡ q
 stepped-one = one steppedOf stepped-back
 
 pub finished-one : (r q : Finished) → finishedPage r ≡ finishedPage q → r ≡ q
 finished-one = one finishedOf finished-back
+
+pub one-power : (r q : Powered) (m n : List ℕ) → left (poweredPage r) m ≡ left (poweredPage q) n → (r ≡ q) × (m ≡ n)
+one-power r q m n e = (powered-one r q (ap (λ z. z .page) e), ap (λ z. z .image) e)
 
 pub one-step : (r q : Stepped) (m n : List ℕ) → left (steppedPage r) m ≡ left (steppedPage q) n → (r ≡ q) × (m ≡ n)
 one-step r q m n e = (stepped-one r q (ap (λ z. z .page) e), ap (λ z. z .image) e)

@@ -14,9 +14,9 @@ use Rattle.machine.specs.declared.Stepped.{Stepped}
 use Rattle.machine.specs.declared.Stepped.the-variants as Stepped
 use Rattle.machine.specs.declared.Finished.{Finished}
 use Rattle.machine.specs.declared.Finished.the-variants as Finished
-use Rattle.step.specs.Step.{After, stepOf, turnOf, powerUpOf}
+use Rattle.step.specs.Step.{After, stepOf, turnOf, Up, up, powerUpOf}
 use Rattle.refusal.specs.Page.{Page, refused, answered, unless, unless-some}
-use Rattle.refusal.specs.Refusal.{boardRefusal, stepRefusal, runRefusal}
+use Rattle.refusal.specs.Refusal.{powerRefusal, stepRefusal, runRefusal}
 use Rattle.machine.specs.Numbers.{StatePage, statePage, TurnPage, turnPage, RanPage, ranPage}
 use Rattle.machine.specs.Run.{End, end, runOf, ranOf}
 
@@ -42,19 +42,33 @@ abbrev pub finishedPage : Finished → Page RanPage
 finishedPage (Finished.Done r) = answered (ranPage r)
 finishedPage (Finished.Refused why) = refused why
 
+-- ---- what is refused: the number, 0 for none
+
+abbrev pub powerWhy : Settings → List ℕ → List ℕ → ℕ
+powerWhy settings image map = powerRefusal (length image) map (settings .powerup) (settings .halt) (settings .register)
+
+abbrev pub stepWhy : Settings → List ℕ → List ℕ → ℕ → ℕ
+stepWhy settings image map line = stepRefusal (length image) map (settings .powerup) (settings .halt) (settings .register) line
+
+abbrev pub runWhy : Settings → List ℕ → List ℕ → List ℕ → ℕ
+runWhy settings image map lines = runRefusal (length image) map (settings .powerup) (settings .halt) (settings .register) lines
+
 -- ---- what is right
 
-unfoldable pub powerUpPage : Settings → List ℕ → List ℕ → Page StatePage
+abbrev pub powered : Up → Left StatePage
+powered u = left (answered (statePage (u .state))) (u .image)
+
+unfoldable pub powerUpPage : Settings → List ℕ → List ℕ → Left StatePage
 powerUpPage settings image map =
-    let why = boardRefusal (length image) map in
-    unless why (answered (statePage (powerUpOf settings map image))) (refused why)
+    let why = powerWhy settings image map in
+    unless why (powered (powerUpOf settings map image)) (left (refused why) image)
 
 abbrev pub turned : After → Left TurnPage
 turned a = left (answered (turnPage (record { state = a .state; cause = a .cause }))) (a .image)
 
 unfoldable pub stepPage : Settings → List ℕ → List ℕ → ℕ → State → Left TurnPage
 stepPage settings image map line s =
-    let why = stepRefusal (length image) map line in
+    let why = stepWhy settings image map line in
     unless why (turned (stepOf map (heard settings line) s image)) (left (refused why) image)
 
 abbrev pub ended : End → Left RanPage
@@ -62,34 +76,34 @@ ended (end s m t) = left (answered (ranPage (record { state = s; tally = t }))) 
 
 unfoldable pub runPage : Settings → List ℕ → List ℕ → List ℕ → State → Left RanPage
 runPage settings image map lines s =
-    let why = runRefusal (length image) map lines in
+    let why = runWhy settings image map lines in
     unless why (ended (runOf settings map lines s image)) (left (refused why) image)
 
 -- ---- a refusal, and an answer
 
 module _ (settings : Settings) (image map : List ℕ) where
-  pub power-refused : (why : ℕ) → why ≡ boardRefusal (length image) map → (why ≡ 0 → ⊥) → refused why ≡ powerUpPage settings image map
+  pub power-refused : (why : ℕ) → why ≡ powerWhy settings image map → (why ≡ 0 → ⊥) → left (refused why) image ≡ powerUpPage settings image map
   unfolding powerUpPage
-  power-refused why e n = rw (← e, unless-some why (answered (statePage (powerUpOf settings map image))) (refused why) n)
+  power-refused why e n = rw (← e, unless-some why (powered (powerUpOf settings map image)) (left (refused why) image) n)
 
-  pub power-answered : (s : State) → boardRefusal (length image) map ≡ 0 → s ≡ powerUpOf settings map image → answered (statePage s) ≡ powerUpPage settings image map
+  pub power-answered : (s : State) (m : List ℕ) → powerWhy settings image map ≡ 0 → up s m ≡ powerUpOf settings map image → left (answered (statePage s)) m ≡ powerUpPage settings image map
   unfolding powerUpPage
-  power-answered s e h = rw (e, h)
+  power-answered s m e h = rw e (ap powered h)
 
 module _ (settings : Settings) (image map : List ℕ) (line : ℕ) (s : State) where
-  pub step-refused : (why : ℕ) → why ≡ stepRefusal (length image) map line → (why ≡ 0 → ⊥) → left (refused why) image ≡ stepPage settings image map line s
+  pub step-refused : (why : ℕ) → why ≡ stepWhy settings image map line → (why ≡ 0 → ⊥) → left (refused why) image ≡ stepPage settings image map line s
   unfolding stepPage
   step-refused why e n = rw (← e, unless-some why (turned (stepOf map (heard settings line) s image)) (left (refused why) image) n)
 
-  pub step-answered : (r : Turn) (m : List ℕ) → stepRefusal (length image) map line ≡ 0 → turnOf r m ≡ stepOf map (heard settings line) s image → left (answered (turnPage r)) m ≡ stepPage settings image map line s
+  pub step-answered : (r : Turn) (m : List ℕ) → stepWhy settings image map line ≡ 0 → turnOf r m ≡ stepOf map (heard settings line) s image → left (answered (turnPage r)) m ≡ stepPage settings image map line s
   unfolding stepPage
   step-answered r m e h = rw e (ap turned h)
 
 module _ (settings : Settings) (image map lines : List ℕ) (s : State) where
-  pub run-refused : (why : ℕ) → why ≡ runRefusal (length image) map lines → (why ≡ 0 → ⊥) → left (refused why) image ≡ runPage settings image map lines s
+  pub run-refused : (why : ℕ) → why ≡ runWhy settings image map lines → (why ≡ 0 → ⊥) → left (refused why) image ≡ runPage settings image map lines s
   unfolding runPage
   run-refused why e n = rw (← e, unless-some why (ended (runOf settings map lines s image)) (left (refused why) image) n)
 
-  pub run-answered : (r : Ran) (m : List ℕ) → runRefusal (length image) map lines ≡ 0 → ranOf r m ≡ runOf settings map lines s image → left (answered (ranPage r)) m ≡ runPage settings image map lines s
+  pub run-answered : (r : Ran) (m : List ℕ) → runWhy settings image map lines ≡ 0 → ranOf r m ≡ runOf settings map lines s image → left (answered (ranPage r)) m ≡ runPage settings image map lines s
   unfolding runPage
   run-answered r m e h = rw e (ap ended h)

@@ -23,7 +23,7 @@ registers s = s .regs .r0 ∷ s .regs .r1 ∷ s .regs .r2 ∷ s .regs .r3 ∷ s 
 abbrev pub indicators : Flags → ℕ
 indicators f = digit (f .n) * 8 + digit (f .z) * 4 + digit (f .v) * 2 + digit (f .c)
 
--- the registers, the indicators, I2, the mode (0 running, 1 waiting, 2 halted on power fail, 3 halted for the switch, 4 locked), and the mark of a late IEN
+-- the registers, the indicators, I2, the mode (0 running, 1 waiting, 2 halted on power fail, 3 halted for the switch, 4 locked, 5 saved), and the mark of a late IEN
 pub record StatePage : Type 0 where
   pub registers : List ℕ
   pub indicators : ℕ

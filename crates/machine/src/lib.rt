@@ -49,22 +49,35 @@ pub enum Finished {
     Refused(u8),
 }
 
-// The state after power-up of a board that is set up so; or 1, 2 or 3.
-pub fn power_up(image: &[u8], map: &[u8], settings: Settings) -> Powered
-    ensures { λ r. ⌜ Spec.poweredPage r ≡ Spec.powerUpPage settings (now (image .entry)) (now (map .entry)) ⌝ }
+// The state after power-up of a board that is set up so; or 1, 2, 3 or 35 and the image as lent.
+pub fn power_up(image: &mut [u8], map: &[u8], settings: Settings) -> Powered
+    ensures { λ r. ⌜ Spec.left (Spec.poweredPage r) (now (image .exit)) ≡ Spec.powerUpPage settings (now (image .entry)) (now (map .entry)) ⌝ }
 {
-    let why = refusal::board_refusal(image.len(), map);
+    let why = refusal::power_refusal(
+        image.len(),
+        map,
+        settings.powerup,
+        settings.halt,
+        settings.register,
+    );
     if why != 0 {
         return Powered::Refused(why);
     }
     Powered::Up(step::power(image, map, settings))
 }
 
-// One step over a line word: the state and the cause after it; or 1, 2, 3 or 5 and the image as lent.
+// One step over a line word: the state and the cause after it; or 1, 2, 3, 35 or 5 and the image as lent.
 pub fn step(s: State, image: &mut [u8], map: &[u8], settings: Settings, line: u16) -> Stepped
     ensures { λ r. ⌜ Spec.left (Spec.steppedPage r) (now (image .exit)) ≡ Spec.stepPage settings (now (image .entry)) (now (map .entry)) line s ⌝ }
 {
-    let why = refusal::step_refusal(image.len(), map, line);
+    let why = refusal::step_refusal(
+        image.len(),
+        map,
+        settings.powerup,
+        settings.halt,
+        settings.register,
+        line,
+    );
     if why != 0 {
         return Stepped::Refused(why);
     }
@@ -76,11 +89,18 @@ pub fn step(s: State, image: &mut [u8], map: &[u8], settings: Settings, line: u1
     Stepped::Done(Turn { state, cause })
 }
 
-// A run over line words: the state, the blanks and the first of them after it; or 1 to 5 and the image as lent.
+// A run over line words: the state, the blanks and the first of them after it; or 1, 2, 3, 35, 4 or 5 and the image as lent.
 pub fn run(s: State, image: &mut [u8], map: &[u8], settings: Settings, lines: &[u16]) -> Finished
     ensures { λ r. ⌜ Spec.left (Spec.finishedPage r) (now (image .exit)) ≡ Spec.runPage settings (now (image .entry)) (now (map .entry)) (now (lines .entry)) s ⌝ }
 {
-    let why = refusal::run_refusal(image.len(), map, lines);
+    let why = refusal::run_refusal(
+        image.len(),
+        map,
+        settings.powerup,
+        settings.halt,
+        settings.register,
+        lines,
+    );
     if why != 0 {
         return Finished::Refused(why);
     }

@@ -13,6 +13,10 @@ mapLength = 2
 abbrev pub mapByte : ℕ
 mapByte = 3
 
+-- a jumper number is over 3, or the address register over 63
+abbrev pub setup : ℕ
+setup = 35
+
 -- over 4,096 line words (the job reader: the line buffer is not 4,096); an unused bit of a line word is set
 abbrev pub linesLength : ℕ
 linesLength = 4

@@ -1,6 +1,6 @@
--- Refusals 1 to 5 of what the processor is lent, 0 for none; in this order.
+-- Refusals 1, 2, 3, 35, 4 and 5 of what the processor is lent, 0 for none; in this order.
 use Prim.Native.Nat.{ℕ, _+_, _/_, _%_, _<_, _≤_}
-use mathlib.Core.Bool.{Bool, true, false, cond}
+use mathlib.Core.Bool.{Bool, true, false, _&&_, cond}
 use mathlib.Core.List.{List, [], _∷_}
 use mathlib.Core.Path.{_≡_, refl}
 use native.Mathlib.Numerals.{add-one}
@@ -9,7 +9,7 @@ use lib.ListN.{length, drop, getD}
 use lib.Seq.{drop-cons, drop-length}
 use lib.Dec.{eqb, ltb, leb}
 use borrow.Author.Tests.{eqb-true, leb-true}
-use Rattle.refusal.specs.Numbers.{imageLength, mapLength, mapByte, linesLength, lineBit}
+use Rattle.refusal.specs.Numbers.{imageLength, mapLength, mapByte, setup, linesLength, lineBit}
 use Rattle.refusal.specs.Page.{first, first-both}
 
 -- every element passes
@@ -35,11 +35,18 @@ boardRefusal size map =
 unfoldable pub linesRefusal : List ℕ → ℕ
 linesRefusal lines = first (cond (leb (length lines) 4096) 0 linesLength) (cond (allOf plain lines) 0 lineBit)
 
-unfoldable pub stepRefusal : ℕ → List ℕ → ℕ → ℕ
-stepRefusal size map line = first (boardRefusal size map) (cond (plain line) 0 lineBit)
+-- the jumpers of the power-up option, those of the halt option, the address register
+abbrev pub setUp : ℕ → ℕ → ℕ → Bool
+setUp p h r = ltb p 4 && ltb h 4 && ltb r 64
 
-unfoldable pub runRefusal : ℕ → List ℕ → List ℕ → ℕ
-runRefusal size map lines = first (boardRefusal size map) (linesRefusal lines)
+unfoldable pub powerRefusal : ℕ → List ℕ → ℕ → ℕ → ℕ → ℕ
+powerRefusal size map p h r = first (boardRefusal size map) (cond (setUp p h r) 0 setup)
+
+unfoldable pub stepRefusal : ℕ → List ℕ → ℕ → ℕ → ℕ → ℕ → ℕ
+stepRefusal size map p h r line = first (powerRefusal size map p h r) (cond (plain line) 0 lineBit)
+
+unfoldable pub runRefusal : ℕ → List ℕ → ℕ → ℕ → ℕ → List ℕ → ℕ
+runRefusal size map p h r lines = first (powerRefusal size map p h r) (linesRefusal lines)
 
 -- ---- scans
 
@@ -79,12 +86,16 @@ pub short : (lines : List ℕ) → linesRefusal lines ≡ 0 → length lines ≤
 unfolding linesRefusal
 short lines e = leb-true _ _ (cond-none (leb (length lines) 4096) linesLength (λ h. omega arith) (first-both (cond (leb (length lines) 4096) 0 linesLength) _ e .0))
 
-pub step-sound : (size : ℕ) (map : List ℕ) (line : ℕ) → stepRefusal size map line ≡ 0 → Sound size map
-unfolding stepRefusal
-step-sound size map line e = sound size map (first-both (boardRefusal size map) _ e .0)
+pub power-sound : (size : ℕ) (map : List ℕ) (p h r : ℕ) → powerRefusal size map p h r ≡ 0 → Sound size map
+unfolding powerRefusal
+power-sound size map p h r e = sound size map (first-both (boardRefusal size map) _ e .0)
 
-pub run-sound : (size : ℕ) (map lines : List ℕ) → runRefusal size map lines ≡ 0 → Sound size map × (length lines ≤ 4096)
+pub step-sound : (size : ℕ) (map : List ℕ) (p h r line : ℕ) → stepRefusal size map p h r line ≡ 0 → Sound size map
+unfolding stepRefusal
+step-sound size map p h r line e = power-sound size map p h r (first-both (powerRefusal size map p h r) _ e .0)
+
+pub run-sound : (size : ℕ) (map : List ℕ) (p h r : ℕ) (lines : List ℕ) → runRefusal size map p h r lines ≡ 0 → Sound size map × (length lines ≤ 4096)
 unfolding runRefusal
-run-sound size map lines e =
-    let both = first-both (boardRefusal size map) (linesRefusal lines) e in
-    (sound size map (both .0), short lines (both .1))
+run-sound size map p h r lines e =
+    let both = first-both (powerRefusal size map p h r) (linesRefusal lines) e in
+    (power-sound size map p h r (both .0), short lines (both .1))

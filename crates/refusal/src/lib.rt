@@ -1,4 +1,4 @@
-// The refusals 1 to 5 of what the processor is lent, and 0 for none.
+// The refusals 1 to 5 and 35 of what the processor is lent, and 0 for none.
 ghost use mathlib.Core.Path.{_≡_};
 ghost use Rattle.refusal.specs.Refusal as Spec;
 
@@ -73,20 +73,38 @@ fn lines_refusal(lines: &[u16]) -> u8
     0
 }
 
-pub fn step_refusal(size: usize, map: &[u8], line: u16) -> u8
-    ensures { λ r. ⌜ r ≡ Spec.stepRefusal size (now (map .entry)) line ⌝ }
+// The jumpers of the power-up option, those of the halt option, the address register.
+fn set_up(p: u8, h: u8, r: u8) -> bool
+    ensures { λ b. ⌜ b ≡ Spec.setUp p h r ⌝ }
+{
+    (p < 4) & (h < 4) & (r < 64)
+}
+
+// 1, 2, 3 or 35.
+pub fn power_refusal(size: usize, map: &[u8], p: u8, h: u8, r: u8) -> u8
+    ensures { λ why. ⌜ why ≡ Spec.powerRefusal size (now (map .entry)) p h r ⌝ }
 {
     let why = board_refusal(size, map);
+    if why != 0 {
+        return why;
+    }
+    if set_up(p, h, r) { 0 } else { number::SETUP }
+}
+
+pub fn step_refusal(size: usize, map: &[u8], p: u8, h: u8, r: u8, line: u16) -> u8
+    ensures { λ why. ⌜ why ≡ Spec.stepRefusal size (now (map .entry)) p h r line ⌝ }
+{
+    let why = power_refusal(size, map, p, h, r);
     if why != 0 {
         return why;
     }
     if plain(line) { 0 } else { number::LINE_BIT }
 }
 
-pub fn run_refusal(size: usize, map: &[u8], lines: &[u16]) -> u8
-    ensures { λ r. ⌜ r ≡ Spec.runRefusal size (now (map .entry)) (now (lines .entry)) ⌝ }
+pub fn run_refusal(size: usize, map: &[u8], p: u8, h: u8, r: u8, lines: &[u16]) -> u8
+    ensures { λ why. ⌜ why ≡ Spec.runRefusal size (now (map .entry)) p h r (now (lines .entry)) ⌝ }
 {
-    let why = board_refusal(size, map);
+    let why = power_refusal(size, map, p, h, r);
     if why != 0 {
         return why;
     }

@@ -1,12 +1,15 @@
 // The page's refusal numbers, by what they refuse. 6 to 10 are the text's: optext has them as the cases of its answers.
 
-// What the processor is lent: the image is not 65,536 bytes, the map not 256, a map byte is over 2; there are over 4,096 line
-// words (for the job reader: the line buffer is not 4,096 words), an unused bit of a line word is set.
+// What the processor is lent: the image is not 65,536 bytes, the map not 256, a map byte is over 2; a jumper number is over 3 or
+// the address register over 63; there are over 4,096 line words (for the job reader: the line buffer is not 4,096 words), an
+// unused bit of a line word is set.
 pub const IMAGE_LENGTH: u8 = 1;
 
 pub const MAP_LENGTH: u8 = 2;
 
 pub const MAP_BYTE: u8 = 3;
+
+pub const SETUP: u8 = 35;
 
 pub const LINES_LENGTH: u8 = 4;
 

@@ -1,5 +1,5 @@
 -- The state: R0 to R5, SP, PC, the indicators, I2, the mode and the mark of a late IEN. Only this file builds a state record; everyone else uses its named updates.
-use Prim.Native.Nat.{ℕ, _-_, _/_, _%_, _≤_}
+use Prim.Native.Nat.{ℕ, _+_, _-_, _*_, _/_, _%_, _≤_}
 use mathlib.Core.Bool.{Bool, true, false, cond}
 use mathlib.Core.Path.{_≡_, ap, _∙_}
 use lib.Dec.{eqb}
@@ -15,7 +15,7 @@ use Rattle.state.specs.declared.State.{State}
 use Rattle.state.specs.declared.Outside.{Outside}
 use Rattle.state.specs.declared.Settings.{Settings}
 use Rattle.state.specs.declared.Mode.{Mode}
-use Rattle.state.specs.declared.Mode.the-variants.{Running, Waiting, PowerHalt, SwitchHalt, Locked}
+use Rattle.state.specs.declared.Mode.the-variants.{Running, Waiting, PowerHalt, SwitchHalt, Locked, Saved}
 
 -- the page's number of a mode
 abbrev pub modeNumber : Mode → ℕ
@@ -24,6 +24,7 @@ modeNumber Waiting = 1
 modeNumber PowerHalt = 2
 modeNumber SwitchHalt = 3
 modeNumber Locked = 4
+modeNumber Saved = 5
 
 pub cond-yes : {A : Type 0} {b : Bool} {x : A} (y : A) → b ≡ true → cond b x y ≡ x
 cond-yes {x = x} y e = ap (λ z. cond z x y) e
@@ -95,9 +96,13 @@ cleared =
 abbrev pub heard : Settings → ℕ → Outside
 heard settings line = record { settings = settings; fail = bit 7 line; i0 = bit 0 line; i1 = bit 1 line; i3 = bit 3 line; device = line / 256 % 16 }
 
+-- the four jumpers as the External Status Register has them in bits 3 to 0: those of the halt option, then those of the power-up option
+abbrev pub jumpersOf : Settings → ℕ
+jumpersOf settings = settings .halt * 4 + settings .powerup
+
 -- the PS formed now; bus where a bus error pushes it
 unfoldable pub psOf : Outside → Bool → State → ℕ
-psOf out bus s = formed (out .fail) bus (s .i2) (s .flags)
+psOf out bus s = formed (jumpersOf (out .settings)) (out .fail) bus (s .i2) (s .flags)
 
 -- ---- states by their registers
 

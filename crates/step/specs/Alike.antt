@@ -9,10 +9,9 @@ use Rattle.board.specs.Alike.{Agree, Alike, both, neither, alike, kept}
 use Rattle.state.specs.declared.State.{State}
 use Rattle.state.specs.declared.Outside.{Outside}
 use Rattle.state.specs.declared.Settings.{Settings}
-use Rattle.state.specs.State.{cleared}
-use Rattle.state.specs.Stack.{fromLoc}
+use Rattle.state.specs.State.{cleared, heard}
 use Rattle.step.specs.declared.Cause.{Cause}
-use Rattle.step.specs.Step.{After, stepOf, errorOf, orElse, orLocked, powerUpOf, kindOf, workOf, busError, causeOf, errorCauseOf}
+use Rattle.step.specs.Step.{After, stepOf, errorOf, orElse, Up, orLocked, powerUpOption, powerUpOf, kindOf, workOf, busError, causeOf, errorCauseOf}
 
 -- ---- two images that agree on fitted bytes
 
@@ -34,14 +33,19 @@ step-alike map out s m n l g =
     or-same map (causeOf k) (alike map (workOf k out s) m n l g)
     (λ a. or-same map (errorCauseOf k a) (alike map (busError k out s) m n l g) (λ _. record { state = refl; cause = refl; size = l; agree = g }))
 
-or-locked : (map : List ℕ) {x y : Came State} → Alike map x y → orLocked x ≡ orLocked y
-or-locked map (both l g) = refl
-or-locked map neither = refl
+-- the same state after power-up, and images that agree again
+pub record SameUp (map : List ℕ) (a b : Up) : Type 0 where
+  pub state : a .state ≡ b .state
+  pub size : length (a .image) ≡ length (b .image)
+  pub agree : Agree map (a .image) (b .image)
 
--- the same state after power-up
-pub power-alike : (settings : Settings) (map m n : List ℕ) → length m ≡ length n → Agree map m n → powerUpOf settings map m ≡ powerUpOf settings map n
+or-locked : (map : List ℕ) {x y : Came State} (m n : List ℕ) → length m ≡ length n → Agree map m n → Alike map x y → SameUp map (orLocked x m) (orLocked y n)
+or-locked map m n l g (both h e) = record { state = refl; size = h; agree = e }
+or-locked map m n l g neither = record { state = refl; size = l; agree = g }
+
+pub power-alike : (settings : Settings) (map m n : List ℕ) → length m ≡ length n → Agree map m n → SameUp map (powerUpOf settings map m) (powerUpOf settings map n)
 unfolding powerUpOf
-power-alike settings map m n l g = or-locked map (alike map (fromLoc cleared 0x16) m n l g)
+power-alike settings map m n l g = or-locked map m n l g (alike map (workOf (powerUpOption settings) (heard settings 0) cleared) m n l g)
 
 -- ---- bytes of unfitted and of read-only pages come back as lent
 
@@ -61,3 +65,14 @@ unfolding stepOf errorOf
 step-untouched map out s m =
     let k = kindOf s out in
     or-untouched map m (workOf k out s) (causeOf k) _ (λ x. or-untouched map m (busError k out s) (errorCauseOf k x) _ (λ _ a e. refl))
+
+pub power-untouched : (settings : Settings) (map m : List ℕ) → Untouched map m (powerUpOf settings map m .image)
+unfolding powerUpOf
+power-untouched settings map m a e = came (run map w m) refl
+  where
+    w : Work State
+    w = workOf (powerUpOption settings) (heard settings 0) cleared
+
+    came : (c : Came State) → run map w m ≡ c → getD (orLocked c m .image) a 0 ≡ getD m a 0
+    came (value s n) r = kept map w m s n r a e
+    came (blank x) r = refl

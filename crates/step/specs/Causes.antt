@@ -15,21 +15,21 @@ use Rattle.state.specs.Registers.{setReg}
 use Rattle.word.specs.Address.{minus}
 use Rattle.state.specs.Stack.{push, pushBoth, fromLoc, trap}
 use Rattle.step.specs.declared.Kind.{Kind}
-use Rattle.step.specs.declared.Kind.the-variants.{OpCode, HaltEnd, Switched, NonVectored, Vectored, Waits, Stuck}
+use Rattle.step.specs.declared.Kind.the-variants.{OpCode, HaltEnd, Boots, Saves, LocksUp, Restarts, Restores, NonVectored, Vectored, Waits, Stuck}
 use Rattle.step.specs.declared.Cause.{Cause}
 use Rattle.step.specs.declared.Cause.the-variants as Cause
-use Rattle.step.specs.declared.Cause.the-variants.{OpCodeBlank, InterruptBlank, LockedAt}
+use Rattle.step.specs.declared.Cause.the-variants.{OpCodeBlank, InterruptBlank, SaveBlank, LockedAt}
 use Rattle.step.specs.Step.{after, causeNumber, isBlank, hears, kindIn, kindOf, workOf, busError, causeOf, errorCauseOf, errorOf, stepOf, orElse, past}
 use Rattle.step.specs.Ends.{step-well, step-ill}
-use Rattle.step.specs.Restart.{restart-low, never-trapped}
+use Rattle.step.specs.Restart.{restart-low, restore-low, never-trapped}
 
 -- A step from locked changes nothing.
 pub locked-still : (map : List ℕ) (out : Outside) (s : State) (m : List ℕ) → s .mode ≡ Locked → stepOf map out s m ≡ after s m Cause.Locked
 unfolding kindIn workOf run
 locked-still map out s m e = sym (step-well map out s m {k = Stuck} (sym (ap (λ z. kindIn z (hears s) out) e)) refl refl)
 
--- a cause is 0 to 8
-pub cause-le : (c : Cause) → causeNumber c ≤ 8
+-- a cause is 0 to 9
+pub cause-le : (c : Cause) → causeNumber c ≤ 9
 cause-le Cause.OpCode = omega arith
 cause-le Cause.Switch = omega arith
 cause-le Cause.NonVectored = omega arith
@@ -37,6 +37,7 @@ cause-le Cause.Vectored = omega arith
 cause-le Cause.Nothing = omega arith
 cause-le (OpCodeBlank a) = omega arith
 cause-le (InterruptBlank a) = omega arith
+cause-le (SaveBlank a) = omega arith
 cause-le (LockedAt a) = omega arith
 cause-le Cause.Locked = omega arith
 
@@ -49,6 +50,7 @@ cause-not-7 Cause.Vectored e = omega arith
 cause-not-7 Cause.Nothing e = omega arith
 cause-not-7 (OpCodeBlank a) e = omega arith
 cause-not-7 (InterruptBlank a) e = omega arith
+cause-not-7 (SaveBlank a) e = omega arith
 cause-not-7 (LockedAt a) e = omega arith
 cause-not-7 Cause.Locked e = omega arith
 
@@ -57,7 +59,11 @@ cause-not-7 Cause.Locked e = omega arith
 no-blank : (k : Kind) → isBlank (causeOf k) ≡ false
 no-blank OpCode = refl
 no-blank HaltEnd = refl
-no-blank Switched = refl
+no-blank Boots = refl
+no-blank Saves = refl
+no-blank LocksUp = refl
+no-blank Restarts = refl
+no-blank Restores = refl
 no-blank NonVectored = refl
 no-blank Vectored = refl
 no-blank Waits = refl
@@ -72,13 +78,17 @@ module _ (map : List ℕ) (out : Outside) (s : State) (m : List ℕ) where
   pub blank-error : {a : ℕ} → run map (workOf (kindOf s out) out s) m ≡ blank a → stepOf map out s m ≡ errorOf map (kindOf s out) out s m a
   blank-error h = sym (step-ill map out s m refl h refl refl)
 
--- where the trap succeeds it is counted; after a fetch from 16 that failed it never succeeds
+-- where the trap succeeds it is counted; after reads of page 0 alone that failed it never succeeds
 counted : (k : Kind) (out : Outside) (s : State) (map m : List ℕ) {a : ℕ} {t : State} {n : List ℕ}
     → run map (workOf k out s) m ≡ blank a → run map (busError k out s) m ≡ value t n → isBlank (errorCauseOf k a) ≡ true
 unfolding workOf run
 counted OpCode out s map m h g = refl
 counted HaltEnd out s map m h g = sym (never-trapped map HaltEnd out s m (restart-low s) h g)
-counted Switched out s map m h g = sym (never-trapped map Switched out s m (restart-low s) h g)
+counted Boots out s map m h g = let z : _≡_ {A = ℕ} 0 1 = cc in cc
+counted Saves out s map m h g = refl
+counted LocksUp out s map m h g = let z : _≡_ {A = ℕ} 0 1 = cc in cc
+counted Restarts out s map m h g = sym (never-trapped map Restarts out s m (restart-low s) h g)
+counted Restores out s map m h g = sym (never-trapped map Restores out s m (restore-low s) h g)
 counted NonVectored out s map m h g = refl
 counted Vectored out s map m h g = refl
 counted Waits out s map m h g = let z : _≡_ {A = ℕ} 0 1 = cc in cc

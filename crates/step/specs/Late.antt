@@ -19,11 +19,11 @@ use Rattle.plate.specs.Plate.{formatOf}
 use Rattle.control.specs.Low.{lowCodes}
 use Rattle.format1.specs.Format1.{ien, format1, byNumber}
 use Rattle.step.specs.declared.Kind.{Kind}
-use Rattle.step.specs.declared.Kind.the-variants.{OpCode, Switched, NonVectored, Vectored}
+use Rattle.step.specs.declared.Kind.the-variants.{OpCode, NonVectored, Vectored}
 use Rattle.step.specs.declared.Cause.the-variants as Cause
 use Rattle.step.specs.Execute.{execute, byFormat, further}
 use Rattle.step.specs.Xct.{begun, trace, carry, traced, opWork}
-use Rattle.step.specs.Step.{After, after, raised, asked, hears, kindIn, kindOf, workOf, stepOf}
+use Rattle.step.specs.Step.{After, after, haltOption, raised, asked, hears, kindIn, kindOf, workOf, stepOf}
 use Rattle.step.specs.Ends.{step-well}
 
 -- a running processor comes to the op code that stands at its PC
@@ -59,7 +59,7 @@ unfolding kindIn
 held s out runs mark quiet =
     ap (λ z. kindIn z (hears s) out) runs
     ∙ ap (λ z. asked z out OpCode) (ap (λ z. s .i2 && not z) mark ∙ and-no (s .i2))
-    ∙ ap (λ z. cond z Switched OpCode) quiet
+    ∙ ap (λ z. cond z (haltOption (out .settings)) OpCode) quiet
 
 -- An unmarked state with I2 set hears them.
 pub unmarked-hears : (s : State) (out : Outside) → s .mode ≡ Running → s .i2 ≡ true → s .mark ≡ false → Asks out → kindOf s out ≡ heard out
@@ -67,7 +67,7 @@ unfolding kindIn
 unmarked-hears s out runs i2 mark a =
     ap (λ z. kindIn z (hears s) out) runs
     ∙ ap (λ z. asked z out OpCode) (ap (λ z. z && not (s .mark)) i2 ∙ ap not mark)
-    ∙ ap (λ z. cond z Switched (raised out OpCode)) (a .quiet)
+    ∙ ap (λ z. cond z (haltOption (out .settings)) (raised out OpCode)) (a .quiet)
     ∙ one-asks (out .i1) (out .i0) (a .asks)
 
 -- ---- the steps

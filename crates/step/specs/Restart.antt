@@ -1,5 +1,5 @@
 -- WHY CAUSE 7 IS NEVER GIVEN: a step that can't fetch 16 can't fetch 12 either. Both lie on page 0, and a read asks only that the page is fitted; so its bus error fails too, and it locks.
--- The same holds of all work that only reads page 0.
+-- The same holds of all work that only reads page 0, and so of the end of a save.
 use Prim.Native.Nat.{ℕ, _/_}
 use native.Mathlib.Omega.{arith}
 use mathlib.Core.Bool.{Bool, true, false}
@@ -15,6 +15,7 @@ use Rattle.state.specs.Stack.{push, pushBoth, fromLoc, trap}
 use Rattle.step.specs.declared.Kind.{Kind}
 use Rattle.step.specs.declared.Cause.{Cause}
 use Rattle.step.specs.declared.Cause.the-variants.{LockedAt}
+use Rattle.step.specs.Places.{placeOf, pickUp, pickUpRegisters, restore}
 use Rattle.step.specs.Step.{After, after, orElse, restart, past, kindOf, workOf, busError, errorCauseOf, errorOf, stepOf}
 use Rattle.step.specs.Ends.{step-ill}
 
@@ -23,10 +24,35 @@ pub data Low {A : Type 0} : Work A → Type 0 where
   gives : (x : A) → Low (give x)
   reads : (z : Size) (a : ℕ) {k : ℕ → Work A} → a / 256 ≡ 0 → ((v : ℕ) → Low (k v)) → Low (readAt z a k)
 
--- the end of a halt, and the switch
+-- the end of a halt, and the option that fetches from 16
 pub restart-low : (s : State) → Low (restart s)
 unfolding fromLoc _>>=_
 restart-low s = reads _ 0x16 refl (λ v. gives _)
+
+low-then : {A B : Type 0} {w : Work A} {f : A → Work B} → Low w → ((x : A) → Low (f x)) → Low (w >>= f)
+unfolding _>>=_
+low-then (gives x) g = g x
+low-then (reads z a e h) g = reads z a e (λ v. low-then (h v) g)
+
+pick-up-low : (s : State) (k : ℕ) → placeOf k / 256 ≡ 0 → Low (pickUp s k)
+unfolding pickUp _>>=_
+pick-up-low s k e = reads _ (placeOf k) e (λ v. gives _)
+
+-- the places, picked up at the end of a save and by an option of the power-up
+pub restore-low : (s : State) → Low (restore s)
+unfolding restore pickUpRegisters
+restore-low s =
+    low-then (low-then (pick-up-low s 0 refl) λ s.
+    low-then (pick-up-low s 1 refl) λ s.
+    low-then (pick-up-low s 2 refl) λ s.
+    low-then (pick-up-low s 3 refl) λ s.
+    low-then (pick-up-low s 4 refl) λ s.
+    low-then (pick-up-low s 5 refl) λ s.
+    low-then (pick-up-low s 6 refl) λ s.
+    pick-up-low s 7 refl)
+    λ s.
+    low-then (reads _ (placeOf 8) refl (λ v. gives v)) λ ps.
+    gives _
 
 -- 12 lies on page 0
 same-page : (map : List ℕ) (a : ℕ) → a / 256 ≡ 0 → fitted map a ≡ fitted map 0x12

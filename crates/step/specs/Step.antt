@@ -1,28 +1,40 @@
 -- One step.
-use Prim.Native.Nat.{ℕ}
+use Prim.Native.Nat.{ℕ, _+_, _*_, _%_}
 use mathlib.Core.Bool.{Bool, true, false, not, _&&_, cond}
-use mathlib.Core.List.{List}
+use mathlib.Core.List.{List, [], _∷_}
 use mathlib.Core.Path.{_≡_}
+use lib.ListN.{getD}
 use Rattle.board.specs.Work.{Work, give, Came, value, blank, run}
 use Rattle.board.specs.Bind.{_>>=_, _>>_}
-use Rattle.board.specs.Exec.{Store, Board}
+use Rattle.board.specs.Exec.{Store, Lent, Board}
 use Rattle.state.specs.declared.State.{State}
 use Rattle.state.specs.declared.Outside.{Outside}
 use Rattle.state.specs.declared.Settings.{Settings}
 use Rattle.state.specs.declared.Mode.{Mode}
-use Rattle.state.specs.declared.Mode.the-variants.{Running, Waiting, PowerHalt, SwitchHalt, Locked}
-use Rattle.state.specs.State.{withPc, withMode, psOf, cleared}
+use Rattle.state.specs.declared.Mode.the-variants.{Running, Waiting, PowerHalt, SwitchHalt, Locked, Saved}
+use Rattle.state.specs.State.{withPc, withMode, psOf, cleared, heard}
 use Rattle.word.specs.Address.{plus, twice}
 use Rattle.state.specs.Stack.{fromLoc, tabled, trap, trapNow}
 use Rattle.step.specs.Xct.{opWork}
+use Rattle.step.specs.Places.{save, restore}
 use Rattle.step.specs.declared.Turn.{Turn}
 use Rattle.step.specs.declared.Kind.{Kind}
-use Rattle.step.specs.declared.Kind.the-variants.{OpCode, HaltEnd, Switched, NonVectored, Vectored, Waits, Stuck}
+use Rattle.step.specs.declared.Kind.the-variants.{OpCode, HaltEnd, Boots, Saves, LocksUp, Restarts, Restores, NonVectored, Vectored, Waits, Stuck}
 use Rattle.step.specs.declared.Cause.{Cause}
 use Rattle.step.specs.declared.Cause.the-variants as Cause
-use Rattle.step.specs.declared.Cause.the-variants.{OpCodeBlank, InterruptBlank, LockedAt}
+use Rattle.step.specs.declared.Cause.the-variants.{OpCodeBlank, InterruptBlank, SaveBlank, LockedAt}
 use Rattle.step.specs.declared.Told.{Told}
 use Rattle.step.specs.declared.Told.the-variants.{Nowhere, At}
+
+-- ---- the options that the jumpers select
+
+-- 00 execute user bootstrap routine; 01 save R0 to R5, SP, PC and PS, wait until I3 is clear, restore; 10 lock up processor; 11 fetch new PC from 16
+unfoldable pub haltOption : Settings → Kind
+haltOption settings = getD (Boots ∷ Saves ∷ LocksUp ∷ []) (settings .halt) Restarts
+
+-- 00 execute user bootstrap routine; 01 pick up R0 to R5, SP, PC and PS; 10 execute selected halt option; 11 fetch PC from 16
+unfoldable pub powerUpOption : Settings → Kind
+powerUpOption settings = getD (Boots ∷ Restores ∷ haltOption settings ∷ []) (settings .powerup) Restarts
 
 -- ---- which kind of step it is: the first that applies
 
@@ -30,17 +42,19 @@ use Rattle.step.specs.declared.Told.the-variants.{Nowhere, At}
 abbrev pub raised : Outside → Kind → Kind
 raised out other = cond (out .i1) NonVectored (cond (out .i0) Vectored other)
 
--- 1. I3; then 2 and 3, where I0 and I1 are heard
+-- 1. I3 selects the halt option; then 2 and 3, where I0 and I1 are heard
 abbrev pub asked : Bool → Outside → Kind → Kind
-asked hearing out other = cond (out .i3) Switched (cond hearing (raised out other) other)
+asked hearing out other = cond (out .i3) (haltOption (out .settings)) (cond hearing (raised out other) other)
 
--- Halted on power fail ends where power fail is clear, halted for the switch where I3 is set. Locked: nothing changes.
+-- Halted on power fail ends where power fail is clear, whatever the jumpers; halted for the switch comes to the halt option where I3 is set.
+-- Locked: nothing changes. Saved ends where I3 is clear.
 unfoldable pub kindIn : Mode → Bool → Outside → Kind
 kindIn Running hearing out = asked hearing out OpCode
 kindIn Waiting hearing out = asked hearing out Waits
 kindIn PowerHalt hearing out = cond (out .fail) Waits HaltEnd
-kindIn SwitchHalt hearing out = cond (out .i3) Switched Waits
+kindIn SwitchHalt hearing out = cond (out .i3) (haltOption (out .settings)) Waits
 kindIn Locked hearing out = Stuck
+kindIn Saved hearing out = cond (out .i3) Waits Restores
 
 -- I0 and I1 are heard where I2 is set and no mark holds them off.
 abbrev pub hears : State → Bool
@@ -61,14 +75,22 @@ vectored out s = do
   s ← trapNow out s 0x28
   tabled s (plus (s .regs .pc) (twice (out .device)))
 
--- I3 and the end of a halt: PC from 16, running
+-- the end of a halt, and an option: PC from 16, running
 abbrev pub restart : State → Work State
 restart s = fromLoc (withMode s Running) 0x16
+
+-- C000 in PC, its bits 8 to 13 from the External Address Register; running
+abbrev pub bootstrap : Settings → State → State
+bootstrap settings s = withPc (withMode s Running) (0xc000 + settings .register % 64 * 256)
 
 unfoldable pub workOf : Kind → Outside → State → Work State
 workOf OpCode out s = opWork out s
 workOf HaltEnd out s = restart s
-workOf Switched out s = restart s
+workOf Boots out s = give (bootstrap (out .settings) s)
+workOf Saves out s = save out s
+workOf LocksUp out s = give (withMode s Locked)
+workOf Restarts out s = restart s
+workOf Restores out s = restore s
 workOf NonVectored out s = nonVectored out s
 workOf Vectored out s = vectored out s
 workOf Waits out s = give s
@@ -80,7 +102,11 @@ workOf Stuck out s = give s
 abbrev pub past : Kind → State → State
 past OpCode s = withPc s (plus (s .regs .pc) 2)
 past HaltEnd s = s
-past Switched s = s
+past Boots s = s
+past Saves s = s
+past LocksUp s = s
+past Restarts s = s
+past Restores s = s
 past NonVectored s = s
 past Vectored s = s
 past Waits s = s
@@ -92,7 +118,7 @@ busError k out s = trap (past k s) (psOf out true (past k s)) 0x12
 
 -- ---- causes
 
--- the page's number: 0 op code or its trap, 1 I3, 2 I1, 3 I0, 4 nothing done, 5 bus error in an op code, 6 in an interrupt, 8 locked, now or before; 7 is given to none
+-- the page's number: 0 op code or its trap, 1 I3, 2 I1, 3 I0, 4 nothing done, 5 bus error in an op code, 6 in an interrupt, 8 locked, now or before, 9 bus error in a save; 7 is given to none
 abbrev pub causeNumber : Cause → ℕ
 causeNumber Cause.OpCode = 0
 causeNumber Cause.Switch = 1
@@ -101,6 +127,7 @@ causeNumber Cause.Vectored = 3
 causeNumber Cause.Nothing = 4
 causeNumber (OpCodeBlank a) = 5
 causeNumber (InterruptBlank a) = 6
+causeNumber (SaveBlank a) = 9
 causeNumber (LockedAt a) = 8
 causeNumber Cause.Locked = 8
 
@@ -113,6 +140,7 @@ blankAt Cause.Vectored = Nowhere
 blankAt Cause.Nothing = Nowhere
 blankAt (OpCodeBlank a) = At a
 blankAt (InterruptBlank a) = At a
+blankAt (SaveBlank a) = At a
 blankAt (LockedAt a) = Nowhere
 blankAt Cause.Locked = Nowhere
 
@@ -132,24 +160,33 @@ addressOf Cause.Vectored = Nowhere
 addressOf Cause.Nothing = Nowhere
 addressOf (OpCodeBlank a) = At a
 addressOf (InterruptBlank a) = At a
+addressOf (SaveBlank a) = At a
 addressOf (LockedAt a) = At a
 addressOf Cause.Locked = Nowhere
 
--- the end of a halt is 1 after the switch, 0 after power fail
+-- a halt option is 1, and so is the end of a save; the end of a halt on power fail is 0; the lock-up option locks
 abbrev pub causeOf : Kind → Cause
 causeOf OpCode = Cause.OpCode
 causeOf HaltEnd = Cause.OpCode
-causeOf Switched = Cause.Switch
+causeOf Boots = Cause.Switch
+causeOf Saves = Cause.Switch
+causeOf LocksUp = Cause.Locked
+causeOf Restarts = Cause.Switch
+causeOf Restores = Cause.Switch
 causeOf NonVectored = Cause.NonVectored
 causeOf Vectored = Cause.Vectored
 causeOf Waits = Cause.Nothing
 causeOf Stuck = Cause.Locked
 
--- a bus error at the address a, where its trap succeeds. Where 16 can't be fetched it never does (Restart.antt); where nothing is done there is no bus error.
+-- a bus error at the address a, where its trap succeeds. Where 16 can't be fetched or the places can't be picked up it never does (Restart.antt); where nothing is read or written there is no bus error.
 abbrev pub errorCauseOf : Kind → ℕ → Cause
 errorCauseOf OpCode a = OpCodeBlank a
 errorCauseOf HaltEnd a = LockedAt a
-errorCauseOf Switched a = LockedAt a
+errorCauseOf Boots a = LockedAt a
+errorCauseOf Saves a = SaveBlank a
+errorCauseOf LocksUp a = LockedAt a
+errorCauseOf Restarts a = LockedAt a
+errorCauseOf Restores a = LockedAt a
 errorCauseOf NonVectored a = InterruptBlank a
 errorCauseOf Vectored a = InterruptBlank a
 errorCauseOf Waits a = LockedAt a
@@ -181,14 +218,23 @@ stepOf map out s m =
     let k = kindOf s out in
     orElse (run map (workOf k out s) m) (causeOf k) (errorOf map k out s m)
 
--- ---- power-up, the same at any setting: PC from 16; locked with PC 0 if page 0 is unfitted
+-- ---- power-up: the option's work on a cleared state and a quiet line
 
-abbrev pub orLocked : Came State → State
-orLocked (value s m) = s
-orLocked (blank a) = withMode cleared Locked
+-- the state and the image after it
+pub record Up : Type 0 where
+  pub state : State
+  pub image : List ℕ
 
-unfoldable pub powerUpOf : Settings → List ℕ → List ℕ → State
-powerUpOf settings map m = orLocked (run map (fromLoc cleared 0x16) m)
+abbrev pub up : State → List ℕ → Up
+up s m = record { state = s; image = m }
+
+-- At an unfitted address it is locked, PC and registers 0, and the image as lent.
+abbrev pub orLocked : Came State → List ℕ → Up
+orLocked (value s n) m = up s n
+orLocked (blank a) m = up (withMode cleared Locked) m
+
+unfoldable pub powerUpOf : Settings → List ℕ → List ℕ → Up
+powerUpOf settings map m = orLocked (run map (workOf (powerUpOption settings) (heard settings 0) cleared) m) m
 
 -- ---- what a step on a board promises
 
@@ -198,3 +244,8 @@ turnOf r m = after (r .state) m (r .cause)
 pub record Stepped (map : List ℕ) (a : After) (r : Turn) (st : Store) : Type 0 where
   pub turn : turnOf r (st .image) ≡ a
   pub board : Board map st
+
+-- and a power-up
+pub record Powered (map : List ℕ) (u : Up) (s : State) (m : List ℕ) : Type 0 where
+  pub came : up s m ≡ u
+  pub lent : Lent map m

@@ -10,7 +10,7 @@ use Rattle.state.specs.declared.Outside.{Outside}
 use Rattle.state.specs.declared.Mode.the-variants.{Locked}
 use Rattle.state.specs.State.{withMode}
 use Rattle.step.specs.declared.Kind.{Kind}
-use Rattle.step.specs.declared.Kind.the-variants.{OpCode, HaltEnd, Switched, NonVectored, Vectored, Waits, Stuck}
+use Rattle.step.specs.declared.Kind.the-variants.{OpCode, HaltEnd, Boots, Saves, LocksUp, Restarts, Restores, NonVectored, Vectored, Waits, Stuck}
 use Rattle.step.specs.declared.Cause.the-variants.{LockedAt}
 use Rattle.step.specs.declared.Told.{Told}
 use Rattle.step.specs.declared.Told.the-variants.{Nowhere, At}
@@ -62,7 +62,11 @@ stops map (writeAt z b v w) m h = found-stops (writes b) (writable map b) refl h
 told-in-none : (k : Kind) → addressOf (causeOf k) ≡ Nowhere
 told-in-none OpCode = refl
 told-in-none HaltEnd = refl
-told-in-none Switched = refl
+told-in-none Boots = refl
+told-in-none Saves = refl
+told-in-none LocksUp = refl
+told-in-none Restarts = refl
+told-in-none Restores = refl
 told-in-none NonVectored = refl
 told-in-none Vectored = refl
 told-in-none Waits = refl
@@ -71,7 +75,11 @@ told-in-none Stuck = refl
 told-in-error : (k : Kind) (a : ℕ) → addressOf (errorCauseOf k a) ≡ At a
 told-in-error OpCode a = refl
 told-in-error HaltEnd a = refl
-told-in-error Switched a = refl
+told-in-error Boots a = refl
+told-in-error Saves a = refl
+told-in-error LocksUp a = refl
+told-in-error Restarts a = refl
+told-in-error Restores a = refl
 told-in-error NonVectored a = refl
 told-in-error Vectored a = refl
 told-in-error Waits a = refl

@@ -1,4 +1,6 @@
 // One step, and power-up.
+use places::restore;
+use places::save;
 use state::Mode;
 use state::Outside;
 use state::Settings;
@@ -15,6 +17,7 @@ ghost use Rattle.plate.specs.Plate.{table};
 ghost use Rattle.step.specs.Step as Spec;
 
 mod execute;
+mod places;
 mod xct;
 
 // What is to be done after an op code's fetch: an op code to execute, traced or not; an XCT that is aborted.
@@ -24,11 +27,15 @@ pub(crate) enum Begun {
     Blank(u16),
 }
 
-// What a line word makes of a step: an op code, the end of a halt on power fail, I3, I1, I0; nothing is done; locked.
+// What a line word makes of a step: an op code; the end of a halt on power fail; bootstrap, save, lock-up, a fetch from 16, the end of a save; I1, I0; nothing is done; locked.
 pub(crate) enum Kind {
     OpCode,
     HaltEnd,
-    Switched,
+    Boots,
+    Saves,
+    LocksUp,
+    Restarts,
+    Restores,
     NonVectored,
     Vectored,
     Waits,
@@ -44,6 +51,7 @@ pub enum Cause {
     Nothing,
     OpCodeBlank(u16),
     InterruptBlank(u16),
+    SaveBlank(u16),
     LockedAt(u16),
     Locked,
 }
@@ -72,6 +80,7 @@ pub fn cause_number(cause: Cause) -> u8
         Cause::Nothing => 4,
         Cause::OpCodeBlank(_) => 5,
         Cause::InterruptBlank(_) => 6,
+        Cause::SaveBlank(_) => 9,
         Cause::LockedAt(_) => 8,
         Cause::Locked => 8,
     }
@@ -89,6 +98,7 @@ pub fn blank_at(cause: Cause) -> Told
         Cause::Nothing => Told::Nowhere,
         Cause::OpCodeBlank(at) => Told::At(at),
         Cause::InterruptBlank(at) => Told::At(at),
+        Cause::SaveBlank(at) => Told::At(at),
         Cause::LockedAt(_) => Told::Nowhere,
         Cause::Locked => Told::Nowhere,
     }
@@ -106,8 +116,35 @@ pub fn address_of(cause: Cause) -> Told
         Cause::Nothing => Told::Nowhere,
         Cause::OpCodeBlank(a) => Told::At(a),
         Cause::InterruptBlank(a) => Told::At(a),
+        Cause::SaveBlank(a) => Told::At(a),
         Cause::LockedAt(a) => Told::At(a),
         Cause::Locked => Told::Nowhere,
+    }
+}
+
+// What I3 selects, by the jumpers.
+fn halt_option(settings: Settings) -> Kind
+    ensures { λ r. ⌜ r ≡ Spec.haltOption settings ⌝ }
+{
+    let jumpers = settings.halt;
+    match jumpers {
+        0 => Kind::Boots,
+        1 => Kind::Saves,
+        2 => Kind::LocksUp,
+        _ => Kind::Restarts,
+    }
+}
+
+// What a power-up selects, by the jumpers.
+fn power_up_option(settings: Settings) -> Kind
+    ensures { λ r. ⌜ r ≡ Spec.powerUpOption settings ⌝ }
+{
+    let jumpers = settings.powerup;
+    match jumpers {
+        0 => Kind::Boots,
+        1 => Kind::Restores,
+        2 => halt_option(settings),
+        _ => Kind::Restarts,
     }
 }
 
@@ -124,12 +161,12 @@ fn raised(out: Outside, other: Kind) -> Kind
     other
 }
 
-// 1. I3; then 2 and 3, where I0 and I1 are heard.
+// 1. I3 selects the halt option; then 2 and 3, where I0 and I1 are heard.
 fn asked(hearing: bool, out: Outside, other: Kind) -> Kind
     ensures { λ r. ⌜ r ≡ Spec.asked hearing out other ⌝ }
 {
     if out.i3 {
-        return Kind::Switched;
+        return halt_option(out.settings);
     }
     if hearing {
         return raised(out, other);
@@ -144,12 +181,22 @@ fn power_halted(out: Outside) -> Kind
 }
 
 fn switch_halted(out: Outside) -> Kind
-    ensures { λ r. ⌜ r ≡ cond (out .i3) Kind.Switched Kind.Waits ⌝ }
+    ensures { λ r. ⌜ r ≡ cond (out .i3) (Spec.haltOption (out .settings)) Kind.Waits ⌝ }
 {
-    if out.i3 { Kind::Switched } else { Kind::Waits }
+    if out.i3 {
+        return halt_option(out.settings);
+    }
+    Kind::Waits
 }
 
-// Halted on power fail ends where power fail is clear, halted for the switch where I3 is set. Locked: nothing changes.
+fn saved(out: Outside) -> Kind
+    ensures { λ r. ⌜ r ≡ cond (out .i3) Kind.Waits Kind.Restores ⌝ }
+{
+    if out.i3 { Kind::Waits } else { Kind::Restores }
+}
+
+// Halted on power fail ends where power fail is clear, whatever the jumpers; halted for the switch comes to the halt option where I3 is set.
+// Locked: nothing changes. Saved ends where I3 is clear.
 fn kind_in(mode: Mode, hearing: bool, out: Outside) -> Kind
     ensures { λ r. ⌜ r ≡ Spec.kindIn mode hearing out ⌝ }
 {
@@ -159,6 +206,7 @@ fn kind_in(mode: Mode, hearing: bool, out: Outside) -> Kind
         Mode::PowerHalt => power_halted(out),
         Mode::SwitchHalt => switch_halted(out),
         Mode::Locked => Kind::Stuck,
+        Mode::Saved => saved(out),
     }
 }
 
@@ -189,12 +237,20 @@ fn vectored(s: State, image: &mut [u8], map: &[u8], log: &mut [u16; 32], out: Ou
     t.tabled(image, map, plus(t.regs.pc, plus(out.device, out.device)))
 }
 
-// I3 and the end of a halt: PC from 16, running.
+// The end of a halt, and an option: PC from 16, running.
 fn restart(s: State, image: &[u8], map: &[u8]) -> Went
     requires { ⌜ Lent (now map) (now image) ⌝ }
     ensures { λ r. ⌜ Saw (now (map .entry)) (Spec.restart s) (now (image .entry)) (wentAs r) ⌝ }
 {
     s.with_mode(Mode::Running).from_loc(image, map, 0x16)
+}
+
+// C000 in PC, its bits 8 to 13 from the External Address Register; running.
+fn bootstrap(settings: Settings, s: State) -> State
+    ensures { λ r. ⌜ r ≡ Spec.bootstrap settings s ⌝ }
+{
+    s.with_mode(Mode::Running)
+        .with_pc(0xc000 + settings.register as u16 % 64 * 256)
 }
 
 fn work(
@@ -212,8 +268,21 @@ fn work(
     match k {
         Kind::OpCode => op_work(s, image, map, log, out, sheet),
         Kind::HaltEnd => restart(s, image, map),
-        Kind::Switched => restart(s, image, map),
-        // Interrupts are seldom: their work stays out of line.
+        Kind::Boots => Went::Done(bootstrap(out.settings, s)),
+        // Options and interrupts are seldom: their work stays out of line.
+        Kind::Saves => {
+            let t = s;
+            let o = out;
+            let m = map;
+            state::apart(save(t, image, m, log, o))
+        }
+        Kind::LocksUp => Went::Done(s.with_mode(Mode::Locked)),
+        Kind::Restarts => restart(s, image, map),
+        Kind::Restores => {
+            let t = s;
+            let m = map;
+            state::apart(restore(t, image, m))
+        }
         Kind::NonVectored => {
             let t = s;
             let o = out;
@@ -237,7 +306,11 @@ fn cause_of(k: Kind) -> Cause
     match k {
         Kind::OpCode => Cause::OpCode,
         Kind::HaltEnd => Cause::OpCode,
-        Kind::Switched => Cause::Switch,
+        Kind::Boots => Cause::Switch,
+        Kind::Saves => Cause::Switch,
+        Kind::LocksUp => Cause::Locked,
+        Kind::Restarts => Cause::Switch,
+        Kind::Restores => Cause::Switch,
         Kind::NonVectored => Cause::NonVectored,
         Kind::Vectored => Cause::Vectored,
         Kind::Waits => Cause::Nothing,
@@ -245,14 +318,18 @@ fn cause_of(k: Kind) -> Cause
     }
 }
 
-// The cause of a bus error at an address, where its trap succeeds: never where 16 can't be fetched. Work that does nothing meets none.
+// The cause of a bus error at an address, where its trap succeeds: never where 16 can't be fetched or the places can't be picked up. Work that reads and writes nothing meets none.
 fn error_cause_of(k: Kind, a: u16) -> Cause
     ensures { λ r. ⌜ r ≡ Spec.errorCauseOf k a ⌝ }
 {
     match k {
         Kind::OpCode => Cause::OpCodeBlank(a),
         Kind::HaltEnd => Cause::LockedAt(a),
-        Kind::Switched => Cause::LockedAt(a),
+        Kind::Boots => Cause::LockedAt(a),
+        Kind::Saves => Cause::SaveBlank(a),
+        Kind::LocksUp => Cause::LockedAt(a),
+        Kind::Restarts => Cause::LockedAt(a),
+        Kind::Restores => Cause::LockedAt(a),
         Kind::NonVectored => Cause::InterruptBlank(a),
         Kind::Vectored => Cause::InterruptBlank(a),
         Kind::Waits => Cause::LockedAt(a),
@@ -267,7 +344,11 @@ fn past(k: Kind, s: State) -> State
     match k {
         Kind::OpCode => s.with_pc(plus(s.regs.pc, 2)),
         Kind::HaltEnd => s,
-        Kind::Switched => s,
+        Kind::Boots => s,
+        Kind::Saves => s,
+        Kind::LocksUp => s,
+        Kind::Restarts => s,
+        Kind::Restores => s,
         Kind::NonVectored => s,
         Kind::Vectored => s,
         Kind::Waits => s,
@@ -341,14 +422,19 @@ pub fn step_on(
     }
 }
 
-// PC from 16, at any setting; locked where page 0 is unfitted.
-pub fn power(image: &[u8], map: &[u8], settings: Settings) -> State
+// The option's work on a cleared state and a quiet line; at an unfitted address all of it is dropped, and the processor is locked.
+pub fn power(image: &mut [u8], map: &[u8], settings: Settings) -> State
     requires { ⌜ Lent (now map) (now image) ⌝ }
-    ensures { λ r. ⌜ r ≡ Spec.powerUpOf settings (now (map .entry)) (now (image .entry)) ⌝ }
+    ensures { λ r. ⌜ Spec.Powered (now (map .entry)) (Spec.powerUpOf settings (now (map .entry)) (now (image .entry))) r (now (image .exit)) ⌝ }
 {
+    let mut log = [0u16; 32];
+    let sheet = plate::PLATE;
     let s = state::cleared();
-    if let Went::Done(t) = s.from_loc(image, map, 0x16) {
+    let out = state::hear(settings, 0);
+    let k = power_up_option(settings);
+    if let Went::Done(t) = work(s, image, map, &mut log, out, &sheet, k) {
         return t;
     }
+    board::rollback(image, &mut log);
     s.with_mode(Mode::Locked)
 }

@@ -12,10 +12,13 @@ pub(crate) fn digit(b: bool) -> u16
     b as u16
 }
 
-pub fn form(power: bool, bus: bool, i2: bool, f: Flags) -> u16
-    ensures { λ r. ⌜ r ≡ formed power bus i2 f ⌝ }
+pub fn form(jumpers: u16, power: bool, bus: bool, i2: bool, f: Flags) -> u16
+    ensures { λ r. ⌜ r ≡ formed jumpers power bus i2 f ⌝ }
 {
-    let high = 0x0f00 + digit(power) * 0x8000 + digit(bus) * 0x4000 + digit(i2) * 0x1000;
+    let high = jumpers % 16 * 0x100
+        + digit(power) * 0x8000
+        + digit(bus) * 0x4000
+        + digit(i2) * 0x1000;
     high + digit(f.n) * 8 + digit(f.z) * 4 + digit(f.v) * 2 + digit(f.c)
 }
 

@@ -8,13 +8,13 @@ returns : tie.Need-returns
 returns c = up-bad _ _ _ _ (sym (c .before .refused-up .ensures) ∙ c .if1 .taken)
 
 put-state-requires : tie.Need-put-state-requires
-put-state-requires c κs = up-length _ _ (sym (c .before .before .before .before .before .before .before .refused-up .ensures) ∙ c .before .before .before .before .before .before .if1 .left)
+put-state-requires c κs = up-length _ _ (sym (c .before .before .before .before .before .before .before .before .before .before .refused-up .ensures) ∙ c .before .before .before .before .before .before .before .before .before .if1 .left)
 
 returns-2 : tie.Need-returns-2
-returns-2 c = up-done _ _ _ _ _ _ _ _ (sym (c .before .before .before .before .before .before .before .before .before .before .refused-up .ensures) ∙ c .before .before .before .before .before .before .before .before .before .if1 .left) (c .before .before .before .before .before .before .before .before .settings-from .ensures) (c .before .before .before .before .before .before .before .power-up .ensures) (c .before .before .before .before .before .s .given .1) (c .before .before .put-state .ensures)
+returns-2 c = up-done _ _ _ _ _ _ _ _ _ (sym (c .before .before .before .before .before .before .before .before .before .before .before .before .before .refused-up .ensures) ∙ c .before .before .before .before .before .before .before .before .before .before .before .before .if1 .left) (c .before .before .before .before .before .before .before .before .before .before .settings-from .ensures) (c .before .before .before .before .before .before .before .before .before .power-up .ensures) (c .before .before .before .before .before .s .given .1) (c .before .before .put-state .ensures)
 
 returns-3 : tie.Need-returns-3
-returns-3 c = up-refused _ _ _ _ _ _ _ (sym (c .before .before .before .before .before .before .refused-up .ensures) ∙ c .before .before .before .before .before .if1 .left) (c .before .before .before .before .settings-from .ensures) (c .before .before .before .power-up .ensures) (c .before .why .given .1)
+returns-3 c = up-refused _ _ _ _ _ _ _ _ (sym (c .before .before .before .before .before .before .before .before .before .refused-up .ensures) ∙ c .before .before .before .before .before .before .before .before .if1 .left) (c .before .before .before .before .before .before .settings-from .ensures) (c .before .before .before .before .before .power-up .ensures) (c .before .why .given .1)
 
 pub wd16-power-up-spec : {M : Type 1} → statement M
 wd16-power-up-spec =
@@ -29,6 +29,8 @@ wd16-power-up-spec =
     put-state-requires
     (λ c. search needs)
     (λ c. search needs)
+    (λ c. search needs)
     returns-2
+    (λ c. search needs)
     (λ c. search needs)
     returns-3)

@@ -6,11 +6,11 @@ use Rattle.refusal.proofs.run_refusal.Tie as tie
 
 returns : tie.Need-returns
 unfolding runRefusal
-returns c = rw (← c .before .board-refusal .ensures) (first-some _ _ (c .if1 .taken))
+returns c = rw (← c .before .power-refusal .ensures) (first-some _ _ (c .if1 .taken))
 
 returns-2 : tie.Need-returns-2
 unfolding runRefusal
-returns-2 c = rw (← c .before .before .board-refusal .ensures, c .before .if1 .left) (c .lines-refusal .ensures)
+returns-2 c = rw (← c .before .before .power-refusal .ensures, c .before .if1 .left) (c .lines-refusal .ensures)
 
 pub run-refusal-spec : {M : Type 1} → statement M
 run-refusal-spec = tie.close (tie.spec (λ c κs. search needs) returns (λ c κs. search needs) returns-2)

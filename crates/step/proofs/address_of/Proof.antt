@@ -13,6 +13,9 @@ returns-7 c = sym (ap addressOf (c .before .cause2 .given .1))
 returns-8 : tie.Need-returns-8
 returns-8 c = sym (ap addressOf (c .before .cause3 .given .1))
 
+returns-9 : tie.Need-returns-9
+returns-9 c = sym (ap addressOf (c .before .cause4 .given .1))
+
 pub address-of-spec : {M : Type 1} → statement M
 address-of-spec =
     tie.close
@@ -31,7 +34,9 @@ address-of-spec =
     (λ c. search needs)
     (λ c. search needs)
     (λ c. search needs)
+    (λ c. search needs)
     returns-6
     returns-7
     returns-8
+    returns-9
     (λ c. search needs))

@@ -10,6 +10,9 @@ returns-6 c = sym (ap blankAt (c .before .cause .given .1))
 returns-7 : tie.Need-returns-7
 returns-7 c = sym (ap blankAt (c .before .cause2 .given .1))
 
+returns-8 : tie.Need-returns-8
+returns-8 c = sym (ap blankAt (c .before .cause3 .given .1))
+
 pub blank-at-spec : {M : Type 1} → statement M
 blank-at-spec =
     tie.close
@@ -28,7 +31,9 @@ blank-at-spec =
     (λ c. search needs)
     (λ c. search needs)
     (λ c. search needs)
+    (λ c. search needs)
     returns-6
     returns-7
+    returns-8
     (λ c. search needs)
     (λ c. search needs))

@@ -23,6 +23,10 @@ returns-5 : tie.Need-returns-5
 unfolding kindIn
 returns-5 c = rw (c .enum-told5 .given .1)
 
+returns-6 : tie.Need-returns-6
+unfolding kindIn
+returns-6 c = rw (c .before .enum-told6 .given .1) (c .saved .ensures)
+
 pub kind-in-spec : {M : Type 1} → statement M
 kind-in-spec =
     tie.close
@@ -36,8 +40,11 @@ kind-in-spec =
     (λ c. search needs)
     (λ c κs. search needs)
     (λ c. search needs)
+    (λ c. search needs)
+    (λ c κs. search needs)
     returns
     returns-2
     returns-3
     returns-4
-    returns-5)
+    returns-5
+    returns-6)

@@ -11,8 +11,14 @@ op-work-requires c κs = c .before .before .before .before .before .before .pre
 restart-requires : tie.Need-restart-requires
 restart-requires c κs = c .before .before .before .before .before .pre .0 .lent
 
+save-requires : tie.Need-save-requires
+save-requires c κs = c .before .before .before .before .before .before .pre .0
+
 restart-requires-2 : tie.Need-restart-requires-2
 restart-requires-2 c κs = c .before .before .before .before .before .pre .0 .lent
+
+restore-requires : tie.Need-restore-requires
+restore-requires c κs = c .before .before .before .before .before .pre .0 .lent
 
 trap-now-requires : tie.Need-trap-now-requires
 trap-now-requires c κs = c .before .before .before .before .before .before .before .pre .0
@@ -25,53 +31,67 @@ same-length c = c .before .before .op-work .ensures .board .lent .size ∙ sym (
 
 returns : tie.Need-returns
 unfolding workOf
-returns c =
-    rw (c .before .before .before .before .before .enum-told .given .1)
+returns c = rw (c .before .before .before .before .before .enum-told .given .1)
     (record { got = c .before .before .op-work .ensures .got; board = c .before .before .op-work .ensures .board })
 
 returns-2 : tie.Need-returns-2
 unfolding workOf
-returns-2 c =
-    rw (c .before .before .enum-told2 .given .1)
+returns-2 c = rw (c .before .before .enum-told2 .given .1)
     (record { got = c .restart .ensures .got; board = c .before .before .before .before .before .before .pre .0 })
 
 returns-3 : tie.Need-returns-3
 unfolding workOf
-returns-3 c =
-    rw (c .before .before .enum-told3 .given .1)
-    (record { got = c .restart2 .ensures .got; board = c .before .before .before .before .before .before .pre .0 })
+returns-3 c = rw (c .before .enum-told3 .given .1)
+    (did refl (c .before .before .before .before .before .pre .0) (got-give (c .bootstrap .ensures)))
 
-same-length-4 : tie.Need-same-length-4
-same-length-4 c = c .before .before .before .trap-now .ensures .board .lent .size ∙ sym (c .before .before .before .before .before .before .before .before .before .before .before .pre .0 .lent .size)
+same-length-3 : tie.Need-same-length-3
+same-length-3 c = c .before .before .before .save .ensures .board .lent .size ∙ sym (c .before .before .before .before .before .before .before .before .before .before .pre .0 .lent .size)
 
 returns-4 : tie.Need-returns-4
 unfolding workOf
-returns-4 c =
-    rw (c .before .before .before .before .before .before .before .enum-told4 .given .1, c .apart .ensures)
-    (record { got = (rw (c .before .before .before .before .vector .ensures) at (c .before .before .before .trap-now .ensures)) .got; board = c .before .before .before .trap-now .ensures .board })
-
-same-length-5 : tie.Need-same-length-5
-same-length-5 c = c .before .before .before .vectored .ensures .board .lent .size ∙ sym (c .before .before .before .before .before .before .before .before .before .before .pre .0 .lent .size)
+returns-4 c = rw (c .before .before .before .before .before .before .enum-told4 .given .1, c .apart .ensures)
+    (record { got = c .before .before .before .save .ensures .got; board = c .before .before .before .save .ensures .board })
 
 returns-5 : tie.Need-returns-5
 unfolding workOf
-returns-5 c =
-    rw (c .before .before .before .before .before .before .enum-told5 .given .1, c .apart2 .ensures)
-    (record { got = c .before .before .before .vectored .ensures .got; board = c .before .before .before .vectored .ensures .board })
+returns-5 c = rw (c .before .enum-told5 .given .1)
+    (did refl (c .before .before .before .before .before .pre .0) (got-give (c .with-mode .ensures)))
 
 returns-6 : tie.Need-returns-6
 unfolding workOf
-returns-6 c =
-    rw (c .enum-told6 .given .1)
-    (did refl (c .before .before .before .before .pre .0)
-    (got-give refl))
+returns-6 c = rw (c .before .before .enum-told6 .given .1)
+    (record { got = c .restart2 .ensures .got; board = c .before .before .before .before .before .before .pre .0 })
 
 returns-7 : tie.Need-returns-7
 unfolding workOf
-returns-7 c =
-    rw (c .enum-told7 .given .1)
-    (did refl (c .before .before .before .before .pre .0)
-    (got-give refl))
+returns-7 c = rw (c .before .before .before .enum-told7 .given .1, c .apart2 .ensures)
+    (record { got = c .before .restore .ensures .got; board = c .before .before .before .before .before .before .before .pre .0 })
+
+same-length-6 : tie.Need-same-length-6
+same-length-6 c = c .before .before .before .trap-now .ensures .board .lent .size ∙ sym (c .before .before .before .before .before .before .before .before .before .before .before .pre .0 .lent .size)
+
+returns-8 : tie.Need-returns-8
+unfolding workOf
+returns-8 c = rw (c .before .before .before .before .before .before .before .enum-told8 .given .1, c .apart3 .ensures)
+    (record { got = (rw (c .before .before .before .before .vector .ensures) at (c .before .before .before .trap-now .ensures)) .got; board = c .before .before .before .trap-now .ensures .board })
+
+same-length-7 : tie.Need-same-length-7
+same-length-7 c = c .before .before .before .vectored .ensures .board .lent .size ∙ sym (c .before .before .before .before .before .before .before .before .before .before .pre .0 .lent .size)
+
+returns-9 : tie.Need-returns-9
+unfolding workOf
+returns-9 c = rw (c .before .before .before .before .before .before .enum-told9 .given .1, c .apart4 .ensures)
+    (record { got = c .before .before .before .vectored .ensures .got; board = c .before .before .before .vectored .ensures .board })
+
+returns-10 : tie.Need-returns-10
+unfolding workOf
+returns-10 c = rw (c .enum-told10 .given .1)
+    (did refl (c .before .before .before .before .pre .0) (got-give refl))
+
+returns-11 : tie.Need-returns-11
+unfolding workOf
+returns-11 c = rw (c .enum-told11 .given .1)
+    (did refl (c .before .before .before .before .pre .0) (got-give refl))
 
 pub work-spec : {M : Type 1} → statement M
 work-spec =
@@ -82,7 +102,17 @@ work-spec =
     (λ c. search needs)
     restart-requires
     (λ c. search needs)
+    (λ c κs. search needs)
+    (λ c. search needs)
+    save-requires
+    (λ c κs. search needs)
+    (λ c. search needs)
+    (λ c κs. search needs)
+    (λ c. search needs)
     restart-requires-2
+    (λ c. search needs)
+    restore-requires
+    (λ c κs. search needs)
     (λ c. search needs)
     (λ c κs. search needs)
     trap-now-requires
@@ -96,11 +126,17 @@ work-spec =
     returns
     (λ c. search needs)
     returns-2
-    (λ c. search needs)
     returns-3
-    same-length-4
+    same-length-3
     returns-4
-    same-length-5
     returns-5
+    (λ c. search needs)
     returns-6
-    returns-7)
+    (λ c. search needs)
+    returns-7
+    same-length-6
+    returns-8
+    same-length-7
+    returns-9
+    returns-10
+    returns-11)

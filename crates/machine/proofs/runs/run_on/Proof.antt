@@ -31,7 +31,7 @@ step-on-requires : tie.Need-step-on-requires Inv-loop μ-loop
 step-on-requires c κs = (c .before .before .before .before .before .before .loop .inv .3, c .before .before .before .before .before .before .loop .inv .4)
 
 cast-noted : tie.Need-cast-noted Inv-loop μ-loop
-cast-noted c = omega arith
+cast-noted c = omega (arith, c .before .before .before .before .before .before .before .before .before .before .before .before .before .before .pre .1, c .before .before .before .before .before .before .before .before .before .loop-test .taken)
 
 noted-requires : tie.Need-noted-requires Inv-loop μ-loop
 noted-requires c κs = omega (arith, c .before .before .before .before .before .before .before .before .before .before .before .loop .inv .1, c .before .before .before .before .before .before .before .before .before .before .before .before .before .before .before .pre .1, c .before .before .before .before .before .before .before .before .before .before .loop-test .taken)

@@ -5,7 +5,7 @@ use Rattle.state.proofs.State.ps.Tie as tie
 
 returns : tie.Need-returns
 unfolding psOf
-returns c = search needs
+returns c = rw (c .form .ensures, c .before .jumpers .ensures)
 
 pub ps-spec : {M : Type 1} → statement M
-ps-spec = tie.close (tie.spec (λ c κs. search needs) returns)
+ps-spec = tie.close (tie.spec (λ c κs. search needs) (λ c κs. search needs) returns)

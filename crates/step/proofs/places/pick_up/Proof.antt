@@ -1,0 +1,33 @@
+use Rattle.board.specs.Laws.{got-then, got-gone, got-give, word-is, word-none}
+use Rattle.state.specs.Answer.{word-lost}
+use Rattle.step.specs.Places.{pickUp}
+use borrow.Author.Needs.{needs}
+use Rattle.step.proofs.places.pick_up.Statement.{statement}
+use Rattle.step.proofs.places.pick_up.Tie as tie
+
+load-requires : tie.Need-load-requires
+load-requires c κs = c .before .before .before .pre
+
+returns : tie.Need-returns
+unfolding pickUp
+returns c = record { got = got-gone _ ((rw (c .before .before .before .before .plus .ensures) at (c .before .before .before .load .ensures)) .got) (word-none (c .before .enum-told .given .1)) (word-lost (c .unread .ensures) (c .before .enum-told .given .1)) }
+
+returns-2 : tie.Need-returns-2
+unfolding pickUp
+returns-2 c = record {
+  got = got-then _ ((rw (c .before .before .before .before .before .plus .ensures) at (c .before .before .before .before .load .ensures)) .got) (word-is (c .before .before .word .given .1))
+      (got-give (rw (c .with-reg .ensures)));
+}
+
+pub pick-up-spec : {M : Type 1} → statement M
+pick-up-spec =
+    tie.close
+    (tie.spec
+    (λ c κs. search needs)
+    load-requires
+    (λ c. search needs)
+    (λ c. search needs)
+    (λ c κs. search needs)
+    returns
+    (λ c κs. search needs)
+    returns-2)

@@ -1,0 +1,48 @@
+use Rattle.board.specs.Laws.{got-then, got-gone, got-give, word-is, word-none}
+use Rattle.state.specs.Answer.{went-is, went-none, word-lost}
+use Rattle.step.specs.Places.{restore}
+use borrow.Author.Needs.{needs}
+use Rattle.step.proofs.places.restore.Statement.{statement}
+use Rattle.step.proofs.places.restore.Tie as tie
+
+pick-up-registers-requires : tie.Need-pick-up-registers-requires
+pick-up-registers-requires c κs = c .before .before .pre
+
+returns : tie.Need-returns
+unfolding restore
+returns c = record { got = got-gone _ (c .before .before .pick-up-registers .ensures .got) (went-none (c .enum-told .given .1)) (went-none (c .enum-told .given .1)) }
+
+load-requires : tie.Need-load-requires
+load-requires c κs = c .before .before .before .before .before .before .pre
+
+returns-2 : tie.Need-returns-2
+unfolding restore
+returns-2 c = record {
+  got = got-then _ (c .before .before .before .before .before .before .before .pick-up-registers .ensures .got) (went-is (c .before .before .before .before .before .went .given .1))
+      (got-gone _ (c .before .before .before .load .ensures .got) (word-none (c .before .enum-told2 .given .1)) (word-lost (c .unread .ensures) (c .before .enum-told2 .given .1)));
+}
+
+returns-3 : tie.Need-returns-3
+unfolding restore
+returns-3 c = record {
+  got = got-then _ (c .before .before .before .before .before .before .before .before .before .pick-up-registers .ensures .got) (went-is (c .before .before .before .before .before .before .before .went .given .1))
+      (got-then _ (c .before .before .before .before .before .load .ensures .got) (word-is (c .before .before .before .word .given .1))
+      (got-give (rw (c .with-mode .ensures, c .before .with-status .ensures))));
+}
+
+pub restore-spec : {M : Type 1} → statement M
+restore-spec =
+    tie.close
+    (tie.spec
+    pick-up-registers-requires
+    (λ c. search needs)
+    (λ c. search needs)
+    returns
+    load-requires
+    (λ c. search needs)
+    (λ c. search needs)
+    (λ c κs. search needs)
+    returns-2
+    (λ c κs. search needs)
+    (λ c κs. search needs)
+    returns-3)

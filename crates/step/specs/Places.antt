@@ -1,0 +1,70 @@
+-- The nine places: R0 to R5, SP, PC and PS as words at 0 to 10 (hex). A halt option saves them, its end and a power-up option pick them up.
+use Prim.Native.Nat.{ℕ}
+use mathlib.Core.Bool.{false}
+use mathlib.Core.Path.{_≡_, refl}
+use Rattle.board.specs.Work.{Work, give, load}
+use Rattle.board.specs.Work as Work
+use Rattle.board.specs.Bind.{_>>=_, _>>_}
+use Rattle.board.specs.Exec.{Store, stateOf, keptAs}
+use Rattle.board.specs.declared.Kept.{Kept}
+use Rattle.board.specs.declared.Kept.the-variants as Kept
+use Rattle.state.specs.declared.State.{State}
+use Rattle.state.specs.declared.Outside.{Outside}
+use Rattle.state.specs.declared.Mode.the-variants.{Running, Saved}
+use Rattle.state.specs.State.{reg, withReg, withMode, withStatus, psOf}
+use Rattle.word.specs.Address.{twice}
+
+-- register k has place k; the ninth is that of PS
+abbrev pub placeOf : ℕ → ℕ
+placeOf k = twice k
+
+unfoldable pub keep : State → ℕ → Work (Unit {0})
+keep s k = Work.store (placeOf k) (reg s k)
+
+unfoldable pub pickUp : State → ℕ → Work State
+pickUp s k = do
+  v ← load (placeOf k)
+  give (withReg s k v)
+
+-- R0 to R5, SP, PC
+unfoldable pub keepRegisters : State → Work (Unit {0})
+keepRegisters s = do
+  keep s 0
+  keep s 1
+  keep s 2
+  keep s 3
+  keep s 4
+  keep s 5
+  keep s 6
+  keep s 7
+
+unfoldable pub pickUpRegisters : State → Work State
+pickUpRegisters s = do
+  s ← pickUp s 0
+  s ← pickUp s 1
+  s ← pickUp s 2
+  s ← pickUp s 3
+  s ← pickUp s 4
+  s ← pickUp s 5
+  s ← pickUp s 6
+  pickUp s 7
+
+-- Saved with the PS formed now; then nothing is done until I3 is clear.
+unfoldable pub save : Outside → State → Work State
+save out s = do
+  keepRegisters s
+  Work.store (placeOf 8) (psOf out false s)
+  give (withMode s Saved)
+
+-- Picked up, PS as if popped, and running.
+unfoldable pub restore : State → Work State
+restore s = do
+  s ← pickUpRegisters s
+  ps ← load (placeOf 8)
+  give (withMode (withStatus s ps) Running)
+
+-- ---- what the answers say
+
+pub kept-store : (r : Kept) {st : Store} → stateOf (keptAs r st) ≡ st
+kept-store Kept.Done = refl
+kept-store (Kept.Blank a) = refl

@@ -1,0 +1,143 @@
+// The nine places: R0 to R5, SP, PC and PS as words at 0 to 10 (hex), saved by a halt option and picked up again.
+use board::Kept;
+use board::Word;
+use state::Mode;
+use state::Outside;
+use state::State;
+use state::Went;
+use state::unread;
+use state::unwritten;
+use word::address::plus;
+ghost use mathlib.Core.Path.{_≡_};
+ghost use Rattle.board.specs.Exec.{beside, Lent, Board, Saw, Did, keptAs};
+ghost use Rattle.state.specs.Answer.{Works, wentAs};
+ghost use Rattle.step.specs.Places as Spec;
+
+// Register k is kept at its place.
+fn keep(s: State, image: &mut [u8], map: &[u8], log: &mut [u16; 32], k: u16) -> Kept
+    requires { ⌜ Board (now map) (beside (now image) (now log)) ⌝ }
+    ensures { λ r. ⌜ Did (now (map .entry)) (Spec.keep s k) (beside (now (image .entry)) (now (log .entry))) (keptAs r (beside (now (image .exit)) (now (log .exit)))) (beside (now (image .exit)) (now (log .exit))) ⌝ }
+{
+    board::store(image, map, log, plus(k, k), s.reg(k))
+}
+
+// Register k is picked up from its place.
+fn pick_up(s: State, image: &[u8], map: &[u8], k: u16) -> Went
+    requires { ⌜ Lent (now map) (now image) ⌝ }
+    ensures { λ r. ⌜ Saw (now (map .entry)) (Spec.pickUp s k) (now (image .entry)) (wentAs r) ⌝ }
+{
+    let word = board::load(image, map, plus(k, k));
+    let Word::Value(v) = word else {
+        return unread(word);
+    };
+    Went::Done(s.with_reg(k, v))
+}
+
+// R0 to R5, SP, PC.
+fn keep_registers(s: State, image: &mut [u8], map: &[u8], log: &mut [u16; 32]) -> Kept
+    requires { ⌜ Board (now map) (beside (now image) (now log)) ⌝ }
+    ensures { λ r. ⌜ Did (now (map .entry)) (Spec.keepRegisters s) (beside (now (image .entry)) (now (log .entry))) (keptAs r (beside (now (image .exit)) (now (log .exit)))) (beside (now (image .exit)) (now (log .exit))) ⌝ }
+{
+    let kept0 = keep(s, image, map, log, 0);
+    let Kept::Done = kept0 else {
+        return kept0;
+    };
+    let kept1 = keep(s, image, map, log, 1);
+    let Kept::Done = kept1 else {
+        return kept1;
+    };
+    let kept2 = keep(s, image, map, log, 2);
+    let Kept::Done = kept2 else {
+        return kept2;
+    };
+    let kept3 = keep(s, image, map, log, 3);
+    let Kept::Done = kept3 else {
+        return kept3;
+    };
+    let kept4 = keep(s, image, map, log, 4);
+    let Kept::Done = kept4 else {
+        return kept4;
+    };
+    let kept5 = keep(s, image, map, log, 5);
+    let Kept::Done = kept5 else {
+        return kept5;
+    };
+    let kept6 = keep(s, image, map, log, 6);
+    let Kept::Done = kept6 else {
+        return kept6;
+    };
+    keep(s, image, map, log, 7)
+}
+
+fn pick_up_registers(s: State, image: &[u8], map: &[u8]) -> Went
+    requires { ⌜ Lent (now map) (now image) ⌝ }
+    ensures { λ r. ⌜ Saw (now (map .entry)) (Spec.pickUpRegisters s) (now (image .entry)) (wentAs r) ⌝ }
+{
+    let went0 = pick_up(s, image, map, 0);
+    let Went::Done(s0) = went0 else {
+        return went0;
+    };
+    let went1 = pick_up(s0, image, map, 1);
+    let Went::Done(s1) = went1 else {
+        return went1;
+    };
+    let went2 = pick_up(s1, image, map, 2);
+    let Went::Done(s2) = went2 else {
+        return went2;
+    };
+    let went3 = pick_up(s2, image, map, 3);
+    let Went::Done(s3) = went3 else {
+        return went3;
+    };
+    let went4 = pick_up(s3, image, map, 4);
+    let Went::Done(s4) = went4 else {
+        return went4;
+    };
+    let went5 = pick_up(s4, image, map, 5);
+    let Went::Done(s5) = went5 else {
+        return went5;
+    };
+    let went6 = pick_up(s5, image, map, 6);
+    let Went::Done(s6) = went6 else {
+        return went6;
+    };
+    pick_up(s6, image, map, 7)
+}
+
+// Saved with the PS formed now; then nothing is done until I3 is clear.
+pub(crate) fn save(
+    s: State,
+    image: &mut [u8],
+    map: &[u8],
+    log: &mut [u16; 32],
+    out: Outside,
+) -> Went
+    requires { ⌜ Board (now map) (beside (now image) (now log)) ⌝ }
+    ensures { λ r. ⌜ Works (now (map .entry)) (Spec.save out s) (now (image .entry)) (now (log .entry)) r (now (image .exit)) (now (log .exit)) ⌝ }
+{
+    let registers = keep_registers(s, image, map, log);
+    let Kept::Done = registers else {
+        return unwritten(registers);
+    };
+    let status = board::store(image, map, log, 0x10, s.ps(out, false));
+    let Kept::Done = status else {
+        return unwritten(status);
+    };
+    Went::Done(s.with_mode(Mode::Saved))
+}
+
+// Picked up, PS as if popped, and running.
+pub(crate) fn restore(s: State, image: &[u8], map: &[u8]) -> Went
+    requires { ⌜ Lent (now map) (now image) ⌝ }
+    ensures { λ r. ⌜ Saw (now (map .entry)) (Spec.restore s) (now (image .entry)) (wentAs r) ⌝ }
+{
+    let went = pick_up_registers(s, image, map);
+    let Went::Done(t) = went else {
+        return went;
+    };
+    let word = board::load(image, map, 0x10);
+    let Word::Value(ps) = word else {
+        return unread(word);
+    };
+    Went::Done(t.with_status(ps).with_mode(Mode::Running))
+}
