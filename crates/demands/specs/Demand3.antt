@@ -79,7 +79,7 @@ module _ (settings : Settings) (m map : List ℕ) (line : ℕ) (s : State) (r : 
   )
 
   pub step-fitted : {t : State} {n : List ℕ} → cameAt settings map line s m ≡ value t n → (isBlank (stepOf map (heard settings line) s m .cause) ≡ false) × (p .cause ≡ causeNumber (stepOf map (heard settings line) s m .cause))
-  step-fitted h = (value-no-blank map (heard settings line) s m h, cause-is _ (step-answer settings m map line s (ap (λ z. left z m′) (sym d) ∙ e) .1))
+  step-fitted h = (value-no-blank map (heard settings line) s m h, cause-is (stepOf map (heard settings line) s m) (step-answer settings m map line s (ap (λ z. left z m′) (sym d) ∙ e) .1))
 
 -- ---- A RUN'S COUNT OF BLANKS is the number of its steps with cause 5 or 6, its first place the least of theirs, with the address told there
 
