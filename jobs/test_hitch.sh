@@ -120,5 +120,12 @@ P
 echo 1 >"$made/status"
 ends 3 '' $'hitch: board proved (2 s)\n'"$(cat "$made/proof")"$'\nhitch: bench is not proved' proof jobs/example.txt
 
+# The text of op codes.
+spoken='hitch: text is compiled without proof'
+printf 'ADD #0005,R0\n0E0A\n' >"$made/good.text"
+printf 'MOV  R0\n' >"$made/bad.text"
+ends 0 $'15C0 0005\nMBWU R1,R2' "$spoken" ./hitch text --unproved "$made/good.text"
+ends 1 $'MOV  R0\n    ^ bad operand (refusal 30 at column 4)' "$spoken" ./hitch text --unproved <"$made/bad.text"
+
 [ "$wrong" = 0 ] || exit 1
 echo "hitch: $cases cases ok"
