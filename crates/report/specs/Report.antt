@@ -12,9 +12,9 @@ use Rattle.line.specs.declared.Place.{Place}
 use Rattle.line.specs.declared.Place.the-variants as Place
 use Rattle.line.specs.Line.{lineText}
 
--- bench runs with the third microm fitted
+-- bench runs with the third microm fitted and the jumpers 11 and 11
 abbrev pub benchBoard : Settings
-benchBoard = record { blocks = true }
+benchBoard = record { blocks = true; powerup = 3; halt = 3; register = 0 }
 
 abbrev pub placeOf : First → Place
 placeOf (First.At place address) = Place.At place

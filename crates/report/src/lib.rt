@@ -9,11 +9,16 @@ ghost use Rattle.line.specs.Line.{left, written};
 ghost use Rattle.machine.specs.Numbers.{registers};
 ghost use Rattle.report.specs.Report as Spec;
 
-// How bench's board is set up: the third microm is fitted.
+// How bench's board is set up: the third microm is fitted, the jumpers are 11 and 11.
 pub fn bench_board() -> Settings
     ensures { λ r. ⌜ r ≡ Spec.benchBoard ⌝ }
 {
-    Settings { blocks: true }
+    Settings {
+        blocks: true,
+        powerup: 3,
+        halt: 3,
+        register: 0,
+    }
 }
 
 // The registers in the line's order.

@@ -7,10 +7,11 @@ use native.Mathlib.Omega.{arith}
 use lib.ListN.{length, take}
 use Rattle.state.specs.declared.State.{State}
 use Rattle.state.specs.declared.Settings.{Settings}
-use Rattle.step.specs.Step.{powerUpOf}
+use Rattle.step.specs.Step.{Up, up, powerUpOf}
+use Rattle.step.specs.Jumpers.{same-power}
 use Rattle.words.specs.Words.{wordAt}
 use Rattle.refusal.specs.Page.{Page, refused, answered, first-both, unless, apart, refused-one, answered-one}
-use Rattle.refusal.specs.Refusal.{boardRefusal, linesRefusal, runRefusal}
+use Rattle.refusal.specs.Refusal.{powerRefusal, linesRefusal, runRefusal}
 use Rattle.machine.specs.declared.Ran.{Ran}
 use Rattle.machine.specs.declared.Powered.{Powered}
 use Rattle.machine.specs.declared.Powered.the-variants as Powered
@@ -18,7 +19,7 @@ use Rattle.machine.specs.declared.Finished.{Finished}
 use Rattle.machine.specs.declared.Finished.the-variants as Finished
 use Rattle.machine.specs.Run.{End, end, runOf, ranOf}
 use Rattle.machine.specs.Numbers.{statePage}
-use Rattle.machine.specs.Entry.{left, poweredPage, powerUpPage, finishedPage, ended, runPage}
+use Rattle.machine.specs.Entry.{left, powerWhy, runWhy, powered, poweredPage, powerUpPage, finishedPage, ended, runPage}
 use Rattle.machine.specs.Back.{state-one}
 use Rattle.machine.specs.Answered.{power-answer, run-done}
 use Rattle.job.specs.declared.Answer.{Answer}
@@ -38,9 +39,9 @@ module _ (m map lines : List ℕ) (s : State) (board : Settings) where
       let x : ranOf ran m′ ≡ runOf benchBoard map lines s m = run-done benchBoard m map lines s ran m′ (ap (λ z. left (finishedPage z) m′) (sym d) ∙ e ∙ ap (λ z. runPage z m map lines s) g) .1 in
       (h ∙ ap (lineAt text) x, ap imageAt x)
 
-  pub from-refused : {A : Type 0} (r : Finished) (why : ℕ) (m′ : List ℕ) → runRefusal (length m) map lines ≡ 0 → left (finishedPage r) m′ ≡ runPage board m map lines s → r ≡ Finished.Refused why → A
+  pub from-refused : {A : Type 0} (r : Finished) (why : ℕ) (m′ : List ℕ) → board ≡ benchBoard → runWhy benchBoard m map lines ≡ 0 → left (finishedPage r) m′ ≡ runPage board m map lines s → r ≡ Finished.Refused why → A
   unfolding runPage
-  from-refused r why m′ n e d = absurd (split (runOf board map lines s m) (rw (n, d) at e))
+  from-refused r why m′ g n e d = absurd (split (runOf benchBoard map lines s m) (rw (g, n, d) at e))
     where
       split : (x : End) → left (refused why) m′ ≡ ended x → ⊥
       split (end t k y) e = apart (sym (ap (λ z. z .page) e))
@@ -48,14 +49,27 @@ module _ (m map lines : List ℕ) (s : State) (board : Settings) where
 -- ---- power-up
 
 module _ (m map : List ℕ) (board : Settings) where
-  pub up-done : (s : State) (r : Powered) → board ≡ benchBoard → poweredPage r ≡ powerUpPage board m map → r ≡ Powered.Up s → s ≡ powerUpOf benchBoard map m
-  up-done s r g e d = state-one s (powerUpOf benchBoard map m) (power-answer benchBoard m map (statePage s) (ap poweredPage (sym d) ∙ e ∙ ap (λ z. powerUpPage z m map) g) .1)
+  pub up-done : (s : State) (r : Powered) (m′ : List ℕ) → board ≡ benchBoard → left (poweredPage r) m′ ≡ powerUpPage board m map → r ≡ Powered.Up s → up s m′ ≡ powerUpOf benchBoard map m
+  up-done s r m′ g e d =
+      let h : left (answered (statePage s)) m′ ≡ powered (powerUpOf benchBoard map m) = power-answer benchBoard m map (ap (λ z. left (poweredPage z) m′) (sym d) ∙ e ∙ ap (λ z. powerUpPage z m map) g) .1 in
+      let state : s ≡ powerUpOf benchBoard map m .state = state-one s (powerUpOf benchBoard map m .state) (answered-one (ap (λ z. z .page) h)) in
+      let image : m′ ≡ powerUpOf benchBoard map m .image = ap (λ z. z .image) h in
+      rw (state, image)
 
-  pub up-refused : {A : Type 0} (lines : List ℕ) (r : Powered) (why : ℕ) → runRefusal (length m) map lines ≡ 0 → poweredPage r ≡ powerUpPage board m map → r ≡ Powered.Refused why → A
+  -- with the jumpers 11 it writes nothing
+  up-kept : (s : State) (m′ : List ℕ) → up s m′ ≡ powerUpOf benchBoard map m → m′ ≡ m
+  up-kept s m′ e = ap (λ z. z .image) e ∙ ap (λ z. z .image) (same-power benchBoard map m (record { powerup = refl; halt = refl }))
+
+  -- and the run after it is refused no more than before it
+  pub up-taken : (lines : List ℕ) (s : State) (r : Powered) (m′ : List ℕ) → board ≡ benchBoard → left (poweredPage r) m′ ≡ powerUpPage board m map → r ≡ Powered.Up s
+      → runWhy benchBoard m map lines ≡ 0 → runWhy benchBoard m′ map lines ≡ 0
+  up-taken lines s r m′ g e d n = rw (up-kept s m′ (up-done s r m′ g e d)) n
+
+  pub up-refused : {A : Type 0} (lines : List ℕ) (r : Powered) (why : ℕ) (m′ : List ℕ) → board ≡ benchBoard → runWhy benchBoard m map lines ≡ 0 → left (poweredPage r) m′ ≡ powerUpPage board m map → r ≡ Powered.Refused why → A
   unfolding powerUpPage runRefusal
-  up-refused lines r why n e d =
-      let none = first-both (boardRefusal (length m) map) (linesRefusal lines) n .0 in
-      absurd (apart (sym (rw (none, d) at e)))
+  up-refused lines r why m′ g n e d =
+      let none : powerWhy benchBoard m map ≡ 0 = first-both (powerWhy benchBoard m map) (linesRefusal lines) n .0 in
+      absurd (apart (sym (ap (λ z. z .page) (rw (g, none, d) at e))))
 
 -- ---- a job
 
@@ -79,9 +93,9 @@ module _ (input image map lines : List ℕ) where
       split (suc why) n e = absurd (apart (ap (λ z. z .page) e))
 
   -- its board and its line words are not refused
-  pub read-taken : {image′ map′ lines′ : List ℕ} {count : ℕ} → Read image′ map′ lines′ count → (count ≤ length lines′) × (runRefusal (length image′) map′ (take count lines′) ≡ 0)
+  pub read-taken : {image′ map′ lines′ : List ℕ} {count : ℕ} → Read image′ map′ lines′ count → (count ≤ length lines′) × (runWhy benchBoard image′ map′ (take count lines′) ≡ 0)
   unfolding lineWords
-  read-taken h = rw (h .countIs, h .imageIs, h .mapIs, h .linesIs) (job-taken input (length image) (length map) (length lines) (h .none))
+  read-taken h = rw (h .countIs, h .imageIs, h .mapIs, h .linesIs) (job-taken input (benchBoard .powerup) (benchBoard .halt) (benchBoard .register) (length image) (length map) (length lines) refl (h .none))
 
   pub job-done : (text : List ℕ) {image′ map′ lines′ : List ℕ} {count : ℕ} (w : Left) (m : List ℕ) → Read image′ map′ lines′ count
       → (w ≡ lineAt text (fromPowerUp map′ (take count lines′) image′)) × (m ≡ imageAt (fromPowerUp map′ (take count lines′) image′))

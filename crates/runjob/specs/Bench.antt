@@ -28,7 +28,7 @@ imageAt (end s m t) = m
 
 -- powers up, runs over the line words
 abbrev pub fromPowerUp : List ℕ → List ℕ → List ℕ → End
-fromPowerUp map lines image = runOf benchBoard map lines (powerUpOf benchBoard map image) image
+fromPowerUp map lines image = let u = powerUpOf benchBoard map image in runOf benchBoard map lines (u .state) (u .image)
 
 unfoldable pub runIn : List ℕ → End
 runIn input = fromPowerUp (mapOf input) (lineWords input) (imageOf input)

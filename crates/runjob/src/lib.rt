@@ -7,14 +7,14 @@ ghost use mathlib.Core.Path.{_≡_};
 ghost use Prim.Native.Nat.{_≤_};
 ghost use lib.ListN.{length, take};
 ghost use Rattle.line.specs.Line.{left};
+ghost use Rattle.machine.specs.Entry.{runWhy};
 ghost use Rattle.machine.specs.Run.{runOf};
-ghost use Rattle.refusal.specs.Refusal.{runRefusal};
 ghost use Rattle.report.specs.Report.{benchBoard};
 ghost use Rattle.runjob.specs.Bench as Spec;
 
 // Runs over line words from a state, on bench's board.
 fn run_from(text: &mut [u8], s: State, image: &mut [u8], map: &[u8], lines: &[u16]) -> usize
-    requires { ⌜ runRefusal (length (now image)) (now map) (now lines) ≡ 0 ⌝ }
+    requires { ⌜ runWhy benchBoard (now image) (now map) (now lines) ≡ 0 ⌝ }
     ensures { λ r. ⌜ (left r (now (text .exit)) ≡ Spec.lineAt (now (text .entry)) (runOf benchBoard (now (map .entry)) (now (lines .entry)) s (now (image .entry))))
         × (now (image .exit) ≡ Spec.imageAt (runOf benchBoard (now (map .entry)) (now (lines .entry)) s (now (image .entry)))) ⌝ }
 {
@@ -26,7 +26,7 @@ fn run_from(text: &mut [u8], s: State, image: &mut [u8], map: &[u8], lines: &[u1
 
 // The same from power-up.
 fn run_up(text: &mut [u8], image: &mut [u8], map: &[u8], lines: &[u16]) -> usize
-    requires { ⌜ runRefusal (length (now image)) (now map) (now lines) ≡ 0 ⌝ }
+    requires { ⌜ runWhy benchBoard (now image) (now map) (now lines) ≡ 0 ⌝ }
     ensures { λ r. ⌜ (left r (now (text .exit)) ≡ Spec.lineAt (now (text .entry)) (Spec.fromPowerUp (now (map .entry)) (now (lines .entry)) (now (image .entry))))
         × (now (image .exit) ≡ Spec.imageAt (Spec.fromPowerUp (now (map .entry)) (now (lines .entry)) (now (image .entry)))) ⌝ }
 {
@@ -38,7 +38,7 @@ fn run_up(text: &mut [u8], image: &mut [u8], map: &[u8], lines: &[u16]) -> usize
 
 // The same over the first line words of the buffer.
 fn run_first(text: &mut [u8], image: &mut [u8], map: &[u8], lines: &[u16], count: u16) -> usize
-    requires { ⌜ (count ≤ length (now lines)) × (runRefusal (length (now image)) (now map) (take count (now lines)) ≡ 0) ⌝ }
+    requires { ⌜ (count ≤ length (now lines)) × (runWhy benchBoard (now image) (now map) (take count (now lines)) ≡ 0) ⌝ }
     ensures { λ r. ⌜ (left r (now (text .exit)) ≡ Spec.lineAt (now (text .entry)) (Spec.fromPowerUp (now (map .entry)) (take count (now (lines .entry))) (now (image .entry))))
         × (now (image .exit) ≡ Spec.imageAt (Spec.fromPowerUp (now (map .entry)) (take count (now (lines .entry))) (now (image .entry)))) ⌝ }
 {

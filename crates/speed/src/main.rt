@@ -134,7 +134,7 @@ fn repeat(name: &[u8], s: State, image: &mut [u8; 65536], map: &[u8; 256], runs:
     print_end(name, last, blanks, image);
 }
 
-fn powered(image: &[u8; 65536], map: &[u8; 256]) -> Powered {
+fn powered(image: &mut [u8; 65536], map: &[u8; 256]) -> Powered {
     machine::power_up(image, map, report::bench_board())
 }
 
@@ -144,7 +144,7 @@ fn measure(name: &[u8], pages: &[u8], words: &[u32], runs: u16) {
     let mut map = [0u8; 256];
     fit(&mut map, pages);
     put(&mut image, words);
-    if let Powered::Up(s) = powered(&image, &map) {
+    if let Powered::Up(s) = powered(&mut image, &map) {
         repeat(name, s, &mut image, &map, runs);
     }
 }

@@ -52,10 +52,10 @@ fn read(p: Progress, text: &[u8]) -> Deed {
     deed_at(next_place(p.column, p.words), hex(text))
 }
 
-// One step on the board, all of whose pages are fitted, and the third microm.
+// One step on the board, all of whose pages are fitted, and the third microm; its jumpers are 11 and 11.
 fn step(state: &mut [u8], image: &mut [u8], line: u16) -> bool {
     let map = [1u8; 256];
-    let settings = [1u8];
+    let settings = [1u8, 3, 3, 0];
     firmware::wd16_step(state, image, &map, &settings, line) == 0
 }
 

@@ -1,13 +1,16 @@
-use Rattle.runjob.proofs.Laws.{up-done, up-refused}
+use Rattle.runjob.proofs.Laws.{up-done, up-taken, up-refused}
 use borrow.Author.Needs.{needs}
 use Rattle.runjob.proofs.run_up.Statement.{statement}
 use Rattle.runjob.proofs.run_up.Tie as tie
 
+run-from-requires : tie.Need-run-from-requires
+run-from-requires c κs = up-taken _ _ _ _ _ _ _ (c .before .before .before .before .before .before .before .before .bench-board .ensures) (c .before .before .before .before .before .before .before .power-up .ensures) (c .before .before .before .s .given .1) (c .before .before .before .before .before .before .before .before .before .before .before .before .before .before .pre)
+
 returns : tie.Need-returns
-returns c = rw (← up-done _ _ _ _ _ (c .before .before .before .before .before .before .before .before .before .before .before .bench-board .ensures) (c .before .before .before .before .before .before .before .before .before .before .power-up .ensures) (c .before .before .before .before .before .before .before .before .s .given .1)) (c .before .before .before .before .run-from .ensures)
+returns c = rw (← up-done _ _ _ _ _ _ (c .before .before .before .before .before .before .before .before .before .before .before .before .before .bench-board .ensures) (c .before .before .before .before .before .before .before .before .before .before .before .before .power-up .ensures) (c .before .before .before .before .before .before .before .before .s .given .1)) (c .before .before .before .before .run-from .ensures)
 
 returns-2 : tie.Need-returns-2
-returns-2 c = up-refused _ _ _ _ _ _ (c .before .before .before .before .before .before .before .before .before .before .before .before .before .before .pre) (c .before .before .before .before .before .before .before .power-up .ensures) (c .before .before .before .before .before .why .given .1)
+returns-2 c = up-refused _ _ _ _ _ _ _ (c .before .before .before .before .before .before .before .before .before .before .bench-board .ensures) (c .before .before .before .before .before .before .before .before .before .before .before .before .before .before .before .before .pre) (c .before .before .before .before .before .before .before .before .before .power-up .ensures) (c .before .before .before .before .before .why .given .1)
 
 pub run-up-spec : {M : Type 1} → statement M
 run-up-spec =
@@ -16,7 +19,7 @@ run-up-spec =
     (λ c κs. search needs)
     (λ c κs. search needs)
     (λ c. search needs)
-    (λ c κs. search needs)
+    run-from-requires
     (λ c. search needs)
     (λ c κs. search needs)
     (λ c. search needs)
