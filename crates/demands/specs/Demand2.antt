@@ -7,36 +7,38 @@ use mathlib.Core.List.{List}
 use mathlib.Core.Path.{_≡_, sym, ap, _∙_}
 use lib.ListN.{length, getD, take}
 use Rattle.state.specs.declared.State.{State}
+use Rattle.state.specs.declared.Settings.{Settings}
 use Rattle.state.specs.State.{heard}
+use Rattle.step.specs.declared.Cause.the-variants as Cause
 use Rattle.step.specs.Step.{After, after, stepOf, powerUpOf}
 use Rattle.refusal.specs.Page.{answered}
 use Rattle.machine.specs.declared.Powered.{Powered}
 use Rattle.machine.specs.declared.Stepped.{Stepped}
 use Rattle.machine.specs.declared.Finished.{Finished}
-use Rattle.machine.specs.Numbers.{StatePage, statePage, TurnPage, RanPage}
-use Rattle.machine.specs.Entry.{poweredPage, powerUpPage, left, steppedPage, turned, stepPage, finishedPage, runPage}
+use Rattle.machine.specs.Numbers.{StatePage, TurnPage, RanPage}
+use Rattle.machine.specs.Entry.{poweredPage, powered, powerUpPage, left, steppedPage, turned, stepPage, finishedPage, runPage}
 use Rattle.machine.specs.Trail.{trailOf, lastOf}
 use Rattle.machine.specs.Counted.{trail-length, trail-at}
 use Rattle.machine.specs.Answered.{power-answer, step-answer, shown, run-answer}
 
--- POWER-UP
-pub power-up-is : (m map : List ℕ) (r : Powered) (p : StatePage) → poweredPage r ≡ powerUpPage m map → poweredPage r ≡ answered p
-    → p ≡ statePage (powerUpOf map m)
-power-up-is m map r p e d = power-answer m map p (sym d ∙ e) .1
+-- POWER-UP: the state and the image after it
+pub power-up-is : (settings : Settings) (m map : List ℕ) (r : Powered) (m′ : List ℕ) (p : StatePage) → left (poweredPage r) m′ ≡ powerUpPage settings m map → poweredPage r ≡ answered p
+    → left (answered p) m′ ≡ powered (powerUpOf settings map m)
+power-up-is settings m map r m′ p e d = power-answer settings m map (ap (λ z. left z m′) (sym d) ∙ e) .1
 
 -- A STEP: the state, the cause and the image after it
-pub step-is : (m map : List ℕ) (line : ℕ) (s : State) (r : Stepped) (m′ : List ℕ) (p : TurnPage) → left (steppedPage r) m′ ≡ stepPage m map line s → steppedPage r ≡ answered p
-    → left (answered p) m′ ≡ turned (stepOf map (heard line) s m)
-step-is m map line s r m′ p e d = step-answer m map line s (ap (λ z. left z m′) (sym d) ∙ e) .1
+pub step-is : (settings : Settings) (m map : List ℕ) (line : ℕ) (s : State) (r : Stepped) (m′ : List ℕ) (p : TurnPage) → left (steppedPage r) m′ ≡ stepPage settings m map line s → steppedPage r ≡ answered p
+    → left (answered p) m′ ≡ turned (stepOf map (heard settings line) s m)
+step-is settings m map line s r m′ p e d = step-answer settings m map line s (ap (λ z. left z m′) (sym d) ∙ e) .1
 
 -- A RUN: what its trail shows, the state and the image at its end, and its blanks
-pub run-is : (m map lines : List ℕ) (s : State) (r : Finished) (m′ : List ℕ) (p : RanPage) → left (finishedPage r) m′ ≡ runPage m map lines s → finishedPage r ≡ answered p
-    → left (answered p) m′ ≡ shown map lines s m
-run-is m map lines s r m′ p e d = run-answer m map lines s (ap (λ z. left z m′) (sym d) ∙ e) .1
+pub run-is : (settings : Settings) (m map lines : List ℕ) (s : State) (r : Finished) (m′ : List ℕ) (p : RanPage) → left (finishedPage r) m′ ≡ runPage settings m map lines s → finishedPage r ≡ answered p
+    → left (answered p) m′ ≡ shown settings map lines s m
+run-is settings m map lines s r m′ p e d = run-answer settings m map lines s (ap (λ z. left z m′) (sym d) ∙ e) .1
 
 -- ITS TRAIL has a step for each line word, and each is the step over its line word from where the steps before it end
-pub trail-is : (map lines : List ℕ) (s : State) (m : List ℕ)
-    → (length (trailOf map lines s m) ≡ length lines)
-    × ((k : ℕ) → k < length lines → (let b = lastOf (after s m 0) (take k (trailOf map lines s m)) in
-    (d : After) → getD (trailOf map lines s m) k d ≡ stepOf map (heard (getD lines k 0)) (b .state) (b .image)))
-trail-is map lines s m = (trail-length map lines s m, λ k h d. trail-at map lines s m 0 d k h)
+pub trail-is : (settings : Settings) (map lines : List ℕ) (s : State) (m : List ℕ)
+    → (length (trailOf settings map lines s m) ≡ length lines)
+    × ((k : ℕ) → k < length lines → (let b = lastOf (after s m Cause.Nothing) (take k (trailOf settings map lines s m)) in
+    (d : After) → getD (trailOf settings map lines s m) k d ≡ stepOf map (heard settings (getD lines k 0)) (b .state) (b .image)))
+trail-is settings map lines s m = (trail-length settings map lines s m, λ k h d. trail-at settings map lines s m Cause.Nothing d k h)

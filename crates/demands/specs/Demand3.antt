@@ -4,85 +4,89 @@ use Prim.Native.Nat.{ℕ}
 use mathlib.Core.Bool.{false}
 use mathlib.Core.List.{List}
 use mathlib.Core.Path.{_≡_, sym, ap, _∙_}
-use lib.Dec.{eqb}
 use lib.ListN.{length}
-use Rattle.board.specs.Work.{blank, value, fitted}
+use Rattle.board.specs.Work.{blank, value}
 use Rattle.board.specs.Alike.{Agree}
 use Rattle.state.specs.declared.State.{State}
+use Rattle.state.specs.declared.Settings.{Settings}
 use Rattle.state.specs.State.{heard}
-use Rattle.step.specs.Step.{isBlank}
+use Rattle.step.specs.Step.{stepOf, causeNumber, isBlank}
 use Rattle.step.specs.Causes.{value-no-blank}
+use Rattle.step.specs.Told.{accesses, StopsAt, stops}
 use Rattle.refusal.specs.Page.{answered, answered-one}
 use Rattle.machine.specs.declared.Powered.{Powered}
 use Rattle.machine.specs.declared.Stepped.{Stepped}
 use Rattle.machine.specs.declared.Finished.{Finished}
 use Rattle.machine.specs.Numbers.{TurnPage, RanPage}
 use Rattle.machine.specs.Entry.{poweredPage, powerUpPage, left, steppedPage, stepPage, finishedPage, runPage}
-use Rattle.machine.specs.Back.{one-power, stepped-one, finished-one}
-use Rattle.machine.specs.Blind.{Blind, blind, power-same, step-same, step-kept, run-same, run-kept}
+use Rattle.machine.specs.Back.{powered-one, stepped-one, finished-one}
+use Rattle.machine.specs.Blind.{Blind, blind, power-same, power-kept, step-same, step-kept, run-same, run-kept}
 use Rattle.machine.specs.Trail.{trailOf, blanksIn, firstIn, Least}
 use Rattle.machine.specs.Counted.{first-least}
 use Rattle.machine.specs.Answered.{step-answer, run-answer}
-use Rattle.firmware.specs.Layout.{refusedState, stateFrom}
-use Rattle.firmware.specs.Calls.{up, powerUpCall, went, stepCall, ended, runCall}
+use Rattle.firmware.specs.Layout.{stateFrom, settingsFrom, refusedUp, refusedStep, refusedRun}
+use Rattle.firmware.specs.Calls.{upBytes, stepBytes, powerUpCall, went, stepCall, ended, runCall}
 use Rattle.demands.specs.Terms.{workAt, cameAt, Blanked}
 use Rattle.demands.specs.Calls.{went-blind, ended-blind}
-use Rattle.demands.specs.Blanks.{blank-unfitted, blanked, cause-is}
+use Rattle.demands.specs.Blanks.{blanked, cause-is}
 
--- ---- TWO CALLS OVER IMAGES THAT AGREE ON FITTED BYTES: the same answer, fitted bytes that agree again, unfitted bytes as lent
+-- ---- TWO CALLS OVER IMAGES THAT AGREE ON FITTED BYTES: the same answer, fitted bytes that agree again, and every byte that
+-- can't be written, of an unfitted or a read-only page, as lent
 
-module _ (map m n : List ℕ) (l : length m ≡ length n) (g : Agree map m n) where
-  pub power-up-blind : (r q : Powered) → poweredPage r ≡ powerUpPage m map → poweredPage q ≡ powerUpPage n map → r ≡ q
-  power-up-blind r q e d = one-power r q (e ∙ power-same map m n l g ∙ sym d)
+module _ (settings : Settings) (map m n : List ℕ) (l : length m ≡ length n) (g : Agree map m n) where
+  pub power-up-blind : (r q : Powered) (m′ n′ : List ℕ) → left (poweredPage r) m′ ≡ powerUpPage settings m map → left (poweredPage q) n′ ≡ powerUpPage settings n map → Blind map m n r q m′ n′
+  power-up-blind r q m′ n′ e d = blind poweredPage r q (powered-one r q) e d (power-same settings map m n l g) (power-kept settings map m) (power-kept settings map n)
 
   pub step-blind : (line : ℕ) (s : State) (r q : Stepped) (m′ n′ : List ℕ)
-      → left (steppedPage r) m′ ≡ stepPage m map line s → left (steppedPage q) n′ ≡ stepPage n map line s → Blind map m n r q m′ n′
-  step-blind line s r q m′ n′ e d = blind steppedPage r q (stepped-one r q) e d (step-same map line s m n l g) (step-kept map line s m) (step-kept map line s n)
+      → left (steppedPage r) m′ ≡ stepPage settings m map line s → left (steppedPage q) n′ ≡ stepPage settings n map line s → Blind map m n r q m′ n′
+  step-blind line s r q m′ n′ e d = blind steppedPage r q (stepped-one r q) e d (step-same settings map line s m n l g) (step-kept settings map line s m) (step-kept settings map line s n)
 
   pub run-blind : (lines : List ℕ) (s : State) (r q : Finished) (m′ n′ : List ℕ)
-      → left (finishedPage r) m′ ≡ runPage m map lines s → left (finishedPage q) n′ ≡ runPage n map lines s → Blind map m n r q m′ n′
-  run-blind lines s r q m′ n′ e d = blind finishedPage r q (finished-one r q) e d (run-same map lines s m n l g) (run-kept map lines s m) (run-kept map lines s n)
+      → left (finishedPage r) m′ ≡ runPage settings m map lines s → left (finishedPage q) n′ ≡ runPage settings n map lines s → Blind map m n r q m′ n′
+  run-blind lines s r q m′ n′ e d = blind finishedPage r q (finished-one r q) e d (run-same settings map lines s m n l g) (run-kept settings map lines s m) (run-kept settings map lines s n)
 
-  -- the same for C: the number, the state's bytes, the tally's
-  pub wd16-power-up-blind : (b : List ℕ) (k j : ℕ) (b₁ b₂ : List ℕ) → up k b₁ ≡ powerUpCall b m map → up j b₂ ≡ powerUpCall b n map → (k ≡ j) × (b₁ ≡ b₂)
+-- the same for C: the number, the state's bytes, the tally's; w are the settings' bytes
+module _ (w map m n : List ℕ) (l : length m ≡ length n) (g : Agree map m n) where
+  pub wd16-power-up-blind : (b : List ℕ) (k j : ℕ) (b₁ b₂ m′ n′ : List ℕ) → went k b₁ m′ ≡ powerUpCall b m map w → went j b₂ n′ ≡ powerUpCall b n map w
+      → Blind {A = ℕ × List ℕ} map m n (k, b₁) (j, b₂) m′ n′
   unfolding powerUpCall
-  wd16-power-up-blind b k j b₁ b₂ e d =
-      let same : up k b₁ ≡ up j b₂ = e ∙ rw (power-same map m n l g) (sym d) in
-      (ap (λ z. z .number) same, ap (λ z. z .state) same)
+  wd16-power-up-blind b k j b₁ b₂ m′ n′ e d =
+      rw (ap (λ z. z .number) e, ap (λ z. z .state) e, ap (λ z. z .image) e, ap (λ z. z .number) d, ap (λ z. z .state) d, ap (λ z. z .image) d)
+      (went-blind map m n g upBytes (refusedUp b w) b (powerUpPage (settingsFrom w) m map) (powerUpPage (settingsFrom w) n map) (power-same (settingsFrom w) map m n l g) (power-kept (settingsFrom w) map m) (power-kept (settingsFrom w) map n))
 
-  pub wd16-step-blind : (b : List ℕ) (line k j : ℕ) (b₁ b₂ m′ n′ : List ℕ) → went k b₁ m′ ≡ stepCall b m map line → went j b₂ n′ ≡ stepCall b n map line
+  pub wd16-step-blind : (b : List ℕ) (line k j : ℕ) (b₁ b₂ m′ n′ : List ℕ) → went k b₁ m′ ≡ stepCall b m map w line → went j b₂ n′ ≡ stepCall b n map w line
       → Blind {A = ℕ × List ℕ} map m n (k, b₁) (j, b₂) m′ n′
   unfolding stepCall
   wd16-step-blind b line k j b₁ b₂ m′ n′ e d =
       rw (ap (λ z. z .number) e, ap (λ z. z .state) e, ap (λ z. z .image) e, ap (λ z. z .number) d, ap (λ z. z .state) d, ap (λ z. z .image) d)
-      (went-blind map m n g (refusedState b) b (stepPage m map line (stateFrom b)) (stepPage n map line (stateFrom b)) (step-same map line (stateFrom b) m n l g) (step-kept map line (stateFrom b) m) (step-kept map line (stateFrom b) n))
+      (went-blind map m n g stepBytes (refusedStep b w) b (stepPage (settingsFrom w) m map line (stateFrom b)) (stepPage (settingsFrom w) n map line (stateFrom b)) (step-same (settingsFrom w) map line (stateFrom b) m n l g) (step-kept (settingsFrom w) map line (stateFrom b) m) (step-kept (settingsFrom w) map line (stateFrom b) n))
 
-  pub wd16-run-blind : (b t lines : List ℕ) (k j : ℕ) (b₁ b₂ t₁ t₂ m′ n′ : List ℕ) → ended k b₁ t₁ m′ ≡ runCall b t m map lines → ended j b₂ t₂ n′ ≡ runCall b t n map lines
+  pub wd16-run-blind : (b t lines : List ℕ) (k j : ℕ) (b₁ b₂ t₁ t₂ m′ n′ : List ℕ) → ended k b₁ t₁ m′ ≡ runCall b t m map w lines → ended j b₂ t₂ n′ ≡ runCall b t n map w lines
       → Blind {A = ℕ × List ℕ × List ℕ} map m n (k, b₁, t₁) (j, b₂, t₂) m′ n′
   unfolding runCall
   wd16-run-blind b t lines k j b₁ b₂ t₁ t₂ m′ n′ e d =
       rw (ap (λ z. z .number) e, ap (λ z. z .state) e, ap (λ z. z .tally) e, ap (λ z. z .image) e, ap (λ z. z .number) d, ap (λ z. z .state) d, ap (λ z. z .tally) d, ap (λ z. z .image) d)
-      (ended-blind map m n g (refusedState b) (eqb (length t) 4) b t (runPage m map lines (stateFrom b)) (runPage n map lines (stateFrom b)) (run-same map lines (stateFrom b) m n l g) (run-kept map lines (stateFrom b) m) (run-kept map lines (stateFrom b) n))
+      (ended-blind map m n g (refusedRun b t w) b t (runPage (settingsFrom w) m map lines (stateFrom b)) (runPage (settingsFrom w) n map lines (stateFrom b)) (run-same (settingsFrom w) map lines (stateFrom b) m n l g) (run-kept (settingsFrom w) map lines (stateFrom b) m) (run-kept (settingsFrom w) map lines (stateFrom b) n))
 
--- ---- A STEP WHOSE WORK REACHES AN UNFITTED ADDRESS is a bus error, told by its cause, or ends locked; one whose work reaches fitted
--- addresses alone is no blank
+-- ---- A STEP WHOSE WORK REACHES A BLANK, where nothing is fitted or a read-only page was to be written, is a bus error, told by its
+-- cause, or ends locked, and it tells the first such address that it reached; one whose work reaches none is no blank
 
-module _ (m map : List ℕ) (line : ℕ) (s : State) (r : Stepped) (m′ : List ℕ) (p : TurnPage)
-    (e : left (steppedPage r) m′ ≡ stepPage m map line s) (d : steppedPage r ≡ answered p) where
-  pub step-blanked : {a : ℕ} → cameAt map line s m ≡ blank a → (fitted map a ≡ false) × Blanked line s m p m′
+module _ (settings : Settings) (m map : List ℕ) (line : ℕ) (s : State) (r : Stepped) (m′ : List ℕ) (p : TurnPage)
+    (e : left (steppedPage r) m′ ≡ stepPage settings m map line s) (d : steppedPage r ≡ answered p) where
+  pub step-blanked : {a : ℕ} → cameAt settings map line s m ≡ blank a → StopsAt map a (accesses map (workAt settings line s) m) × Blanked settings line s m a p m′
   step-blanked {a} h = (
-    blank-unfitted map (workAt line s) m a h,
-    blanked line s m map h (step-answer m map line s (ap (λ z. left z m′) (sym d) ∙ e) .1),
+    stops map (workAt settings line s) m h,
+    blanked settings line s m map h (step-answer settings m map line s (ap (λ z. left z m′) (sym d) ∙ e) .1),
   )
 
-  pub step-fitted : {t : State} {n : List ℕ} → cameAt map line s m ≡ value t n → isBlank (p .cause) ≡ false
-  step-fitted h = ap isBlank (cause-is _ (step-answer m map line s (ap (λ z. left z m′) (sym d) ∙ e) .1)) ∙ value-no-blank map (heard line) s m h
+  pub step-fitted : {t : State} {n : List ℕ} → cameAt settings map line s m ≡ value t n → (isBlank (stepOf map (heard settings line) s m .cause) ≡ false) × (p .cause ≡ causeNumber (stepOf map (heard settings line) s m .cause))
+  step-fitted h = (value-no-blank map (heard settings line) s m h, cause-is (stepOf map (heard settings line) s m) (step-answer settings m map line s (ap (λ z. left z m′) (sym d) ∙ e) .1))
 
--- ---- A RUN'S COUNT OF BLANKS is the number of its steps with a cause from 5 to 7, its first place the least of theirs
+-- ---- A RUN'S COUNT OF BLANKS is the number of its steps with cause 5, 6 or 9, its first place the least of theirs, with the address told there
 
-pub run-counted : (m map lines : List ℕ) (s : State) (r : Finished) (m′ : List ℕ) (p : RanPage)
-    → left (finishedPage r) m′ ≡ runPage m map lines s → finishedPage r ≡ answered p
-    → (p .blanks ≡ blanksIn (trailOf map lines s m)) × Least (trailOf map lines s m) (p .first)
-run-counted m map lines s r m′ p e d =
-    let h = answered-one (ap (λ z. z .page) (run-answer m map lines s (ap (λ z. left z m′) (sym d) ∙ e) .1)) in
-    (ap (λ z. z .blanks) h, rw (ap (λ z. z .first) h) (first-least (trailOf map lines s m)))
+pub run-counted : (settings : Settings) (m map lines : List ℕ) (s : State) (r : Finished) (m′ : List ℕ) (p : RanPage)
+    → left (finishedPage r) m′ ≡ runPage settings m map lines s → finishedPage r ≡ answered p
+    → (p .blanks ≡ blanksIn (trailOf settings map lines s m)) × Least (trailOf settings map lines s m) (p .first)
+run-counted settings m map lines s r m′ p e d =
+    let h = answered-one (ap (λ z. z .page) (run-answer settings m map lines s (ap (λ z. left z m′) (sym d) ∙ e) .1)) in
+    (ap (λ z. z .blanks) h, rw (ap (λ z. z .first) h) (first-least (trailOf settings map lines s m)))
