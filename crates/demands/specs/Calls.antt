@@ -8,15 +8,14 @@ use lib.Dec.{eqb}
 use lib.ListN.{length}
 use Rattle.board.specs.Alike.{Agree}
 use Rattle.step.specs.Alike.{Untouched}
-use Rattle.step.specs.Step.{After}
 use Rattle.refusal.specs.Numbers.{noState}
 use Rattle.refusal.specs.Page.{Page, refused, answered, first, unless}
 use Rattle.machine.specs.Run.{End, end}
-use Rattle.machine.specs.Numbers.{StatePage, TurnPage, RanPage}
-use Rattle.machine.specs.Entry.{Left, left, turned}
+use Rattle.machine.specs.Numbers.{RanPage}
+use Rattle.machine.specs.Entry.{Left, left}
 use Rattle.machine.specs.Entry as Entry
 use Rattle.machine.specs.Blind.{SameLeft, Blind}
-use Rattle.firmware.specs.Calls.{Up, up, upFrom, Went, went, wentFrom, Ended, ended, endedFrom}
+use Rattle.firmware.specs.Calls.{Went, went, wentFrom, Ended, ended, endedFrom}
 use Rattle.demands.specs.Terms.{Numbered}
 
 -- ---- demand 1
@@ -25,32 +24,22 @@ use Rattle.demands.specs.Terms.{Numbered}
 pub numbered : {why number : ℕ} {AsLent As : Type 0} (n : ℕ) → n ≡ number → (AsLent → As) → Numbered why number AsLent → Numbered why n As
 numbered n e f h = record { numberIs = e ∙ h .numberIs; unchanged = λ z. f (h .unchanged (λ k. z (e ∙ k))) }
 
--- power-up: `bad` says that the lent bytes are no state's or no settings'
-up-page : (b : List ℕ) (why : ℕ) (p : StatePage) (x : Up) → x ≡ upFrom b (unless why (answered p) (refused why)) → Numbered why (x .number) (x .state ≡ b)
-up-page b zero p x e = record { numberIs = ap (λ z. z .number) e; unchanged = λ n. absurd (n (ap (λ z. z .number) e)) }
-up-page b (suc why) p x e = record { numberIs = ap (λ z. z .number) e; unchanged = λ n. ap (λ z. z .state) e }
-
-pub up-numbered : (bad : Bool) (b : List ℕ) (why : ℕ) (p : StatePage) (x : Up) → x ≡ cond bad (up noState b) (upFrom b (unless why (answered p) (refused why)))
-    → Numbered (first (cond bad noState 0) why) (x .number) (x .state ≡ b)
-up-numbered true b why p x e = record { numberIs = ap (λ z. z .number) e; unchanged = λ n. ap (λ z. z .state) e }
-up-numbered false b why p x e = up-page b why p x e
-
--- a step
-module _ (b m : List ℕ) where
+-- a power-up and a step: `bad` says that the lent bytes are no state's or no settings', p is the answer and m′ the image after it
+module _ {A : Type 0} (bytes : A → List ℕ) (b m : List ℕ) where
   abbrev sameWent : Went → Type 0
   sameWent x = (x .state ≡ b) × (x .image ≡ m)
 
-  went-page : (why : ℕ) (a : After) (x : Went)
-      → x ≡ wentFrom b (unless why (turned a) (left (refused why) m) .page) (unless why (turned a) (left (refused why) m) .image)
+  went-page : (why : ℕ) (p : A) (m′ : List ℕ) (x : Went)
+      → (let l = unless why (left (answered p) m′) (left (refused why) m) in x ≡ wentFrom bytes b (l .page) (l .image))
       → Numbered why (x .number) (sameWent x)
-  went-page zero a x e = record { numberIs = ap (λ z. z .number) e; unchanged = λ n. absurd (n (ap (λ z. z .number) e)) }
-  went-page (suc why) a x e = record { numberIs = ap (λ z. z .number) e; unchanged = λ n. (ap (λ z. z .state) e, ap (λ z. z .image) e) }
+  went-page zero p m′ x e = record { numberIs = ap (λ z. z .number) e; unchanged = λ n. absurd (n (ap (λ z. z .number) e)) }
+  went-page (suc why) p m′ x e = record { numberIs = ap (λ z. z .number) e; unchanged = λ n. (ap (λ z. z .state) e, ap (λ z. z .image) e) }
 
-  pub went-numbered : (bad : Bool) (why : ℕ) (a : After) (x : Went)
-      → x ≡ cond bad (went noState b m) (wentFrom b (unless why (turned a) (left (refused why) m) .page) (unless why (turned a) (left (refused why) m) .image))
+  pub went-numbered : (bad : Bool) (why : ℕ) (p : A) (m′ : List ℕ) (x : Went)
+      → (let l = unless why (left (answered p) m′) (left (refused why) m) in x ≡ cond bad (went noState b m) (wentFrom bytes b (l .page) (l .image)))
       → Numbered (first (cond bad noState 0) why) (x .number) (sameWent x)
-  went-numbered true why a x e = record { numberIs = ap (λ z. z .number) e; unchanged = λ n. (ap (λ z. z .state) e, ap (λ z. z .image) e) }
-  went-numbered false why a x e = went-page why a x e
+  went-numbered true why p m′ x e = record { numberIs = ap (λ z. z .number) e; unchanged = λ n. (ap (λ z. z .state) e, ap (λ z. z .image) e) }
+  went-numbered false why p m′ x e = went-page why p m′ x e
 
 -- a run
 module _ (b t m : List ℕ) where
@@ -79,21 +68,21 @@ module _ (map m n : List ℕ) (g : Agree map m n) where
   same-lent : {A : Type 0} (a : A) → Blind map m n a a m n
   same-lent a = record { answer = refl; fittedAgree = g; unfittedStay = λ a e. refl; unfittedStayToo = λ a e. refl }
 
-  went-same : (b : List ℕ) (p q : Page TurnPage) (k l : List ℕ) → p ≡ q → Agree map k l → Untouched map m k → Untouched map n l
-      → (let v = wentFrom b p k in let w = wentFrom b q l in
+  went-same : {A : Type 0} (bytes : A → List ℕ) (b : List ℕ) (p q : Page A) (k l : List ℕ) → p ≡ q → Agree map k l → Untouched map m k → Untouched map n l
+      → (let v = wentFrom bytes b p k in let w = wentFrom bytes b q l in
       Blind {A = ℕ × List ℕ} map m n (v .number, v .state) (w .number, w .state) (v .image) (w .image))
-  went-same b p q k l e h i j = rw (← e) (at p)
+  went-same {A} bytes b p q k l e h i j = rw (← e) (at p)
     where
-      at : (p : Page TurnPage) → (let v = wentFrom b p k in let w = wentFrom b p l in
+      at : (p : Page A) → (let v = wentFrom bytes b p k in let w = wentFrom bytes b p l in
           Blind {A = ℕ × List ℕ} map m n (v .number, v .state) (w .number, w .state) (v .image) (w .image))
       at (answered u) = record { answer = refl; fittedAgree = h; unfittedStay = i; unfittedStayToo = j }
       at (refused why) = record { answer = refl; fittedAgree = h; unfittedStay = i; unfittedStayToo = j }
 
-  pub went-blind : (bad : Bool) (b : List ℕ) (x y : Left TurnPage) → SameLeft map x y → Untouched map m (x .image) → Untouched map n (y .image)
-      → (let v = cond bad (went noState b m) (wentFrom b (x .page) (x .image)) in let w = cond bad (went noState b n) (wentFrom b (y .page) (y .image)) in
+  pub went-blind : {A : Type 0} (bytes : A → List ℕ) (bad : Bool) (b : List ℕ) (x y : Left A) → SameLeft map x y → Untouched map m (x .image) → Untouched map n (y .image)
+      → (let v = cond bad (went noState b m) (wentFrom bytes b (x .page) (x .image)) in let w = cond bad (went noState b n) (wentFrom bytes b (y .page) (y .image)) in
       Blind {A = ℕ × List ℕ} map m n (v .number, v .state) (w .number, w .state) (v .image) (w .image))
-  went-blind true b x y same i j = same-lent {A = ℕ × List ℕ} (noState, b)
-  went-blind false b x y same i j = went-same b (x .page) (y .page) (x .image) (y .image) (same .page) (same .agree) i j
+  went-blind bytes true b x y same i j = same-lent {A = ℕ × List ℕ} (noState, b)
+  went-blind bytes false b x y same i j = went-same bytes b (x .page) (y .page) (x .image) (y .image) (same .page) (same .agree) i j
 
   ended-same : (b t : List ℕ) (p q : Page RanPage) (k l : List ℕ) → p ≡ q → Agree map k l → Untouched map m k → Untouched map n l
       → (let v = endedFrom b t p k in let w = endedFrom b t q l in

@@ -15,16 +15,16 @@ use Rattle.refusal.specs.Page.{answered}
 use Rattle.machine.specs.declared.Powered.{Powered}
 use Rattle.machine.specs.declared.Stepped.{Stepped}
 use Rattle.machine.specs.declared.Finished.{Finished}
-use Rattle.machine.specs.Numbers.{StatePage, statePage, TurnPage, RanPage}
-use Rattle.machine.specs.Entry.{poweredPage, powerUpPage, left, steppedPage, turned, stepPage, finishedPage, runPage}
+use Rattle.machine.specs.Numbers.{StatePage, TurnPage, RanPage}
+use Rattle.machine.specs.Entry.{poweredPage, powered, powerUpPage, left, steppedPage, turned, stepPage, finishedPage, runPage}
 use Rattle.machine.specs.Trail.{trailOf, lastOf}
 use Rattle.machine.specs.Counted.{trail-length, trail-at}
 use Rattle.machine.specs.Answered.{power-answer, step-answer, shown, run-answer}
 
--- POWER-UP
-pub power-up-is : (settings : Settings) (m map : List ℕ) (r : Powered) (p : StatePage) → poweredPage r ≡ powerUpPage settings m map → poweredPage r ≡ answered p
-    → p ≡ statePage (powerUpOf settings map m)
-power-up-is settings m map r p e d = power-answer settings m map p (sym d ∙ e) .1
+-- POWER-UP: the state and the image after it
+pub power-up-is : (settings : Settings) (m map : List ℕ) (r : Powered) (m′ : List ℕ) (p : StatePage) → left (poweredPage r) m′ ≡ powerUpPage settings m map → poweredPage r ≡ answered p
+    → left (answered p) m′ ≡ powered (powerUpOf settings map m)
+power-up-is settings m map r m′ p e d = power-answer settings m map (ap (λ z. left z m′) (sym d) ∙ e) .1
 
 -- A STEP: the state, the cause and the image after it
 pub step-is : (settings : Settings) (m map : List ℕ) (line : ℕ) (s : State) (r : Stepped) (m′ : List ℕ) (p : TurnPage) → left (steppedPage r) m′ ≡ stepPage settings m map line s → steppedPage r ≡ answered p

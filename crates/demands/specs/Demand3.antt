@@ -19,13 +19,13 @@ use Rattle.machine.specs.declared.Stepped.{Stepped}
 use Rattle.machine.specs.declared.Finished.{Finished}
 use Rattle.machine.specs.Numbers.{TurnPage, RanPage}
 use Rattle.machine.specs.Entry.{poweredPage, powerUpPage, left, steppedPage, stepPage, finishedPage, runPage}
-use Rattle.machine.specs.Back.{one-power, stepped-one, finished-one}
-use Rattle.machine.specs.Blind.{Blind, blind, power-same, step-same, step-kept, run-same, run-kept}
+use Rattle.machine.specs.Back.{powered-one, stepped-one, finished-one}
+use Rattle.machine.specs.Blind.{Blind, blind, power-same, power-kept, step-same, step-kept, run-same, run-kept}
 use Rattle.machine.specs.Trail.{trailOf, blanksIn, firstIn, Least}
 use Rattle.machine.specs.Counted.{first-least}
 use Rattle.machine.specs.Answered.{step-answer, run-answer}
-use Rattle.firmware.specs.Layout.{stateFrom, settingsFrom, refusedStep, refusedRun}
-use Rattle.firmware.specs.Calls.{up, powerUpCall, went, stepCall, ended, runCall}
+use Rattle.firmware.specs.Layout.{stateFrom, settingsFrom, refusedUp, refusedStep, refusedRun}
+use Rattle.firmware.specs.Calls.{upBytes, stepBytes, powerUpCall, went, stepCall, ended, runCall}
 use Rattle.demands.specs.Terms.{workAt, cameAt, Blanked}
 use Rattle.demands.specs.Calls.{went-blind, ended-blind}
 use Rattle.demands.specs.Blanks.{blanked, cause-is}
@@ -34,8 +34,8 @@ use Rattle.demands.specs.Blanks.{blanked, cause-is}
 -- can't be written, of an unfitted or a read-only page, as lent
 
 module _ (settings : Settings) (map m n : List ℕ) (l : length m ≡ length n) (g : Agree map m n) where
-  pub power-up-blind : (r q : Powered) → poweredPage r ≡ powerUpPage settings m map → poweredPage q ≡ powerUpPage settings n map → r ≡ q
-  power-up-blind r q e d = one-power r q (e ∙ power-same settings map m n l g ∙ sym d)
+  pub power-up-blind : (r q : Powered) (m′ n′ : List ℕ) → left (poweredPage r) m′ ≡ powerUpPage settings m map → left (poweredPage q) n′ ≡ powerUpPage settings n map → Blind map m n r q m′ n′
+  power-up-blind r q m′ n′ e d = blind poweredPage r q (powered-one r q) e d (power-same settings map m n l g) (power-kept settings map m) (power-kept settings map n)
 
   pub step-blind : (line : ℕ) (s : State) (r q : Stepped) (m′ n′ : List ℕ)
       → left (steppedPage r) m′ ≡ stepPage settings m map line s → left (steppedPage q) n′ ≡ stepPage settings n map line s → Blind map m n r q m′ n′
@@ -47,18 +47,19 @@ module _ (settings : Settings) (map m n : List ℕ) (l : length m ≡ length n) 
 
 -- the same for C: the number, the state's bytes, the tally's; w are the settings' bytes
 module _ (w map m n : List ℕ) (l : length m ≡ length n) (g : Agree map m n) where
-  pub wd16-power-up-blind : (b : List ℕ) (k j : ℕ) (b₁ b₂ : List ℕ) → up k b₁ ≡ powerUpCall b m map w → up j b₂ ≡ powerUpCall b n map w → (k ≡ j) × (b₁ ≡ b₂)
+  pub wd16-power-up-blind : (b : List ℕ) (k j : ℕ) (b₁ b₂ m′ n′ : List ℕ) → went k b₁ m′ ≡ powerUpCall b m map w → went j b₂ n′ ≡ powerUpCall b n map w
+      → Blind {A = ℕ × List ℕ} map m n (k, b₁) (j, b₂) m′ n′
   unfolding powerUpCall
-  wd16-power-up-blind b k j b₁ b₂ e d =
-      let same : up k b₁ ≡ up j b₂ = e ∙ rw (power-same (settingsFrom w) map m n l g) (sym d) in
-      (ap (λ z. z .number) same, ap (λ z. z .state) same)
+  wd16-power-up-blind b k j b₁ b₂ m′ n′ e d =
+      rw (ap (λ z. z .number) e, ap (λ z. z .state) e, ap (λ z. z .image) e, ap (λ z. z .number) d, ap (λ z. z .state) d, ap (λ z. z .image) d)
+      (went-blind map m n g upBytes (refusedUp b w) b (powerUpPage (settingsFrom w) m map) (powerUpPage (settingsFrom w) n map) (power-same (settingsFrom w) map m n l g) (power-kept (settingsFrom w) map m) (power-kept (settingsFrom w) map n))
 
   pub wd16-step-blind : (b : List ℕ) (line k j : ℕ) (b₁ b₂ m′ n′ : List ℕ) → went k b₁ m′ ≡ stepCall b m map w line → went j b₂ n′ ≡ stepCall b n map w line
       → Blind {A = ℕ × List ℕ} map m n (k, b₁) (j, b₂) m′ n′
   unfolding stepCall
   wd16-step-blind b line k j b₁ b₂ m′ n′ e d =
       rw (ap (λ z. z .number) e, ap (λ z. z .state) e, ap (λ z. z .image) e, ap (λ z. z .number) d, ap (λ z. z .state) d, ap (λ z. z .image) d)
-      (went-blind map m n g (refusedStep b w) b (stepPage (settingsFrom w) m map line (stateFrom b)) (stepPage (settingsFrom w) n map line (stateFrom b)) (step-same (settingsFrom w) map line (stateFrom b) m n l g) (step-kept (settingsFrom w) map line (stateFrom b) m) (step-kept (settingsFrom w) map line (stateFrom b) n))
+      (went-blind map m n g stepBytes (refusedStep b w) b (stepPage (settingsFrom w) m map line (stateFrom b)) (stepPage (settingsFrom w) n map line (stateFrom b)) (step-same (settingsFrom w) map line (stateFrom b) m n l g) (step-kept (settingsFrom w) map line (stateFrom b) m) (step-kept (settingsFrom w) map line (stateFrom b) n))
 
   pub wd16-run-blind : (b t lines : List ℕ) (k j : ℕ) (b₁ b₂ t₁ t₂ m′ n′ : List ℕ) → ended k b₁ t₁ m′ ≡ runCall b t m map w lines → ended j b₂ t₂ n′ ≡ runCall b t n map w lines
       → Blind {A = ℕ × List ℕ × List ℕ} map m n (k, b₁, t₁) (j, b₂, t₂) m′ n′
@@ -81,7 +82,7 @@ module _ (settings : Settings) (m map : List ℕ) (line : ℕ) (s : State) (r : 
   pub step-fitted : {t : State} {n : List ℕ} → cameAt settings map line s m ≡ value t n → (isBlank (stepOf map (heard settings line) s m .cause) ≡ false) × (p .cause ≡ causeNumber (stepOf map (heard settings line) s m .cause))
   step-fitted h = (value-no-blank map (heard settings line) s m h, cause-is (stepOf map (heard settings line) s m) (step-answer settings m map line s (ap (λ z. left z m′) (sym d) ∙ e) .1))
 
--- ---- A RUN'S COUNT OF BLANKS is the number of its steps with cause 5 or 6, its first place the least of theirs, with the address told there
+-- ---- A RUN'S COUNT OF BLANKS is the number of its steps with cause 5, 6 or 9, its first place the least of theirs, with the address told there
 
 pub run-counted : (settings : Settings) (m map lines : List ℕ) (s : State) (r : Finished) (m′ : List ℕ) (p : RanPage)
     → left (finishedPage r) m′ ≡ runPage settings m map lines s → finishedPage r ≡ answered p

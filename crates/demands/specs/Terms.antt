@@ -36,7 +36,7 @@ workAt settings line s = workOf (kindOf s (heard settings line)) (heard settings
 abbrev pub cameAt : Settings → List ℕ → ℕ → State → List ℕ → Came State
 cameAt settings map line s m = run map (workAt settings line s) m
 
--- the cause of its bus error at an address: 5 in an op code, 6 in an interrupt
+-- the cause of its bus error at an address: 5 in an op code, 6 in an interrupt, 9 in a save
 abbrev pub errorCauseAt : Settings → ℕ → State → ℕ → Cause
 errorCauseAt settings line s a = errorCauseOf (kindOf s (heard settings line)) a
 
