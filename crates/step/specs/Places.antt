@@ -1,14 +1,19 @@
 -- The nine places: R0 to R5, SP, PC and PS as words at 0 to 10 (hex). A halt option saves them, its end and a power-up option pick them up.
 use Prim.Native.Nat.{ℕ}
 use mathlib.Core.Bool.{false}
-use mathlib.Core.Path.{_≡_, refl}
+use mathlib.Core.Path.{_≡_, refl, ap, _∙_}
 use Rattle.board.specs.Work.{Work, give, load}
 use Rattle.board.specs.Work as Work
 use Rattle.board.specs.Bind.{_>>=_, _>>_}
-use Rattle.board.specs.Exec.{Store, stateOf, keptAs}
+use Rattle.board.specs.Exec.{Store, gone, stateOf, keptAs}
+use Rattle.board.specs.declared.Word.{Word}
+use Rattle.board.specs.declared.Word.the-variants as Word
 use Rattle.board.specs.declared.Kept.{Kept}
 use Rattle.board.specs.declared.Kept.the-variants as Kept
 use Rattle.state.specs.declared.State.{State}
+use Rattle.state.specs.declared.Went.{Went}
+use Rattle.state.specs.declared.Went.the-variants as Went
+use Rattle.state.specs.Answer.{wentAs, went-none}
 use Rattle.state.specs.declared.Outside.{Outside}
 use Rattle.state.specs.declared.Mode.the-variants.{Running, Saved}
 use Rattle.state.specs.State.{reg, withReg, withMode, withStatus, psOf}
@@ -68,3 +73,19 @@ restore s = do
 pub kept-store : (r : Kept) {st : Store} → stateOf (keptAs r st) ≡ st
 kept-store Kept.Done = refl
 kept-store (Kept.Blank a) = refl
+
+-- ---- an access that was not answered ends the work there
+
+abbrev pub unread : Word → Went
+unread (Word.Value v) = Went.Blank 0
+unread (Word.Blank a) = Went.Blank a
+
+abbrev pub unwritten : Kept → Went
+unwritten Kept.Done = Went.Blank 0
+unwritten (Kept.Blank a) = Went.Blank a
+
+pub word-lost : {r : Went} {w : Word} {a : ℕ} {st : Store} → r ≡ unread w → w ≡ Word.Blank a → wentAs r st ≡ gone a st
+word-lost e h = went-none (e ∙ ap unread h)
+
+pub kept-lost : {r : Went} {k : Kept} {a : ℕ} {st : Store} → r ≡ unwritten k → k ≡ Kept.Blank a → wentAs r st ≡ gone a st
+kept-lost e h = went-none (e ∙ ap unwritten h)

@@ -5,13 +5,30 @@ use state::Mode;
 use state::Outside;
 use state::State;
 use state::Went;
-use state::unread;
-use state::unwritten;
 use word::address::plus;
 ghost use mathlib.Core.Path.{_≡_};
 ghost use Rattle.board.specs.Exec.{beside, Lent, Board, Saw, Did, keptAs};
 ghost use Rattle.state.specs.Answer.{Works, wentAs};
 ghost use Rattle.step.specs.Places as Spec;
+
+// An access that was not answered ends the work there.
+fn unread(word: Word) -> Went
+    ensures { λ r. ⌜ r ≡ Spec.unread word ⌝ }
+{
+    match word {
+        Word::Value(_) => Went::Blank(0),
+        Word::Blank(a) => Went::Blank(a),
+    }
+}
+
+fn unwritten(kept: Kept) -> Went
+    ensures { λ r. ⌜ r ≡ Spec.unwritten kept ⌝ }
+{
+    match kept {
+        Kept::Done => Went::Blank(0),
+        Kept::Blank(a) => Went::Blank(a),
+    }
+}
 
 // Register k is kept at its place.
 fn keep(s: State, image: &mut [u8], map: &[u8], log: &mut [u16; 32], k: u16) -> Kept
