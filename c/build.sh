@@ -15,13 +15,83 @@ flags="-std=c11 -O2 -g -Wall -Wextra -Werror"
 rm -rf "$out"
 mkdir -p "$out"
 
+# The text of one op code over plain bytes, for tests alone: optext's own functions, asked through the server.
+text_served() { # FOLDER
+    mkdir -p "$1"
+    cat >"$1/lib.rt" <<'R'
+use optext::ReadBack;
+use optext::Written;
+
+fn put(answer: &mut [u8], at: usize, number: usize) {
+    if at + 1 < answer.len() {
+        answer[at] = (number % 256) as u8;
+        answer[at + 1] = (number / 256 % 256) as u8;
+    }
+}
+
+fn lent(bytes: usize) -> usize {
+    if bytes / 2 < 3 { bytes / 2 } else { 3 }
+}
+
+#[no_mangle]
+pub extern "C" fn wd16_write_text(words: &[u8], text: &mut [u8], answer: &mut [u8]) -> u8 {
+    let given = [words::word_at(words, 0), words::word_at(words, 2), words::word_at(words, 4)];
+    let n = lent(words.len());
+    match optext::write(&given[..n], text) {
+        Written::Line(length, taken) => {
+            put(answer, 0, length);
+            put(answer, 2, taken);
+            0
+        }
+        Written::TextShort => 8,
+        Written::NoWords => 6,
+        Written::WordMissing => 7,
+    }
+}
+
+fn refused(answer: &mut [u8], column: usize, why: u8) -> u8 {
+    put(answer, 4, column);
+    why
+}
+
+fn put_word(out: &mut [u8], at: usize, word: u16) {
+    if at + 1 < out.len() {
+        out[at] = words::low(word);
+        out[at + 1] = words::high(word);
+    }
+}
+
+#[no_mangle]
+pub extern "C" fn wd16_read_text(text: &[u8], words: &mut [u8], answer: &mut [u8]) -> u8 {
+    let mut given = [words::word_at(words, 0), words::word_at(words, 2), words::word_at(words, 4)];
+    let n = lent(words.len());
+    match optext::read(text, &mut given[..n]) {
+        ReadBack::Words(count) => {
+            put_word(words, 0, given[0]);
+            put_word(words, 2, given[1]);
+            put_word(words, 4, given[2]);
+            put(answer, 0, count);
+            0
+        }
+        ReadBack::WordsShort => 10,
+        ReadBack::EarlyEnd(column) => refused(answer, column, 32),
+        ReadBack::AfterText(column) => refused(answer, column, 31),
+        ReadBack::UnknownName(column) => refused(answer, column, 9),
+        ReadBack::BadOperand(column) => refused(answer, column, 30),
+    }
+}
+R
+}
+
 # A program that reaches the functions for C, over links to our crates. c/exports.py makes it, and what else is made of their list.
 reaching() { # FOLDER
     local crate needed
     mkdir -p "$1/crates/reach/src"
     for crate in crates/*; do ln -s "$PWD/$crate" "$1/crates/"; done
-    needed=$(python3 c/exports.py "$out")
-    { cat crates.txt; echo "reach: $needed"; } >"$1/crates.txt"
+    text_served "$1/crates/textserve/src"
+    { cat crates.txt; echo 'textserve: optext words'; } >"$1/crates.txt"
+    needed=$(python3 c/exports.py "$out" "$1")
+    echo "reach: $needed" >>"$1/crates.txt"
     cp "$out/reach.rt" "$1/crates/reach/src/main.rt"
 }
 

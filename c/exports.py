@@ -1,5 +1,5 @@
 #!/usr/bin/env python3
-"""Makes, of the functions that the crates export for C, what tests of them need before the proof: exports.py FOLDER
+"""Makes, of the functions that the crates export for C, what tests of them need before the proof: exports.py FOLDER REPOSITORY
 
 The list is the crates' own: every `#[no_mangle] pub extern "C" fn` of a library that crates.txt names. A parameter is a
 slice (`&[u8]`, `&mut [u8]`, `&[u16]`) or a number (u8, u16, u32); the answer is a u8. Written to FOLDER:
@@ -7,7 +7,7 @@ slice (`&[u8]`, `&mut [u8]`, `&[u16]`) or a number (u8, u16, u32); the answer is
     names.sed     gives the compiled functions names that C can call
     exports.c     the functions under their own names, over the compiled ones; c/hitchbriar.h must declare each alike
     calls.h       for c/serve.c: each function by its name, over arguments read from a request
-and, on standard output, the crates that reach.rt needs.
+and, on standard output, the crates that reach.rt needs. What a crate for tests alone exports (TESTS), no header declares.
 """
 import pathlib
 import re
@@ -15,6 +15,7 @@ import sys
 
 EXPORT = re.compile(r'#\[no_mangle\]\s*pub extern "C" fn (\w+)\(([^)]*)\)\s*->\s*u8')
 SLICES = {"&[u8]": ("const uint8_t", 1), "&mut [u8]": ("uint8_t", 1), "&[u16]": ("const uint16_t", 2)}
+TESTS = {"textserve"}
 NUMBERS = {"u8": "uint8_t", "u16": "uint16_t", "u32": "uint32_t"}
 
 
@@ -30,6 +31,10 @@ class Function:
 
     def path(self):
         return f"{self.place}::{self.name}"
+
+    def told(self):
+        """The declaration of what no header has."""
+        return [prototype(self) + ";"] if self.place in TESTS else []
 
     def inner(self):
         return "inner_" + self.name
@@ -92,6 +97,7 @@ def exporting(functions):
     for function in functions:
         inner = ", ".join(NUMBERS.get(kind, "struct slice *") for _, kind in function.parameters)
         yield f"uint8_t {function.inner()}({inner});"
+        yield from function.told()
         yield prototype(function) + " {"
         for name, kind in function.parameters:
             if kind in SLICES:
@@ -104,6 +110,7 @@ def exporting(functions):
 def serving(functions):
     """What a request's arguments are, and the call on them."""
     for function in functions:
+        yield from function.told()
         given = []
         for at, (_, kind) in enumerate(function.parameters):
             if kind in NUMBERS:
@@ -123,10 +130,10 @@ def serving(functions):
 
 def main(arguments):
     """The files, and the crates on standard output."""
-    if len(arguments) != 1:
+    if len(arguments) != 2:
         sys.exit(__doc__)
     folder = pathlib.Path(arguments[0])
-    functions = list(exported(pathlib.Path(__file__).resolve().parent.parent))
+    functions = list(exported(pathlib.Path(arguments[1])))
     files = {"reach.rt": reaching, "names.sed": renaming, "exports.c": exporting, "calls.h": serving}
     for name, lines in files.items():
         (folder / name).write_text("\n".join(lines(functions)) + "\n", encoding="utf-8")

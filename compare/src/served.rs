@@ -106,7 +106,20 @@ impl Served {
     }
 }
 
+/// The calls that the library has; the others wait for their wish.
+const LIBRARY: [Call; 5] = [
+    Call::PowerUp,
+    Call::Step,
+    Call::Run,
+    Call::WriteText,
+    Call::ReadText,
+];
+
 impl Interface for Served {
+    fn has(&self, call: Call) -> bool {
+        LIBRARY.contains(&call)
+    }
+
     fn call(&mut self, call: Call, buffers: &mut [Vec<u8>]) -> u8 {
         self.exchange(call, buffers)
             .expect("the server answers each call")
