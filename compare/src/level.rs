@@ -29,7 +29,7 @@ impl Level {
     /// All wishes.
     pub const ALL: Level = Level(14);
     /// What the proved processor has: bench, speed and difftest are held to this one.
-    pub const LANDED: Level = Level(10);
+    pub const LANDED: Level = Level(14);
 
     /// The level that a program is told, or the landed one.
     pub fn told(argument: Option<&str>) -> Level {

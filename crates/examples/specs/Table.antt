@@ -52,9 +52,9 @@ image op at v = withWord (withWord (replicate 65536 0) 0x100 op) at v
 abbrev before : ℕ → ℕ → ℕ → ℕ → Bool → State
 before r0 r1 r2 f i = withI2 (withFlags (withSp (withPc (withReg (withReg (withReg cleared 0 r0) 1 r1) 2 r2) 0x100) 0x200) (flagsOf f)) i
 
--- the third microm is fitted, as on bench's board
+-- the third microm is fitted and the jumpers are 11 and 11, as on bench's board
 abbrev settings : Settings
-settings = record { blocks = true }
+settings = record { blocks = true; powerup = 3; halt = 3; register = 0 }
 
 -- a step with quiet lines
 abbrev stepped : ℕ → State → ℕ → ℕ → After

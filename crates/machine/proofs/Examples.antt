@@ -29,7 +29,7 @@ unfoldable before : State
 before = withPc (withReg (withReg (withReg cleared 0 2) 1 0x200) 2 0x300) 0x100
 
 fitted-setting : Settings
-fitted-setting = record { blocks = true }
+fitted-setting = record { blocks = true; powerup = 3; halt = 3; register = 0 }
 
 ready : Ready board 0x0e0a 2 before image
 unfolding before image cleared withReg setReg reg regOf along fitted writable wordAt withWord even
