@@ -51,7 +51,6 @@ fn wide(b: u8) -> u16
     b as u16
 }
 
-// A read that was not answered ends the transfer there.
 // An element that was not moved ends the work there.
 fn unwritten(kept: Kept) -> Went
     ensures { λ r. ⌜ r ≡ Spec.unwritten kept ⌝ }

@@ -6,9 +6,10 @@ use Prim.Native.Nat.{ℕ, suc, _+_, _-_, _≤_, _<_}
 use native.Mathlib.Omega.{arith}
 use native.Mathlib.Nat.{zero-add}
 use native.Mathlib.Numerals.{add-one}
+use borrow.Author.Tests.{le-leb, lt-leb}
 use lib.ListN.{length, take, drop, set, getD, length-append, length-take, length-drop}
 use lib.Seq.{sets, sets-eq, take-at, drop-at, drop-drop, drop-cons, set-at, append-snoc, take-all, drop-length, take-suc, take-append-seam, length-take-le}
-use Rattle.letters.specs.Over.{over, Wrote, WroteAt}
+use Rattle.letters.specs.Over.{over, Wrote, WroteAt, left, written, Left}
 use borrow.Rule.Slice.PartMut.{midOf, putMid, post-is, same-len-mid}
 
 pub over-length : (xs b : List ℕ) → length xs ≤ length b → length (over xs b) ≡ length b
@@ -96,3 +97,19 @@ wrote-take s b e n w = rw (w .bytes, w .count) (take-append-seam s (drop (length
 
 pub wrote-rest : (s b e : List ℕ) (n : ℕ) → Wrote s b e n → e ≡ over (take n e) b
 wrote-rest s b e n w = w .bytes ∙ ap (λ (l : List ℕ). over l b) (sym (wrote-take s b e n w))
+
+-- a text that fits, and one that does not
+pub written-is : (s b e : List ℕ) (n : ℕ) → length s ≤ length b → Wrote s b e n → left n e ≡ written s b
+unfolding written
+written-is s b e n h w = simp (le-leb (length s) (length b) h) (rw (w .bytes, w .count) refl)
+
+pub written-none : (s b : List ℕ) → length b < length s → left 0 b ≡ written s b
+unfolding written
+written-none s b h = simp (lt-leb (length s) (length b) h)
+
+-- what was left is the text, where it fits
+pub wrote-fits : (s b e : List ℕ) (n : ℕ) → length s ≤ length b → left n e ≡ written s b → Wrote s b e n
+unfolding written
+wrote-fits s b e n h q =
+    let w : left n e ≡ left (length s) (over s b) = simp (le-leb (length s) (length b) h) at q in
+    record { bytes = ap (λ (l : Left). l .bytes) w; count = ap (λ (l : Left). l .count) w }

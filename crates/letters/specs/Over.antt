@@ -1,8 +1,10 @@
 -- What a writer leaves in a lent buffer: the text in front, and every entry after it as it was.
 -- Assumes nothing.
+use mathlib.Core.Bool.{cond}
 use mathlib.Core.Path.{_≡_}
 use mathlib.Core.List.{List, _++_}
 use Prim.Native.Nat.{ℕ, _+_}
+use lib.Dec.{leb}
 use lib.ListN.{length, take, drop}
 
 unfoldable pub over : List ℕ → List ℕ → List ℕ
@@ -17,3 +19,15 @@ pub record Wrote (s b e : List ℕ) (n : ℕ) : Type 0 where
 pub record WroteAt (at : ℕ) (s b e : List ℕ) (n : ℕ) : Type 0 where
   pub bytes : e ≡ take at b ++ over s (drop at b)
   pub count : n ≡ at + length s
+
+-- how many characters were written, and the buffer after
+pub record Left : Type 0 where
+  pub count : ℕ
+  pub bytes : List ℕ
+
+abbrev pub left : ℕ → List ℕ → Left
+left n b = record { count = n; bytes = b }
+
+-- a text goes to the front of the buffer and the rest stays; where it does not fit, nothing is written
+unfoldable pub written : List ℕ → List ℕ → Left
+written text b = cond (leb (length text) (length b)) (left (length text) (over text b)) (left 0 b)

@@ -1,9 +1,7 @@
 // What the writers of text share: the letters of hex digits, upper case.
 ghost use mathlib.Core.Path.{_≡_};
-ghost use Prim.Native.Nat.{_≤_};
-ghost use lib.ListN.{length};
 ghost use Rattle.letters.specs.Digits.{hexOf, hex4};
-ghost use Rattle.letters.specs.Over.{Wrote};
+ghost use Rattle.letters.specs.Over.{left, written};
 
 const DIGITS: [u8; 16] = *b"0123456789ABCDEF";
 
@@ -18,11 +16,13 @@ pub fn hex(d: u16) -> u8
     0
 }
 
-// Four hex digits at the front; answers 4.
+// Four hex digits at the front; answers 4. A shorter buffer is left as it is, and the answer is 0.
 pub fn put_hex4(out: &mut [u8], x: u16) -> usize
-    requires { ⌜ 4 ≤ length (now out) ⌝ }
-    ensures { λ n. ⌜ Wrote (hex4 x) (now (out .entry)) (now (out .exit)) n ⌝ }
+    ensures { λ n. ⌜ left n (now (out .exit)) ≡ written (hex4 x) (now (out .entry)) ⌝ }
 {
+    if out.len() < 4 {
+        return 0;
+    }
     out[0] = hex(x / 4096);
     out[1] = hex(x / 256 % 16);
     out[2] = hex(x / 16 % 16);

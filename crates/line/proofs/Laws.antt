@@ -1,4 +1,4 @@
--- Laws of the line's lengths, and of what fits in the buffer.
+-- Laws of the line's lengths.
 -- Assumes nothing.
 use mathlib.Core.Path.{_≡_, refl, ap, _∙_}
 use mathlib.Core.Bool.{Bool, true, false, cond}
@@ -10,10 +10,9 @@ use borrow.Author.Tests.{le-leb, lt-leb, lt-ltb, le-ltb}
 use lib.Dec.{ltb}
 use lib.ListN.{length, getD, length-append}
 use Rattle.letters.specs.Digits.{hex4}
-use Rattle.letters.specs.Over.{Wrote}
 use Rattle.line.specs.declared.Place.{Place}
 use Rattle.line.specs.declared.Place.the-variants.{At, Nowhere}
-use Rattle.line.specs.Line.{field, fields, modeText, placeText, firstText, lineText, name, decimal, refusedText, left, written}
+use Rattle.line.specs.Line.{field, fields, modeText, placeText, firstText, lineText, name, decimal, refusedText}
 
 -- the lengths of the line's parts
 pub field-length : (x : ℕ) → length (field x) ≡ 5
@@ -49,15 +48,6 @@ unfolding lineText
 line-length regs ps mode blanks place address =
     simp length-append
     (omega (arith, fields-length regs 8, field-length (ps % 16384), mode-length mode, field-length blanks, first-length place address))
-
--- a text that fits, and one that does not
-pub written-is : (s b e : List ℕ) (n : ℕ) → length s ≤ length b → Wrote s b e n → left n e ≡ written s b
-unfolding written
-written-is s b e n h w = simp (le-leb (length s) (length b) h) (rw (w .bytes, w .count) refl)
-
-pub written-none : (s b : List ℕ) → length b < length s → left 0 b ≡ written s b
-unfolding written
-written-none s b h = simp (lt-leb (length s) (length b) h)
 
 -- a number's decimal digits
 pub one-digit : (n : ℕ) → n < 10 → decimal n ≡ (48 + n) ∷ []

@@ -56,15 +56,3 @@ decimal n =
 
 unfoldable pub refusedText : ℕ → List ℕ
 refusedText n = name ++ decimal n
-
--- how many characters were written, and the buffer after
-pub record Left : Type 0 where
-  pub count : ℕ
-  pub bytes : List ℕ
-
-abbrev pub left : ℕ → List ℕ → Left
-left n b = record { count = n; bytes = b }
-
--- a text goes to the front of the buffer and the rest stays; where it does not fit, nothing is written
-unfoldable pub written : List ℕ → List ℕ → Left
-written text b = cond (leb (length text) (length b)) (left (length text) (over text b)) (left 0 b)

@@ -4,8 +4,8 @@ use letters::put_hex4;
 ghost use mathlib.Core.Path.{_≡_};
 ghost use Prim.Native.Nat.{_+_, _*_, _≤_, _<_};
 ghost use lib.ListN.{length};
-ghost use Rattle.line.specs.Line.{space, dashes, field, fields, modeText, placeText, firstText, lineText, name, decimal, refusedText, left, written};
-ghost use Rattle.letters.specs.Over.{Wrote, WroteAt};
+ghost use Rattle.line.specs.Line.{space, dashes, field, fields, modeText, placeText, firstText, lineText, name, decimal, refusedText};
+ghost use Rattle.letters.specs.Over.{Wrote, WroteAt, left, written};
 
 // Where the first blank was: a place in the list of line words, or an address; or none.
 pub enum Place {

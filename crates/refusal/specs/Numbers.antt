@@ -68,3 +68,49 @@ readOnlyPage = 22
 -- ---- the functions for C: the bytes lent for a state or a tally are none
 abbrev pub noState : ℕ
 noState = 21
+
+-- ---- a listing: an address is odd, or the last is below the first
+abbrev pub noStretch : ℕ
+noStretch = 23
+
+-- ---- the text for C: an odd number of bytes is lent for words
+abbrev pub wordsOdd : ℕ
+wordsOdd = 38
+
+-- ---- the assembler
+
+-- not whole lines, or over 1,024 of them
+abbrev pub sourceLines : ℕ
+sourceLines = 36
+
+-- a line is no text; its label was given already; a label that it names is given nowhere
+abbrev pub unknownText : ℕ
+unknownText = 24
+
+abbrev pub labelAgain : ℕ
+labelAgain = 25
+
+abbrev pub labelMissing : ℕ
+labelMissing = 26
+
+-- a branch or SOB doesn't reach its label
+abbrev pub outOfReach : ℕ
+outOfReach = 27
+
+-- an odd origin; words that overlap an earlier line's, or run past FFFF
+abbrev pub outOfPlace : ℕ
+outOfPlace = 28
+
+-- ---- a trace: it ends inside its count or a state, or bytes are left over
+abbrev pub traceCut : ℕ
+traceCut = 29
+
+-- ---- the recorder: a reading is out of range; there were 4,096 scans already; a channel is over 15
+abbrev pub readingOutOfRange : ℕ
+readingOutOfRange = 33
+
+abbrev pub scansFull : ℕ
+scansFull = 37
+
+abbrev pub noChannel : ℕ
+noChannel = 34

@@ -44,3 +44,34 @@ pub const READ_ONLY_PAGE: u8 = 22;
 
 // The functions for C: the bytes lent for a state or a tally are none.
 pub const NO_STATE: u8 = 21;
+
+// A listing: an address is odd, or the last is below the first.
+pub const NO_STRETCH: u8 = 23;
+
+// The text for C: an odd number of bytes is lent for words.
+pub const WORDS_ODD: u8 = 38;
+
+// The assembler: its source is not whole lines, or over 1,024 of them.
+pub const SOURCE_LINES: u8 = 36;
+
+// A line is no text; its label was given already; a label that it names is given nowhere.
+pub const UNKNOWN_TEXT: u8 = 24;
+
+pub const LABEL_AGAIN: u8 = 25;
+
+pub const LABEL_MISSING: u8 = 26;
+
+// A branch or SOB doesn't reach its label; an odd origin, or words that overlap an earlier line's or run past FFFF.
+pub const OUT_OF_REACH: u8 = 27;
+
+pub const OUT_OF_PLACE: u8 = 28;
+
+// A trace: it ends inside its count or a state, or bytes are left over.
+pub const TRACE_CUT: u8 = 29;
+
+// The recorder: a reading is out of range; there were 4,096 scans already; a channel is over 15.
+pub const READING_OUT_OF_RANGE: u8 = 33;
+
+pub const SCANS_FULL: u8 = 37;
+
+pub const NO_CHANNEL: u8 = 34;

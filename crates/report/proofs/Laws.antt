@@ -8,7 +8,8 @@ use Rattle.state.specs.declared.Settings.{Settings}
 use Rattle.state.specs.State.{modeNumber, psOf, heard}
 use Rattle.machine.specs.declared.Ran.{Ran}
 use Rattle.line.specs.declared.Place.{Place}
-use Rattle.line.specs.Line.{lineText, written, Left}
+use Rattle.letters.specs.Over.{written, Left}
+use Rattle.line.specs.Line.{lineText}
 use Rattle.machine.specs.Numbers.{registers}
 use Rattle.report.specs.Report.{benchBoard, placeOf, addressOf, endText}
 

@@ -5,7 +5,7 @@ use machine::Ran;
 use state::Settings;
 use state::State;
 ghost use mathlib.Core.Path.{_≡_};
-ghost use Rattle.line.specs.Line.{left, written};
+ghost use Rattle.letters.specs.Over.{left, written};
 ghost use Rattle.machine.specs.Numbers.{registers};
 ghost use Rattle.report.specs.Report as Spec;
 

@@ -26,7 +26,8 @@ use Rattle.job.specs.declared.Answer.{Answer}
 use Rattle.job.specs.declared.Answer.the-variants as Answer
 use Rattle.job.specs.Job.{After, after, linesAt, imageOf, mapOf, linesOf, lineWords, whyRead, pageOf, jobOf}
 use Rattle.job.specs.Sound.{job-taken}
-use Rattle.line.specs.Line.{Left, refusedText, written}
+use Rattle.letters.specs.Over.{Left, written}
+use Rattle.line.specs.Line.{refusedText}
 use Rattle.report.specs.Report.{benchBoard, endText}
 use Rattle.runjob.specs.Bench.{told, lineAt, imageAt, fromPowerUp, runIn, benchOf}
 

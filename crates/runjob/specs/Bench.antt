@@ -6,7 +6,8 @@ use Rattle.step.specs.Step.{powerUpOf}
 use Rattle.refusal.specs.Page.{unless}
 use Rattle.machine.specs.Run.{End, end, runOf}
 use Rattle.job.specs.Job.{imageOf, mapOf, linesOf, lineWords, whyRead}
-use Rattle.line.specs.Line.{Left, refusedText, written}
+use Rattle.letters.specs.Over.{Left, written}
+use Rattle.line.specs.Line.{refusedText}
 use Rattle.report.specs.Report.{benchBoard, endText}
 
 -- the line, and the image, the map and the line buffer after the call

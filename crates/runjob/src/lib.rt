@@ -6,7 +6,7 @@ use state::State;
 ghost use mathlib.Core.Path.{_≡_};
 ghost use Prim.Native.Nat.{_≤_};
 ghost use lib.ListN.{length, take};
-ghost use Rattle.line.specs.Line.{left};
+ghost use Rattle.letters.specs.Over.{left};
 ghost use Rattle.machine.specs.Entry.{runWhy};
 ghost use Rattle.machine.specs.Run.{runOf};
 ghost use Rattle.report.specs.Report.{benchBoard};

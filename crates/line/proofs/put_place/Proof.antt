@@ -1,11 +1,14 @@
 use Rattle.line.specs.Line.{placeText}
+use Rattle.letters.specs.Digits.{hex4}
+use Rattle.letters.specs.Laid.{wrote-fits}
+use native.Mathlib.Omega.{arith}
 use borrow.Author.Needs.{needs}
 use Rattle.line.proofs.put_place.Statement.{statement}
 use Rattle.line.proofs.put_place.Tie as tie
 
 returns : tie.Need-returns
-unfolding placeText
-returns c = rw (c .before .before .before .before .before .place .given .1) (c .before .before .put-hex4 .ensures)
+unfolding placeText hex4
+returns c = rw (c .before .before .before .before .before .place .given .1) (wrote-fits _ _ _ _ (omega (arith, c .before .before .before .before .before .before .before .before .pre)) (c .before .before .put-hex4 .ensures))
 
 returns-2 : tie.Need-returns-2
 unfolding placeText

@@ -1,7 +1,7 @@
 -- The parts of the line stand one after the other; each has its room, since the buffer has 61 characters.
 -- Assumes nothing.
-use Rattle.letters.specs.Laid.{then}
-use Rattle.line.proofs.Laws.{written-is, written-none, field-length, fields-length, mode-length, line-length}
+use Rattle.letters.specs.Laid.{then, written-is, written-none}
+use Rattle.line.proofs.Laws.{field-length, fields-length, mode-length, line-length}
 use Rattle.line.specs.Line.{lineText}
 use native.Mathlib.Omega.{arith}
 use Prim.Native.Nat.{_%_}

@@ -1,6 +1,7 @@
 use mathlib.Core.List.{[]}
 use native.Mathlib.Omega.{arith}
-use Rattle.letters.specs.Laid.{wrote-sets}
+use Rattle.letters.specs.Digits.{hex4}
+use Rattle.letters.specs.Laid.{wrote-sets, wrote-fits}
 use borrow.Author.Needs.{needs}
 use Rattle.optext.proofs.writing.put_operand.Statement.{statement}
 use Rattle.optext.proofs.writing.put_operand.Tie as tie
@@ -9,7 +10,8 @@ returns : tie.Need-returns
 returns c = rw (c .enum-told .given .1) (wrote-sets [] (c .before .before .before .args .out .now) (omega arith))
 
 returns-2 : tie.Need-returns-2
-returns-2 c = rw (c .before .before .before .before .enum-told2 .given .1) (c .before .before .put-hex4 .ensures)
+unfolding hex4
+returns-2 c = rw (c .before .before .before .before .enum-told2 .given .1) (wrote-fits _ _ _ _ (omega (arith, c .before .before .before .before .before .before .before .pre)) (c .before .before .put-hex4 .ensures))
 
 returns-3 : tie.Need-returns-3
 returns-3 c = rw (c .before .before .before .before .enum-told3 .given .1) (c .before .before .put-hex2 .ensures)
@@ -42,7 +44,8 @@ returns-12 : tie.Need-returns-12
 returns-12 c = rw (c .before .before .before .before .enum-told12 .given .1) (c .before .before .put-mode3 .ensures)
 
 returns-13 : tie.Need-returns-13
-returns-13 c = rw (c .before .before .before .before .enum-told13 .given .1) (c .before .before .put-hex42 .ensures)
+unfolding hex4
+returns-13 c = rw (c .before .before .before .before .enum-told13 .given .1) (wrote-fits _ _ _ _ (omega (arith, c .before .before .before .before .before .before .before .pre)) (c .before .before .put-hex42 .ensures))
 
 pub put-operand-spec : {M : Type 1} → statement M
 put-operand-spec =
