@@ -79,7 +79,7 @@ enum { /* modes */
 
 enum { /* causes; 5, 6 and 9 tell an address, and 8 in the step that locks by a bus error. 7 is free: no step gives it */
     WD16_BY_OP_CODE = 0, /* or its trap */
-    WD16_BY_I3 = 1, /* the halt option, or the end of its save */
+    WD16_BY_I3 = 1,      /* the halt option, or the end of its save */
     WD16_BY_I1 = 2,
     WD16_BY_I0 = 3,
     WD16_BY_NOTHING = 4,      /* waiting, halted or saved */
