@@ -1,4 +1,6 @@
 // The board: the lent image, the page map, and the log of what a step wrote over.
+use words::high;
+use words::low;
 ghost use mathlib.Core.Path.{_≡_};
 ghost use Prim.Native.Nat.{_+_, _*_, _≤_, _<_, _%_, _/_};
 ghost use lib.ListN.{length, getD, set};
@@ -57,18 +59,6 @@ fn word_at(image: &[u8], a: u16) -> u16
 {
     let at = (a / 2 * 2) as usize;
     wide(image[at]) + wide(image[at + 1]) * 256
-}
-
-fn low(v: u16) -> u8
-    ensures { λ r. ⌜ r ≡ v % 256 ⌝ }
-{
-    (v % 256) as u8
-}
-
-fn high(v: u16) -> u8
-    ensures { λ r. ⌜ r ≡ v / 256 % 256 ⌝ }
-{
-    (v / 256 % 256) as u8
 }
 
 // Puts a word at an address.

@@ -25,8 +25,11 @@ use Rattle.firmware.specs.Calls.{upBytes, stepBytes, powerUpCall, went, stepCal
 use Rattle.firmware.specs.Calls as Calls
 use Rattle.job.specs.declared.Answer.{Answer}
 use Rattle.job.specs.Job.{linesAt, imageOf, mapOf, linesOf, whyRead, pageOf, after, jobOf}
+use Rattle.letters.specs.Over.{Left, written}
+use Rattle.line.specs.Line.{refusedText}
+use Rattle.runjob.specs.Bench.{told, benchOf}
 use Rattle.demands.specs.Terms.{Answers, Numbered}
-use Rattle.demands.specs.Pages.{answers, endAnswer, end-answer}
+use Rattle.demands.specs.Pages.{answers, lent-where-refused, endAnswer, end-answer}
 use Rattle.demands.specs.Calls.{numbered, went-numbered, ended-numbered}
 
 -- POWER-UP: 1, 2, 3, 35
@@ -50,13 +53,24 @@ unfolding runPage
 run-answers settings m map lines s r m′ e =
     answers (λ z. z .page) (runWhy settings m map lines) (ended (runOf settings map lines s m)) (left (refused (runWhy settings m map lines)) m) (endAnswer (runOf settings map lines s m)) (end-answer (runOf settings map lines s m)) refl (λ h. ap (λ z. z .image) h) e
 
--- THE JOB READER: 1, 2, 4, then 11 to 20 in reading order
+-- THE JOB READER: 1, 2, 4, then 11 to 20 and 22 in reading order
 pub job-answers : (input image map lines : List ℕ) (r : Answer) (image′ map′ lines′ : List ℕ)
     → after (pageOf r) image′ map′ lines′ ≡ jobOf input image map lines
     → Answers (whyRead (length image) (length map) (length lines) input) (pageOf r) ((image′ ≡ image) × (map′ ≡ map) × (lines′ ≡ lines))
 unfolding jobOf
 job-answers input image map lines r image′ map′ lines′ e =
     answers (λ z. z .page) (whyRead (length image) (length map) (length lines) input) (after (answered (wordAt input (linesAt input))) (imageOf input) (mapOf input) (linesOf input)) (after (refused (whyRead (length image) (length map) (length lines) input)) image map lines) _ refl refl (λ h. (ap (λ z. z .image) h, ap (λ z. z .map) h, ap (λ z. z .lines) h)) e
+
+-- BENCH, from the job's bytes to the line: REFUSED and the number, and every other buffer as it was lent
+pub bench-answers : (input text image map lines : List ℕ) (line : Left) (image′ map′ lines′ : List ℕ)
+    → told line image′ map′ lines′ ≡ benchOf input text image map lines
+    → (whyRead (length image) (length map) (length lines) input ≡ 0 → ⊥)
+    → (line ≡ written (refusedText (whyRead (length image) (length map) (length lines) input)) text) × (image′ ≡ image) × (map′ ≡ map) × (lines′ ≡ lines)
+unfolding benchOf
+bench-answers input text image map lines line image′ map′ lines′ e n =
+    let why = whyRead (length image) (length map) (length lines) input in
+    let h = lent-where-refused why _ (told (written (refusedText why) text) image map lines) e n in
+    (ap (λ z. z .line) h, ap (λ z. z .image) h, ap (λ z. z .map) h, ap (λ z. z .lines) h)
 
 -- THE SAME FOR C, whose answer is the number: 21 before the others. w are the settings' bytes
 pub wd16-power-up-answers : (b m map w : List ℕ) (number : ℕ) (b′ m′ : List ℕ) → went number b′ m′ ≡ powerUpCall b m map w

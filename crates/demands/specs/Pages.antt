@@ -21,6 +21,11 @@ answers page (suc why) taken lent a h k f e = record {
   notRefused = λ z. absurd (omega (arith, z));
 }
 
+-- the same where the number is told in a text: refused, it is `lent`
+pub lent-where-refused : {B : Type 0} (why : ℕ) (taken lent : B) {y : B} → y ≡ unless why taken lent → (why ≡ 0 → ⊥) → y ≡ lent
+lent-where-refused zero taken lent e n = absurd (n refl)
+lent-where-refused (suc why) taken lent e n = e
+
 -- what a run's end answers
 pub endAnswer : End → RanPage
 endAnswer (end s m t) = ranPage (record { state = s; tally = t })

@@ -35,7 +35,7 @@ pageFrom b = record { registers = registersIn b; indicators = byteAt b 16; i2 = 
 abbrev pub stateFrom : List ℕ → State
 stateFrom b = stateOf (pageFrom b)
 
--- refused: not 24 bytes, indicators over 15, I2 over 1, a mode over 5, a cause over 9, a mark over 1, a 21st byte over 1
+-- refused: not 24 bytes, indicators over 15, I2 over 1, a mode over 5, a cause over 9, a mark over 1, byte 21 over 1
 abbrev pub over : List ℕ → Bool
 over b = ((((ltb 15 (byteAt b 16) || ltb 1 (byteAt b 17)) || ltb 5 (byteAt b 18)) || ltb 9 (byteAt b 19)) || ltb 1 (byteAt b 20)) || ltb 1 (byteAt b 21)
 

@@ -15,6 +15,7 @@ use operand::unfound;
 use state::State;
 use state::Went;
 use word::address::minus;
+use words::low;
 ghost use mathlib.Core.Path.{_≡_};
 ghost use Rattle.board.specs.Work.{word, byte};
 ghost use Rattle.board.specs.Exec.{beside, Lent, Board, Saw};
@@ -103,12 +104,6 @@ fn on_words(s: State, image: &mut [u8], map: &[u8], log: &mut [u16; 32], b: Bina
         place,
         done.value,
     )
-}
-
-fn low(v: u16) -> u8
-    ensures { λ r. ⌜ r ≡ v % 256 ⌝ }
-{
-    (v % 256) as u8
 }
 
 // MOVB to a register extends the sign through bit 15.

@@ -98,18 +98,6 @@ abbrev pub unmovedByte : Byte → Kept
 unmovedByte (Byte.Value v) = Kept.Done
 unmovedByte (Byte.Blank a) = Kept.Blank a
 
--- an element that was not moved ends the work there
-abbrev pub unwritten : Kept → Went
-unwritten Kept.Done = Went.Blank 0
-unwritten (Kept.Blank a) = Went.Blank a
-
-pub kept-lost : {r : Went} {k : Kept} {a : ℕ} {st : Store} → r ≡ unwritten k → k ≡ Kept.Blank a → wentAs r st ≡ gone a st
-kept-lost e h = went-none (e ∙ ap unwritten h)
-
-pub kept-store : (r : Kept) {st : Store} → stateOf (keptAs r st) ≡ st
-kept-store Kept.Done = refl
-kept-store (Kept.Blank a) = refl
-
 pub word-unmoved : {r : Kept} {w : Word} {a : ℕ} {st : Store} → r ≡ unmoved w → w ≡ Word.Blank a → keptAs r st ≡ gone a st
 word-unmoved e h = kept-none (e ∙ ap unmoved h)
 

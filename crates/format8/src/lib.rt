@@ -4,6 +4,7 @@ use board::Kept;
 use board::Word;
 use state::State;
 use state::Went;
+use state::unwritten;
 use word::address::minus;
 use word::address::plus;
 ghost use mathlib.Core.Path.{_≡_};
@@ -51,16 +52,7 @@ fn wide(b: u8) -> u16
     b as u16
 }
 
-// An element that was not moved ends the work there.
-fn unwritten(kept: Kept) -> Went
-    ensures { λ r. ⌜ r ≡ Spec.unwritten kept ⌝ }
-{
-    match kept {
-        Kept::Done => Went::Blank(0),
-        Kept::Blank(a) => Went::Blank(a),
-    }
-}
-
+// A word that was not read is not moved.
 fn unmoved(word: Word) -> Kept
     ensures { λ r. ⌜ r ≡ Spec.unmoved word ⌝ }
 {

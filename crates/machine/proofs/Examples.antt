@@ -36,7 +36,6 @@ unfolding before image cleared withReg setReg reg regOf along fitted writable wo
 ready =
     record {
       running = refl;
-      unmarked = refl;
       address = omega arith;
       here = refl;
       code = refl;

@@ -1,19 +1,19 @@
 -- THE END IS THE PAGE'S: the steps of a whole block move end where the manual's page says. Assumes nothing.
 use Prim.Native.Nat.{ℕ, _/_, _<_}
 use native.Mathlib.Omega.{arith}
-use mathlib.Core.Bool.{Bool, true}
+use mathlib.Core.Bool.{Bool, true, false}
 use mathlib.Core.List.{List, [], _∷_}
-use mathlib.Core.Path.{_≡_, refl, sym, ap, _∙_}
+use mathlib.Core.Path.{_≡_, refl, sym, ap, subst, _∙_}
 use lib.ListN.{length}
 use Rattle.state.specs.declared.State.{State}
 use Rattle.state.specs.declared.Settings.{Settings}
-use Rattle.state.specs.State.{heard, reg}
+use Rattle.state.specs.State.{heard, reg, withMark}
 use Rattle.format8.specs.Format8.{rowOf, sourceOf, destinationOf}
 use Rattle.format8.specs.Page.{Plain, countOf, imageAfter, stateAfter}
 use Rattle.step.specs.declared.Cause.{Cause}
 use Rattle.step.specs.declared.Cause.the-variants as Cause
 use Rattle.step.specs.Step.{After, after, hears, stepOf}
-use Rattle.step.specs.Block.{afterOne, elementIn, Ready, Left, all-left, Unheard, step-once, step-last, ready-on, left-on, image-on, state-on, hearing-on, image-last}
+use Rattle.step.specs.Block.{afterOne, elementIn, Ready, Left, all-left, Unheard, unheard-marked, ready-marked, step-once, step-last, ready-on, left-on, image-on, state-on, unmarked-on, hearing-on, image-last}
 use Rattle.machine.specs.Run.{noBlanks}
 use Rattle.machine.specs.Trail.{trailOf, lastOf, blanksIn, moved, firstIn, tallyIn}
 
@@ -48,21 +48,32 @@ step-ends settings map line lines s m c h k =
     })
 
 module _ (settings : Settings) (fit : settings .blocks ≡ true) (map : List ℕ) (op : ℕ) (eight : op / 512 ≡ 7) (p : Plain (sourceOf op) (destinationOf op)) where
+  -- from any state, marked or not: the first element clears the mark
   elements : (lines : List ℕ) (s : State) (m : List ℕ) (c : Cause)
-      → Left (length lines) s → Ready map op (length lines) s m → AllUnheard settings (hears s) lines
-      → EndsAt (after s m c) (trailOf settings map lines s m) (elementsOf op (length lines) s m)
+      → Left (length lines) (withMark s false) → Ready map op (length lines) (withMark s false) m → AllUnheard settings (hears (withMark s false)) lines
+      → EndsAt (after s m c) (trailOf settings map lines s m) (elementsOf op (length lines) (withMark s false) m)
   unfolding trailOf blanksIn firstIn
   elements [] s m c l a none = absurd (omega (arith, l .some))
   elements (line ∷ []) s m c l a (also q none) =
-      step-ends settings map line [] s m c (step-last p eight (heard settings line) fit q l a)
-      (record { last = ap (λ x. after (stateAfter (rowOf op) (sourceOf op) (destinationOf op) 1 s) x Cause.OpCode) (sym (image-last op p s m)); tally = refl })
+      let u = withMark s false in
+      step-ends settings map line [] s m c (step-last p eight (heard settings line) fit s (unheard-marked s (heard settings line) q) l a)
+      (record { last = ap (λ x. after (stateAfter (rowOf op) (sourceOf op) (destinationOf op) 1 u) x Cause.OpCode) (sym (image-last op p u m)); tally = refl })
   elements (line ∷ two ∷ lines) s m c l a (also q qs) =
-      step-ends settings map line (two ∷ lines) s m c (step-once p eight (heard settings line) fit q l a)
-      (rw (← state-on op p s (length lines), ← image-on op p s (length lines) m)
-      (elements (two ∷ lines) (afterOne op s) (elementIn op s m) Cause.OpCode (left-on op p s (length lines) l) (ready-on p a) (rw (hearing-on op p s) qs)))
+      let u = withMark s false in
+      step-ends settings map line (two ∷ lines) s m c (step-once p eight (heard settings line) fit s (unheard-marked s (heard settings line) q) l a)
+      (rw (← state-on op p u (length lines), ← image-on op p u (length lines) m)
+      (onward (afterOne op u) (unmarked-on op p s) (elements (two ∷ lines) (afterOne op u) (elementIn op u m) Cause.OpCode)
+      (left-on op p u (length lines) l) (ready-on p a) (rw (hearing-on op p u) qs)))
+    where
+      -- an unmarked state goes on as it is
+      onward : (v : State) → withMark v false ≡ v → {n : ℕ} {rest : List ℕ} {b : After} {rs : List After} {x : List ℕ}
+          → (Left n (withMark v false) → Ready map op n (withMark v false) x → AllUnheard settings (hears (withMark v false)) rest → EndsAt b rs (elementsOf op n (withMark v false) x))
+          → Left n v → Ready map op n v x → AllUnheard settings (hears v) rest → EndsAt b rs (elementsOf op n v x)
+      onward v e f = subst (λ w. Left _ w → Ready map op _ w _ → AllUnheard settings (hears w) _ → EndsAt _ _ (elementsOf op _ w _)) e f
 
-  -- a line word for each element, in which nothing is heard
+  -- a line word for each element, in which nothing is heard; an IEN's mark ends with the first
   pub block-move : (lines : List ℕ) (s : State) (m : List ℕ) (c : Cause)
-      → reg s 0 < 65536 → Ready map op (countOf (reg s 0)) s m → length lines ≡ countOf (reg s 0) → AllUnheard settings (hears s) lines
-      → EndsAt (after s m c) (trailOf settings map lines s m) (blockMove op s m)
-  block-move lines s m c w a e q = rw (← e) (elements lines s m c (rw (← e) at (all-left s w)) (rw (← e) at a) q)
+      → reg s 0 < 65536 → Ready map op (countOf (reg s 0)) s m → length lines ≡ countOf (reg s 0) → AllUnheard settings (hears (withMark s false)) lines
+      → EndsAt (after s m c) (trailOf settings map lines s m) (blockMove op (withMark s false) m)
+  unfolding withMark
+  block-move lines s m c w a e q = rw (← e) (elements lines s m c (rw (← e) at (all-left (withMark s false) w)) (rw (← e) at (ready-marked a)) q)

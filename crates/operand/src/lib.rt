@@ -6,6 +6,7 @@ use state::State;
 use state::Went;
 use word::address::minus;
 use word::address::plus;
+use words::low;
 ghost use mathlib.Core.Path.{_≡_};
 ghost use Prim.Native.Nat.{_%_, _<_};
 ghost use Rattle.board.specs.Work.{word, byte};
@@ -161,12 +162,6 @@ pub fn read_word(image: &[u8], map: &[u8], place: Place, r: u16) -> Word
         Place::Reg => Word::Value(r),
         Place::Mem(a, _, _) => board::load(image, map, a),
     }
-}
-
-fn low(v: u16) -> u8
-    ensures { λ r. ⌜ r ≡ v % 256 ⌝ }
-{
-    (v % 256) as u8
 }
 
 // The byte at a place; of a register, the lower byte.

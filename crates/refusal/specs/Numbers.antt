@@ -1,4 +1,4 @@
--- The page's refusal numbers, by what they refuse. 6 to 10 are the text's: optext Answer.
+-- The refusal numbers of the page and of document 02, by what they refuse. 6 to 10 and 30 to 32 are the text's: optext Answer.
 use Prim.Native.Nat.{ℕ}
 
 -- ---- what the processor is lent
@@ -65,7 +65,7 @@ bytesLeft = 20
 abbrev pub readOnlyPage : ℕ
 readOnlyPage = 22
 
--- ---- the functions for C: the bytes lent for a state or a tally are none
+-- ---- the functions for C: the bytes lent for a state, a tally or the settings are none
 abbrev pub noState : ℕ
 noState = 21
 

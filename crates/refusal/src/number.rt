@@ -1,4 +1,4 @@
-// The page's refusal numbers, by what they refuse. 6 to 10 are the text's: optext has them as the cases of its answers.
+// The refusal numbers of the page and of document 02, by what they refuse. 6 to 10 and 30 to 32 are the text's: optext has them as the cases of its answers.
 
 // What the processor is lent: the image is not 65,536 bytes, the map not 256, a map byte is over 2; a jumper number is over 3 or
 // the address register over 63; there are over 4,096 line words (for the job reader: the line buffer is not 4,096 words), an
@@ -42,7 +42,7 @@ pub const BYTES_LEFT: u8 = 20;
 // Its read-only pages: not rising, or not fitted.
 pub const READ_ONLY_PAGE: u8 = 22;
 
-// The functions for C: the bytes lent for a state or a tally are none.
+// The functions for C: the bytes lent for a state, a tally or the settings are none.
 pub const NO_STATE: u8 = 21;
 
 // A listing: an address is odd, or the last is below the first.

@@ -3,7 +3,9 @@ use Prim.Native.Nat.{ℕ}
 use mathlib.Core.List.{List}
 use mathlib.Core.Path.{_≡_, refl, ap, _∙_}
 use Rattle.board.specs.Work.{Work}
-use Rattle.board.specs.Exec.{Store, beside, Now, good, gone, stateOf, Did}
+use Rattle.board.specs.Exec.{Store, beside, Now, good, gone, stateOf, keptAs, Did}
+use Rattle.board.specs.declared.Kept.{Kept}
+use Rattle.board.specs.declared.Kept.the-variants as Kept
 use Rattle.state.specs.declared.State.{State}
 use Rattle.state.specs.declared.Went.{Went}
 use Rattle.state.specs.declared.Went.the-variants.{Done, Blank}
@@ -41,6 +43,19 @@ took-is {st = st} e = ap (λ z. tookAs z st) e
 
 pub took-none : {r : Took} {a : ℕ} {st : Store} → r ≡ Took.Blank a → tookAs r st ≡ gone a st
 took-none {st = st} e = ap (λ z. tookAs z st) e
+
+-- ---- a write that was not answered ends the work there
+
+abbrev pub unwritten : Kept → Went
+unwritten Kept.Done = Blank 0
+unwritten (Kept.Blank a) = Blank a
+
+pub kept-lost : {r : Went} {k : Kept} {a : ℕ} {st : Store} → r ≡ unwritten k → k ≡ Kept.Blank a → wentAs r st ≡ gone a st
+kept-lost e h = went-none (e ∙ ap unwritten h)
+
+pub kept-store : (r : Kept) {st : Store} → stateOf (keptAs r st) ≡ st
+kept-store Kept.Done = refl
+kept-store (Kept.Blank a) = refl
 
 -- ---- a word that was not popped or fetched ends the work there
 

@@ -3,7 +3,7 @@
 use Prim.Native.Nat.{ℕ, zero, suc, _*_, _/_, _%_, _<_, _≤_}
 use native.Mathlib.Omega.{arith}
 use native.Mathlib.Decide.{ℕ-discrete}
-use mathlib.Core.Bool.{Bool, true, false, cond}
+use mathlib.Core.Bool.{Bool, true, false, cond, not, _&&_}
 use mathlib.Core.List.{List}
 use mathlib.Core.Path.{_≡_, refl, sym, ap, _∙_}
 use lib.Dec.{eqb}
@@ -80,10 +80,9 @@ writesAt op s k = along (destinationBy (rowOf op) (sourceOf op) (destinationOf o
 abbrev pub elementIn : ℕ → State → List ℕ → List ℕ
 elementIn op s m = put (sizeOf (rowOf op .bytes)) m (reg s (destinationOf op)) (get (sizeOf (rowOf op .bytes)) m (reg s (sourceOf op)))
 
--- A running state at the op code with n elements to go (a marked one is unmarked by its first element), on an image where none of them meets a blank or writes over the op code.
+-- A running state at the op code with n elements to go, on an image where none of them meets a blank or writes over the op code.
 pub record Ready (map : List ℕ) (op n : ℕ) (s : State) (m : List ℕ) : Type 0 where
   pub running : s .mode ≡ Running
-  pub unmarked : s .mark ≡ false
   pub address : s .regs .pc < 65536
   pub here : fitted map (s .regs .pc) ≡ true
   pub code : wordAt m (s .regs .pc) ≡ op
@@ -126,31 +125,60 @@ unfolding kindIn
 unheard-quiet true out e f g = rw (e, f, g)
 unheard-quiet false out e f g = rw e
 
--- an unmarked state is not changed where the mark is cleared
-unmarked-is : (s : State) → s .mark ≡ false → withMark s false ≡ s
+-- what an unmarked state doesn't hear, a marked one doesn't
+unheard-false : (hearing : Bool) (out : Outside) → Unheard hearing out → Unheard false out
+unfolding kindIn
+unheard-false false out q = q
+unheard-false true out q = no-i3 (out .i3) refl
+  where
+    no-i3 : (b : Bool) → out .i3 ≡ b → Unheard false out
+    no-i3 false e = unheard-disabled out e
+    no-i3 true e = rw e (rw e at q)
+
+pub unheard-marked : (s : State) (out : Outside) → Unheard (hears (withMark s false)) out → Unheard (hears s) out
 unfolding withMark
-unmarked-is s e = ap (λ b. withMark s b) (sym e)
+unheard-marked s out q = by-mark (s .mark) (s .i2) q
+  where
+    by-mark : (mark i2 : Bool) → Unheard (i2 && not false) out → Unheard (i2 && not mark) out
+    by-mark false i2 q = q
+    by-mark true true q = unheard-false true out q
+    by-mark true false q = q
 
-past-unmarked : (s : State) (v : ℕ) → s .mark ≡ false → withPc s v .mark ≡ false
-unfolding withReg
-past-unmarked s v e = e
+-- the mark is cleared where the op code begins, so readiness doesn't look at it
+pub ready-marked : {map : List ℕ} {op n : ℕ} {s : State} {m : List ℕ} → Ready map op n s m → Ready map op n (withMark s false) m
+unfolding withMark reg
+ready-marked a = record {
+  running = a .running;
+  address = a .address;
+  here = a .here;
+  code = a .code;
+  reads = a .reads;
+  writes = a .writes;
+  apart = a .apart;
+}
 
-module _ {map : List ℕ} {op : ℕ} (p : Plain (sourceOf op) (destinationOf op)) (eight : op / 512 ≡ 7) (out : Outside) (fit : out .settings .blocks ≡ true) {s : State} {m : List ℕ} where
-  work-well : {n : ℕ} → 1 ≤ n → Ready map op n s m
-      → (let t = withPc s (plus (s .regs .pc) 2) in
-      run map (opWork out s) m ≡ value (again t (counted (rowOf op) t (sourceOf op) (destinationOf op))) (elementIn op s m))
-  unfolding opWork carry traced run along
+cleared-twice : (s : State) (v : ℕ) → withMark (withPc s v) false ≡ withPc (withMark s false) v
+unfolding withMark withReg
+cleared-twice s v = refl
+
+module _ {map : List ℕ} {op : ℕ} (p : Plain (sourceOf op) (destinationOf op)) (eight : op / 512 ≡ 7) (out : Outside) (fit : out .settings .blocks ≡ true) (s : State) {m : List ℕ} where
+  work-well : {n : ℕ} → 1 ≤ n → Ready map op n (withMark s false) m
+      → (let u = withMark s false in let t = withPc u (plus (u .regs .pc) 2) in
+      run map (opWork out s) m ≡ value (again t (counted (rowOf op) t (sourceOf op) (destinationOf op))) (elementIn op u m))
+  unfolding opWork carry traced run along withMark
   work-well some a =
-      let t = withPc s (plus (s .regs .pc) 2) in
-      let from : reg t (sourceOf op) ≡ reg s (sourceOf op) = past-source (rowOf op) p s in
-      let to : reg t (destinationOf op) ≡ reg s (destinationOf op) = past-destination (rowOf op) p s in
+      let u = withMark s false in
+      let t = withPc u (plus (u .regs .pc) 2) in
+      let from : reg t (sourceOf op) ≡ reg u (sourceOf op) = past-source (rowOf op) p u in
+      let to : reg t (destinationOf op) ≡ reg u (destinationOf op) = past-destination (rowOf op) p u in
       let moved : run map (execute out t op) m ≡ value (again t (counted (rowOf op) t (sourceOf op) (destinationOf op))) (elementIn op t m) =
       rw (executes out t op fit eight)
       (element-well map (rowOf op) t (sourceOf op) (destinationOf op) m (rw from (a .reads 0 (omega arith))) (rw to (a .writes 0 (omega arith)))) in
-      let off : withMark t false ≡ t = unmarked-is t (past-unmarked s _ (a .unmarked)) in
+      let past = withPc s (plus (s .regs .pc) 2) in
+      let off : withMark past false ≡ t = cleared-twice s (plus (s .regs .pc) 2) in
       run-then map (fetch s) _ m (fetched map s m op (a .here) (a .code))
-      ∙ run-then map (begun out t op) _ m (begun-well map out t op m eight)
-      ∙ run-then map (execute out (withMark t false) op) _ m (ap (λ u. run map (execute out u op) m) off ∙ moved)
+      ∙ run-then map (begun out past op) _ m (begun-well map out past op m eight)
+      ∙ run-then map (execute out (withMark past false) op) _ m (ap (λ v. run map (execute out v op) m) off ∙ moved)
       ∙ rw (from, to)
 
 -- PC less 2, past the op code
@@ -180,41 +208,47 @@ unfolding withReg setReg
 pc-past s = refl
 
 once-kept : (r : Row) (i j : ℕ) (s : State) (pc v : ℕ)
-    → (withPc (counted r (withPc s v) i j) pc .mode ≡ s .mode) × (withPc (counted r (withPc s v) i j) pc .mark ≡ s .mark) × (hears (withPc (counted r (withPc s v) i j) pc) ≡ hears s)
-unfolding counted onward withReg
+    → (withPc (counted r (withPc s v) i j) pc .mode ≡ s .mode) × (withMark (withPc (counted r (withPc s v) i j) pc) false ≡ withPc (counted r (withPc (withMark s false) v) i j) pc) × (hears (withPc (counted r (withPc s v) i j) pc) ≡ hears s)
+unfolding counted onward withReg withMark reg
 once-kept r i j s pc v = (refl, refl, refl)
 
 -- the state after an element that is not the last
 abbrev pub afterOne : ℕ → State → State
 afterOne op s = onceMore (rowOf op) (sourceOf op) (destinationOf op) s
 
+-- the first step of any state, marked or not: its element is the unmarked one's
 module _ {map : List ℕ} {op : ℕ} (p : Plain (sourceOf op) (destinationOf op)) (eight : op / 512 ≡ 7) (out : Outside) (fit : out .settings .blocks ≡ true)
-    {s : State} {m : List ℕ} (quiet : Unheard (hears s) out) where
-  kind-is : {n : ℕ} → Ready map op n s m → OpCode ≡ kindOf s out
+    (s : State) {m : List ℕ} (quiet : Unheard (hears s) out) where
+  kind-is : {n : ℕ} → Ready map op n (withMark s false) m → OpCode ≡ kindOf s out
+  unfolding withMark
   kind-is a = sym (rw (a .running) quiet)
 
   -- an element that is not the last
-  pub step-once : {k : ℕ} → Left (suc (suc k)) s → Ready map op (suc (suc k)) s m → stepOf map out s m ≡ after (afterOne op s) (elementIn op s m) Cause.OpCode
+  pub step-once : {k : ℕ} → Left (suc (suc k)) (withMark s false) → Ready map op (suc (suc k)) (withMark s false) m
+      → stepOf map out s m ≡ after (afterOne op (withMark s false)) (elementIn op (withMark s false) m) Cause.OpCode
   unfolding workOf
   step-once {k} l a =
-      let t = withPc s (plus (s .regs .pc) 2) in
+      let u = withMark s false in
+      let t = withPc u (plus (u .regs .pc) 2) in
       let c = counted (rowOf op) t (sourceOf op) (destinationOf op) in
-      let more : reg c 0 ≡ 0 → ⊥ = λ z. some-left (reg s 0) (suc (suc k)) (l .togo) (omega arith) (l .most)
-      (sym (counted-count (rowOf op) p s) ∙ z) in
-      let there : again t c ≡ afterOne op s = again-more t c more ∙ ap (λ x. withPc c x) (ap (λ x. minus x 2) (pc-past s) ∙ back (s .regs .pc) (a .address)) in
-      sym (step-well map out s m {k = OpCode} (kind-is a) (rw there at (work-well p eight out fit (omega arith) a)) refl)
+      let more : reg c 0 ≡ 0 → ⊥ = λ z. some-left (reg u 0) (suc (suc k)) (l .togo) (omega arith) (l .most)
+      (sym (counted-count (rowOf op) p u) ∙ z) in
+      let there : again t c ≡ afterOne op u = again-more t c more ∙ ap (λ x. withPc c x) (ap (λ x. minus x 2) (pc-past u) ∙ back (u .regs .pc) (a .address)) in
+      sym (step-well map out s m {k = OpCode} (kind-is a) (rw there at (work-well p eight out fit s (omega arith) a)) refl)
 
   -- the last
-  pub step-last : Left 1 s → Ready map op 1 s m → stepOf map out s m ≡ after (stateAfter (rowOf op) (sourceOf op) (destinationOf op) 1 s) (elementIn op s m) Cause.OpCode
+  pub step-last : Left 1 (withMark s false) → Ready map op 1 (withMark s false) m
+      → stepOf map out s m ≡ after (stateAfter (rowOf op) (sourceOf op) (destinationOf op) 1 (withMark s false)) (elementIn op (withMark s false) m) Cause.OpCode
   unfolding workOf
   step-last l a =
-      let t = withPc s (plus (s .regs .pc) 2) in
+      let u = withMark s false in
+      let t = withPc u (plus (u .regs .pc) 2) in
       let c = counted (rowOf op) t (sourceOf op) (destinationOf op) in
-      let none : plus (reg s 0) 65535 ≡ 0 = zero-left (reg s 0) 1 (l .togo) refl in
-      let there : again t c ≡ stateAfter (rowOf op) (sourceOf op) (destinationOf op) 1 s =
-      again-last t c (counted-count (rowOf op) p s ∙ none)
-      ∙ last-after (rowOf op) p s none in
-      sym (step-well map out s m {k = OpCode} (kind-is a) (rw there at (work-well p eight out fit (omega arith) a)) refl)
+      let none : plus (reg u 0) 65535 ≡ 0 = zero-left (reg u 0) 1 (l .togo) refl in
+      let there : again t c ≡ stateAfter (rowOf op) (sourceOf op) (destinationOf op) 1 u =
+      again-last t c (counted-count (rowOf op) p u ∙ none)
+      ∙ last-after (rowOf op) p u none in
+      sym (step-well map out s m {k = OpCode} (kind-is a) (rw there at (work-well p eight out fit s (omega arith) a)) refl)
 
 -- ---- what is left after an element comes to what the whole comes to
 
@@ -225,7 +259,6 @@ module _ {map : List ℕ} {op : ℕ} (p : Plain (sourceOf op) (destinationOf op)
       let pc : afterOne op s .regs .pc ≡ s .regs .pc = once-pc (rowOf op) p s in
       record {
         running = once-kept (rowOf op) (sourceOf op) (destinationOf op) s (s .regs .pc) (plus (s .regs .pc) 2) .0 ∙ a .running;
-        unmarked = once-kept (rowOf op) (sourceOf op) (destinationOf op) s (s .regs .pc) (plus (s .regs .pc) 2) .1 ∙ a .unmarked;
         address = rw pc (a .address);
         here = rw pc (a .here);
         code = rw pc (put-apart (sizeOf (rowOf op .bytes)) m (reg s (destinationOf op)) _ (s .regs .pc) (a .apart 0 (omega arith)) ∙ a .code);
@@ -244,6 +277,11 @@ module _ (op : ℕ) (p : Plain (sourceOf op) (destinationOf op)) (s : State) whe
 
   pub state-on : (k : ℕ) → stateAfter (rowOf op) (sourceOf op) (destinationOf op) (suc k) (afterOne op s) ≡ stateAfter (rowOf op) (sourceOf op) (destinationOf op) (suc (suc k)) s
   state-on k = once-after (rowOf op) p s k
+
+  -- an element leaves no mark
+  pub unmarked-on : withMark (afterOne op (withMark s false)) false ≡ afterOne op (withMark s false)
+  unfolding withMark
+  unmarked-on = once-kept (rowOf op) (sourceOf op) (destinationOf op) (withMark s false) (s .regs .pc) (plus (s .regs .pc) 2) .1
 
   pub hearing-on : hears (afterOne op s) ≡ hears s
   hearing-on = once-kept (rowOf op) (sourceOf op) (destinationOf op) s (s .regs .pc) (plus (s .regs .pc) 2) .2

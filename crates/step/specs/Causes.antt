@@ -74,7 +74,7 @@ module _ (map : List ℕ) (out : Outside) (s : State) (m : List ℕ) where
   pub value-no-blank : {t : State} {n : List ℕ} → run map (workOf (kindOf s out) out s) m ≡ value t n → isBlank (stepOf map out s m .cause) ≡ false
   value-no-blank h = ap (λ a. isBlank (a .cause)) (sym (step-well map out s m refl h refl)) ∙ no-blank (kindOf s out)
 
-  -- A step whose work reaches an unfitted address is the bus error's: its trap, or locked.
+  -- A step whose work is not answered is the bus error's: its trap, or locked.
   pub blank-error : {a : ℕ} → run map (workOf (kindOf s out) out s) m ≡ blank a → stepOf map out s m ≡ errorOf map (kindOf s out) out s m a
   blank-error h = sym (step-ill map out s m refl h refl refl)
 

@@ -68,24 +68,11 @@ restore s = do
   ps ← load (placeOf 8)
   give (withMode (withStatus s ps) Running)
 
--- ---- what the answers say
-
-pub kept-store : (r : Kept) {st : Store} → stateOf (keptAs r st) ≡ st
-kept-store Kept.Done = refl
-kept-store (Kept.Blank a) = refl
-
--- ---- an access that was not answered ends the work there
+-- ---- a read that was not answered ends the work there
 
 abbrev pub unread : Word → Went
 unread (Word.Value v) = Went.Blank 0
 unread (Word.Blank a) = Went.Blank a
 
-abbrev pub unwritten : Kept → Went
-unwritten Kept.Done = Went.Blank 0
-unwritten (Kept.Blank a) = Went.Blank a
-
 pub word-lost : {r : Went} {w : Word} {a : ℕ} {st : Store} → r ≡ unread w → w ≡ Word.Blank a → wentAs r st ≡ gone a st
 word-lost e h = went-none (e ∙ ap unread h)
-
-pub kept-lost : {r : Went} {k : Kept} {a : ℕ} {st : Store} → r ≡ unwritten k → k ≡ Kept.Blank a → wentAs r st ≡ gone a st
-kept-lost e h = went-none (e ∙ ap unwritten h)

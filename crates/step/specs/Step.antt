@@ -203,12 +203,12 @@ pub record After : Type 0 where
 abbrev pub after : State → List ℕ → Cause → After
 after s m k = record { state = s; image = m; cause = k }
 
--- what the work came to, or what is done where it reached the unfitted address a
+-- what the work came to, or what is done where it was not answered at a
 abbrev pub orElse : Came State → Cause → (ℕ → After) → After
 orElse (value s m) cause other = after s m cause
 orElse (blank a) cause other = other a
 
--- All work is dropped; the bus error's trap; if that too reaches an unfitted address, all is as before but the mode, which is locked.
+-- All work is dropped; the bus error's trap; if that too is not answered, all is as before but the mode, which is locked.
 -- The address told is the one that the dropped work reached, before bit 0 is dropped, and never the trap's.
 unfoldable pub errorOf : List ℕ → Kind → Outside → State → List ℕ → ℕ → After
 errorOf map k out s m a = orElse (run map (busError k out s) m) (errorCauseOf k a) (λ _. after (withMode s Locked) m (LockedAt a))
@@ -228,7 +228,7 @@ pub record Up : Type 0 where
 abbrev pub up : State → List ℕ → Up
 up s m = record { state = s; image = m }
 
--- At an unfitted address it is locked, PC and registers 0, and the image as lent.
+-- Where it is not answered it is locked, PC and registers 0, and the image as lent.
 abbrev pub orLocked : Came State → List ℕ → Up
 orLocked (value s n) m = up s n
 orLocked (blank a) m = up (withMode cleared Locked) m

@@ -42,7 +42,7 @@ pub(crate) enum Kind {
     Stuck,
 }
 
-// What a step was. The blanks and a lock-up that is newly met tell the address that the dropped work found unfitted.
+// What a step was. The blanks and a lock-up that is newly met tell the address that the dropped work was not answered at.
 pub enum Cause {
     OpCode,
     Switch,
@@ -372,7 +372,7 @@ fn bus_error(
     t.trap(image, map, log, t.ps(out, true), 0x12)
 }
 
-// All the work is dropped, which reached `a` unfitted; then the bus error, from the state before.
+// All the work is dropped, which was not answered at `a`; then the bus error, from the state before.
 fn error(
     s: State,
     image: &mut [u8],
@@ -422,7 +422,7 @@ pub fn step_on(
     }
 }
 
-// The option's work on a cleared state and a quiet line; at an unfitted address all of it is dropped, and the processor is locked.
+// The option's work on a cleared state and a quiet line; where it is not answered all of it is dropped, and the processor is locked.
 pub fn power(image: &mut [u8], map: &[u8], settings: Settings) -> State
     requires { ⌜ Lent (now map) (now image) ⌝ }
     ensures { λ r. ⌜ Spec.Powered (now (map .entry)) (Spec.powerUpOf settings (now (map .entry)) (now (image .entry))) r (now (image .exit)) ⌝ }

@@ -5,6 +5,7 @@ use state::Mode;
 use state::Outside;
 use state::State;
 use state::Went;
+use state::unwritten;
 use word::address::plus;
 ghost use mathlib.Core.Path.{_≡_};
 ghost use Rattle.board.specs.Exec.{beside, Lent, Board, Saw, Did, keptAs};
@@ -18,15 +19,6 @@ fn unread(word: Word) -> Went
     match word {
         Word::Value(_) => Went::Blank(0),
         Word::Blank(a) => Went::Blank(a),
-    }
-}
-
-fn unwritten(kept: Kept) -> Went
-    ensures { λ r. ⌜ r ≡ Spec.unwritten kept ⌝ }
-{
-    match kept {
-        Kept::Done => Went::Blank(0),
-        Kept::Blank(a) => Went::Blank(a),
     }
 }
 

@@ -1,8 +1,8 @@
-use Rattle.step.specs.Places.{unwritten}
+use Rattle.state.specs.Answer.{unwritten}
 use mathlib.Core.Path.{sym, ap}
 use borrow.Author.Needs.{needs}
-use Rattle.step.proofs.places.unwritten.Statement.{statement}
-use Rattle.step.proofs.places.unwritten.Tie as tie
+use Rattle.state.proofs.unwritten.Statement.{statement}
+use Rattle.state.proofs.unwritten.Tie as tie
 
 returns-2 : tie.Need-returns-2
 returns-2 c = sym (ap unwritten (c .before .kept .given .1))
