@@ -1,5 +1,5 @@
-/* A board's firmware in small: an image with a converter card that was pulled, powered up, run, stepped; a halt that
-   saves; and three refusals.
+/* A board's firmware in small: an image with a converter card that was pulled, powered up, run, run again in two parts with
+   lunch between them, stepped; a halt that saves; and three refusals.
    What it prints is held to example.out. */
 #include "hitchbriar.h"
 
@@ -11,7 +11,6 @@ static uint8_t map[WD16_MAP];
 static uint8_t settings[WD16_SETTINGS] = {
     [WD16_BLOCKS] = 1, [WD16_POWER_UP] = WD16_UP_FETCH, [WD16_HALT] = WD16_HALT_FETCH};
 static uint8_t state[WD16_STATE];
-static uint8_t tally[WD16_TALLY];
 
 static void put(uint16_t at, uint16_t word)
 {
@@ -51,6 +50,31 @@ static void show(const char *what, uint8_t answer)
     printf("\n");
 }
 
+static uint8_t run(uint8_t *tally, const uint16_t *lines, size_t count)
+{
+    return wd16_run(state, sizeof state, tally, WD16_TALLY, image, sizeof image, map, sizeof map, settings,
+                    sizeof settings, lines, count);
+}
+
+static void tell(unsigned blanks, unsigned first, unsigned address)
+{
+    printf("blanks %u, the first at %04X, where %04X was unfitted\n", blanks, first, address);
+}
+
+/* A run over all lines, with lunch after the first n: what is kept over it is the state and the image. Together the two
+   parts are the run over all lines, and so are their tallies: the blanks add up, and the first is the first part's, or else
+   the second's with its place moved on by n. */
+static void run_with_lunch(const uint16_t *lines, size_t count, size_t n)
+{
+    uint8_t before[WD16_TALLY], after[WD16_TALLY];
+    show("to lunch", run(before, lines, n));
+    show("and on", run(after, lines + n, count - n));
+    unsigned early = word_at(before, WD16_FIRST), late = word_at(after, WD16_FIRST);
+    tell(word_at(before, WD16_BLANKS) + word_at(after, WD16_BLANKS),
+         early != 0xFFFF ? early : late != 0xFFFF ? (unsigned)n + late : 0xFFFF,
+         word_at(early != 0xFFFF ? before : after, WD16_FIRST_ADDRESS));
+}
+
 static uint8_t step(uint16_t line)
 {
     return wd16_step(state, sizeof state, image, sizeof image, map, sizeof map, settings, sizeof settings, line);
@@ -59,13 +83,20 @@ static uint8_t step(uint16_t line)
 int main(void)
 {
     static const uint16_t quiet[18];
+    static uint8_t image_before[WD16_IMAGE];
+    uint8_t state_before[WD16_STATE], tally[WD16_TALLY];
     load();
     show("power-up",
          wd16_power_up(state, sizeof state, image, sizeof image, map, sizeof map, settings, sizeof settings));
-    show("run", wd16_run(state, sizeof state, tally, sizeof tally, image, sizeof image, map, sizeof map, settings,
-                         sizeof settings, quiet, 18));
-    printf("blanks %u, the first at %04X, where %04X was unfitted\n", word_at(tally, WD16_BLANKS),
-           word_at(tally, WD16_FIRST), word_at(tally, WD16_FIRST_ADDRESS));
+    memcpy(state_before, state, sizeof state);
+    memcpy(image_before, image, sizeof image);
+    show("run", run(tally, quiet, 18));
+    tell(word_at(tally, WD16_BLANKS), word_at(tally, WD16_FIRST), word_at(tally, WD16_FIRST_ADDRESS));
+
+    memcpy(state, state_before, sizeof state);
+    memcpy(image, image_before, sizeof image);
+    run_with_lunch(quiet, 18, 2);
+
     show("step", step(0)); /* the card is still missing: the step tells its address */
 
     map[0xC0] = WD16_READ_ONLY; /* the card is put in again: it can be read */

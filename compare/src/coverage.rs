@@ -289,19 +289,27 @@ const CORNERS: [Corner; 47] = [
 #[repr(u8)]
 pub enum RunKind {
     CutBlankInFirst,
+    CutBlankInBoth,
     CutBlankInSecondAlone,
     CutWithoutBlank,
     CutAtTheBeginning,
     CutAtTheEnd,
+    CutMarked,
+    CutSaved,
+    CutLocked,
     PluggedWritable,
     PluggedReadOnly,
     NotSound,
 }
 
-const RUN_KINDS: [(RunKind, &str); 8] = [
+const RUN_KINDS: [(RunKind, &str); 12] = [
     (
         RunKind::CutBlankInFirst,
         "a cut run, blank in its first part",
+    ),
+    (
+        RunKind::CutBlankInBoth,
+        "a cut run, blank in both its parts",
     ),
     (
         RunKind::CutBlankInSecondAlone,
@@ -310,6 +318,9 @@ const RUN_KINDS: [(RunKind, &str); 8] = [
     (RunKind::CutWithoutBlank, "a cut run without a blank"),
     (RunKind::CutAtTheBeginning, "a run with an empty first part"),
     (RunKind::CutAtTheEnd, "a run with an empty second part"),
+    (RunKind::CutMarked, "a run cut where the mark is set"),
+    (RunKind::CutSaved, "a run cut between a save and its end"),
+    (RunKind::CutLocked, "a run cut after it has locked"),
     (
         RunKind::PluggedWritable,
         "a sound run with more writable cards",
@@ -324,7 +335,8 @@ const RUN_KINDS: [(RunKind, &str); 8] = [
 /// What a run cut at a place shows.
 pub fn cut_kinds(place: usize, length: usize, first: &Ran, second: &Ran) -> Vec<RunKind> {
     let mut kinds = vec![match (first.first, second.first) {
-        (Some(_), _) => RunKind::CutBlankInFirst,
+        (Some(_), None) => RunKind::CutBlankInFirst,
+        (Some(_), Some(_)) => RunKind::CutBlankInBoth,
         (None, Some(_)) => RunKind::CutBlankInSecondAlone,
         (None, None) => RunKind::CutWithoutBlank,
     }];
@@ -333,6 +345,14 @@ pub fn cut_kinds(place: usize, length: usize, first: &Ran, second: &Ran) -> Vec<
     }
     if length > 0 && place == length {
         kinds.push(RunKind::CutAtTheEnd);
+    }
+    if 0 < place && place < length {
+        let shown = [
+            (first.state.mark, RunKind::CutMarked),
+            (first.state.mode == Mode::Saved, RunKind::CutSaved),
+            (first.state.mode == Mode::Locked, RunKind::CutLocked),
+        ];
+        kinds.extend(shown.iter().filter(|(is, _)| *is).map(|(_, kind)| *kind));
     }
     kinds
 }
@@ -527,7 +547,12 @@ impl Coverage {
             }
         }
         for (kind, what) in RUN_KINDS {
-            let known = kind != RunKind::PluggedReadOnly || self.level.has(ReadOnlyPages);
+            let known = match kind {
+                RunKind::CutMarked => self.level.has(LateIen),
+                RunKind::CutSaved => self.level.has(Jumpers),
+                RunKind::PluggedReadOnly => self.level.has(ReadOnlyPages),
+                _ => true,
+            };
             if known {
                 ask(self.runs[kind as usize], what.to_string());
             }

@@ -313,6 +313,9 @@ fn is_the_same_with_cards(
     Ok(())
 }
 
+/// A line word's I3.
+const SWITCH: u16 = 0x0008;
+
 fn one_run(
     pair: &mut Pair,
     random: &mut Random,
@@ -320,10 +323,16 @@ fn one_run(
     reached: &mut Coverage,
 ) -> Result<(), Difference> {
     let number = random.pick(&[0, 1, 2, 4, 8, 16, 64, MOST_LINES]);
-    let lines: Vec<u16> = (0..number).map(|_| gen::line(random)).collect();
+    let mut lines: Vec<u16> = (0..number).map(|_| gen::line(random)).collect();
     let mut state = gen::state(random, map, pair.level);
     if random.percent(50) {
         state.mode = Mode::Running;
+    } else if pair.level.has(Wish::Jumpers) && random.percent(10) {
+        // Saved, and the switch stays on for half the run.
+        state.mode = Mode::Saved;
+        for line in &mut lines[..number / 2] {
+            *line |= SWITCH;
+        }
     }
     pair.lend_settings(&gen::settings(random, pair.level));
     pair.lend_state(&state);

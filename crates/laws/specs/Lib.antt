@@ -1,0 +1,6 @@
+pub mod Sizes
+pub mod Taken
+pub mod Append
+pub mod Calls
+pub mod One
+pub mod Halves
