@@ -7,7 +7,7 @@ slice (`&[u8]`, `&mut [u8]`, `&[u16]`) or a number (u8, u16, u32); the answer is
     names.sed     gives the compiled functions names that C can call
     exports.c     the functions under their own names, over the compiled ones; c/hitchbriar.h must declare each alike
     calls.h       for c/serve.c: each function by its name, over arguments read from a request
-and, on standard output, the crates that reach.rt needs. What a crate for tests alone exports (TESTS), no header declares.
+and, on standard output, the crates that reach.rt needs.
 """
 import pathlib
 import re
@@ -15,7 +15,6 @@ import sys
 
 EXPORT = re.compile(r'#\[no_mangle\]\s*pub extern "C" fn (\w+)\(([^)]*)\)\s*->\s*u8')
 SLICES = {"&[u8]": ("const uint8_t", 1), "&mut [u8]": ("uint8_t", 1), "&[u16]": ("const uint16_t", 2)}
-TESTS = {"textserve"}
 NUMBERS = {"u8": "uint8_t", "u16": "uint16_t", "u32": "uint32_t"}
 
 
@@ -31,10 +30,6 @@ class Function:
 
     def path(self):
         return f"{self.place}::{self.name}"
-
-    def told(self):
-        """The declaration of what no header has."""
-        return [prototype(self) + ";"] if self.place in TESTS else []
 
     def inner(self):
         return "inner_" + self.name
@@ -97,7 +92,6 @@ def exporting(functions):
     for function in functions:
         inner = ", ".join(NUMBERS.get(kind, "struct slice *") for _, kind in function.parameters)
         yield f"uint8_t {function.inner()}({inner});"
-        yield from function.told()
         yield prototype(function) + " {"
         for name, kind in function.parameters:
             if kind in SLICES:
@@ -110,7 +104,6 @@ def exporting(functions):
 def serving(functions):
     """What a request's arguments are, and the call on them."""
     for function in functions:
-        yield from function.told()
         given = []
         for at, (_, kind) in enumerate(function.parameters):
             if kind in NUMBERS:

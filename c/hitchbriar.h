@@ -1,11 +1,13 @@
-/* The WD16 processor for C: power-up, one step, and a run over line words, on buffers that the caller lends.
+/* The WD16 for C, on buffers that the caller lends: the processor, with power-up, one step, and a run over line words; and the
+   text of one op code, written and read.
 
-   Link libfirmware.a, which `rt staticlib firmware` proves and writes. It needs nothing else, no C library either.
+   The processor is in libfirmware.a, which `rt staticlib firmware` proves and writes, the text in libtextc.a, of
+   `rt staticlib textc`. A program links what it calls. Neither needs anything else, no C library either.
 
    Each buffer comes as a pointer and a length, in elements. The pointer is not null and points at that many elements, also
    where the length is wrong; a buffer that is written overlaps no other. Nothing else is asked of the caller: whatever the
    buffers hold, and whatever their lengths are, a call comes back with 0 or with the number of its refusal. A refused call
-   leaves every buffer as it was. Nothing is kept between calls. */
+   leaves every buffer as it was, but for the column of a refused text. Nothing is kept between calls. */
 #ifndef HITCHBRIAR_H
 #define HITCHBRIAR_H
 
@@ -138,6 +140,46 @@ uint8_t wd16_step(uint8_t *state, size_t state_length, uint8_t *image, size_t im
 uint8_t wd16_run(uint8_t *state, size_t state_length, uint8_t *tally, size_t tally_length, uint8_t *image,
                  size_t image_length, const uint8_t *map, size_t map_length, const uint8_t *settings,
                  size_t settings_length, const uint16_t *lines, size_t lines_length);
+
+/* ---- the text of one op code */
+
+enum {
+    WD16_TEXT = 32,   /* bytes of a text's buffer, at least, where a text is written. The longest line has 24 characters */
+    WD16_WORDS = 6,   /* bytes of the words' buffer, at least, where a text is read: three words, the most of an op code */
+    WD16_ANSWER = 6,  /* bytes of an answer: three words */
+};
+
+/* An answer's bytes: words, two bytes each, low byte first. What a call doesn't answer is 0. */
+enum {
+    WD16_LENGTH = 0, /* writing: the line's length */
+    WD16_TAKEN = 2,  /* writing: the number of words that the op code has */
+    WD16_COUNT = 0,  /* reading: the number of words read */
+    WD16_COLUMN = 4, /* reading, where the refusal is 9, 30, 31 or 32: the column, from 0, of the first character that no text
+                        has there after the same beginning; the line's length where it ends too early */
+};
+
+/* Refusals, in the order in which they are looked for: 21 (the answer is not 6 bytes), then these. */
+enum {
+    WD16_ODD_WORDS = 38,     /* the words' buffer has an odd number of bytes */
+    WD16_TEXT_SHORT = 8,     /* writing: the text's buffer is under 32 bytes */
+    WD16_NO_WORDS = 6,       /* writing: no words */
+    WD16_WORD_MISSING = 7,   /* writing: a needed next word is missing */
+    WD16_WORDS_SHORT = 10,   /* reading: the words' buffer is under 6 bytes */
+    WD16_EARLY_END = 32,     /* reading, each with its column: the line ends too early, the empty line too; */
+    WD16_AFTER_TEXT = 31,    /* a character after a whole text; */
+    WD16_UNKNOWN_NAME = 9,   /* an unknown mnemonic; */
+    WD16_BAD_OPERAND = 30,   /* a bad operand */
+};
+
+/* Writes the text of the op code that begins the words, which are two bytes each, low byte first. Bytes of the text's buffer
+   after the line stay, and there is no line end; words past those of the op code are ignored. Refusals: 21, 38, 8, 6, 7. */
+uint8_t wd16_write_text(const uint8_t *words, size_t words_length, uint8_t *text, size_t text_length, uint8_t *answer,
+                        size_t answer_length);
+
+/* Reads a text, the whole buffer, into words. Bytes of the words' buffer after the words read stay. Refusals: 21, 38, 10, and 32,
+   31, 9 or 30, which alone among refusals write: the answer, with the column. */
+uint8_t wd16_read_text(const uint8_t *text, size_t text_length, uint8_t *words, size_t words_length, uint8_t *answer,
+                       size_t answer_length);
 
 #ifdef __cplusplus
 }

@@ -1,36 +1,43 @@
 #!/usr/bin/env bash
-# Tests the C interface before the proof: the example, plain and under the address sanitizer, and random calls through the
+# Tests the C interface before the proof: the examples, plain and under the address sanitizer, and random calls through the
 # library beside the plain interpreter (build it first: cargo build --release in compare).
-#   c/test.sh [SEED [CASES [LIBRARY]]]
-# The library's code is not proved here, or it is LIBRARY, which was proved before (c/build.sh says more).
+#   c/test.sh [SEED [CASES [LIBRARY ..]]]
+# The library's code is not proved here, or it is in the LIBRARIES, which were proved before (c/build.sh says more).
 set -euo pipefail
 cd "$(dirname "$0")/.."
 . compare/toolchain.sh
 seed=${1:-$(date +%s)} cases=${2:-40000}
-c/build.sh ${3:+"$3"}
+c/build.sh "${@:3}"
 [ -n "${3:-}" ] || emulator=
 
-example() { # NAME COMMAND
-    "${@:2}" target/c/"$1" | diff c/example.out -
-    echo "$1 ok"
+example() { # NAME SUFFIX COMMAND
+    "${@:3}" "target/c/$1$2" | diff "c/$1.out" -
+    echo "$1$2 ok"
 }
 
 # Only the first line and the last ones of what is said, unless it goes wrong.
-compared() { # NAME SEED COMMAND
-    local said=target/c/$1.said
-    if compare/target/release/difftest served "$3" "$2" "$cases" >"$said" 2>&1; then
-        echo "$1: $(head -1 "$said"), $(tail -1 "$said")"
+compared() { # KIND NAME SEED CASES COMMAND
+    local said=target/c/$2.$1.said
+    if compare/target/release/difftest "$1" "$5" "$3" "$4" >"$said" 2>&1; then
+        echo "$2 $1: $(head -1 "$said"), $(tail -1 "$said")"
     else
         cat "$said"
         return 1
     fi
 }
 
-example example $emulator
-compared serve "$seed" "$emulator target/c/serve" &
+# The processor's calls, the text's with every byte that is lent, and cases of texts.
+all_compared() { # NAME SEED COMMAND
+    compared served "$1" "$2" "$cases" "$3"
+    compared calls "$1" "$2" "$cases" "$3"
+    compared text "$1" "$2" "$((cases / 10))" "$3"
+}
+
+for name in example text; do example "$name" '' $emulator; done
+all_compared serve "$seed" "$emulator target/c/serve" &
 plain=$!
 if [ -x target/c/serve-asan ]; then
-    example example-asan
-    compared serve-asan "$((seed + 1))" target/c/serve-asan
+    for name in example text; do example "$name" -asan; done
+    all_compared serve-asan "$((seed + 1))" target/c/serve-asan
 fi
 wait "$plain"

@@ -1,6 +1,7 @@
 //! Random case lines of texts, listings, assemblies, traces and scans, and what their answers
 //! must reach.
 
+use crate::abi::{self, Call};
 use crate::assembler::{LEAST_SECTION, LINE};
 use crate::board::PAGES;
 use crate::cases::{setup_text, state_text};
@@ -239,6 +240,29 @@ fn text_case(random: &mut Random, level: Level) -> String {
         }
     }
 }
+
+/// A call of the text for C, on random bytes where it is to write: its lent buffers, with a wrong length now and then.
+pub fn text_call(random: &mut Random, level: Level) -> (Call, Vec<Vec<u8>>) {
+    let mut filled = |length: usize| (0..length).map(|_| random.word() as u8).collect();
+    let [text, words, answer]: [Vec<u8>; 3] = [filled(0x41), filled(11), filled(7)];
+    let length = random.pick(&[0x20, 0x20, 0x21, 0x41, 0x1F, 0]);
+    let room = random.pick(&[6, 6, 8, 10, 11, 7, 5, 4, 0]);
+    let answer = answer[..random.pick(&[6, 6, 6, 6, 6, 6, 6, 7, 5, 0])].to_vec();
+    if random.percent(50) {
+        let mut lent = abi::bytes_of_words(&op_words(random));
+        lent.truncate(random.pick(&[6, 6, 6, 5, 4, 3, 2, 0]));
+        return (Call::WriteText, vec![lent, text[..length].to_vec(), answer]);
+    }
+    let line = op_text(random, level);
+    let line = mutated(random, &line);
+    (Call::ReadText, vec![line, words[..room].to_vec(), answer])
+}
+
+/// What the calls of the text must answer.
+pub const TEXT_ANSWERS: [(Call, &[u8]); 2] = [
+    (Call::WriteText, &[0, 21, 38, 8, 6, 7]),
+    (Call::ReadText, &[0, 21, 38, 10, 9, 30, 31, 32]),
+];
 
 // ---- listings ----
 

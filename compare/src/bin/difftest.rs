@@ -4,6 +4,7 @@
 //! difftest self SEED CASES            the interpreter with itself; prints what was reached
 //! difftest served COMMAND SEED CASES  with the static library, through a program that serves its calls
 //! difftest bench COMMAND SEED JOBS    with a bench program, by jobs on its standard input
+//! difftest calls COMMAND SEED CASES   calls of the text for C, with every byte that is lent to them
 //! difftest text COMMAND SEED CASES    case lines of texts, through a program that serves calls;
 //! difftest asm | trace | scans ..     the same for assemblies, traces and scans
 //! difftest list COMMAND SEED CASES    the same for listings, through a listing program
@@ -25,7 +26,7 @@ use wd16::calls::Plain;
 use wd16::cases::{self, Answers};
 use wd16::coverage::{cut_kinds, Ahead, Coverage, RunKind};
 use wd16::gen::{self, Random};
-use wd16::gencases::{shown, Kind};
+use wd16::gencases::{shown, text_call, Kind, TEXT_ANSWERS};
 use wd16::machine::MOST_LINES;
 use wd16::recorder::{Tallies, CHANNELS};
 use wd16::served::{printed, Served};
@@ -518,6 +519,52 @@ fn compare_served(level: Level, command: &str, seed: u64, cases: usize) -> ExitC
     }
 }
 
+// ---- calls of the text for C ----
+
+/// Holds the number and every lent buffer of a call against the other's.
+fn compare_calls(level: Level, other: &mut dyn Interface, seed: u64, cases: usize) -> ExitCode {
+    println!("seed {seed}, {cases} cases");
+    let mut random = Random::new(seed);
+    let mut reached: BTreeMap<(u8, u8), u64> = BTreeMap::new();
+    for _ in 0..cases {
+        let (call, lent) = text_call(&mut random, level);
+        let (mut ours, mut theirs) = (lent.clone(), lent.clone());
+        let number = Plain(level).call(call, &mut ours);
+        let their_number = other.call(call, &mut theirs);
+        if (number, &ours) != (their_number, &theirs) {
+            let told = |buffers: &[Vec<u8>]| buffers.iter().map(|b| hex(b)).collect::<Vec<_>>();
+            println!("{call:?} on {:?}", told(&lent));
+            println!("  ours   {number} {:?}", told(&ours));
+            println!("  theirs {their_number} {:?}", told(&theirs));
+            return ExitCode::FAILURE;
+        }
+        *reached.entry((call as u8, number)).or_default() += 1;
+    }
+    println!("{reached:?}");
+    println!("0 differences");
+    let wanted = TEXT_ANSWERS
+        .iter()
+        .flat_map(|&(call, numbers)| numbers.iter().map(move |&number| (call, number)));
+    let missing: Vec<String> = wanted
+        .filter(|&(call, number)| !reached.contains_key(&(call as u8, number)))
+        .map(|(call, number)| format!("{call:?} answered {number}"))
+        .collect();
+    all_reached(&missing)
+}
+
+fn compare_text_calls(level: Level, command: &str, seed: u64, cases: usize) -> ExitCode {
+    if command == "self" {
+        return compare_calls(level, &mut Plain(level), seed, cases);
+    }
+    match Served::start(command, level) {
+        Ok(mut served) => compare_calls(level, &mut served, seed, cases),
+        Err(error) => {
+            println!("{command}: {error}");
+            ExitCode::FAILURE
+        }
+    }
+}
+
 // ---- case lines ----
 
 /// The interpreter behind the interface, or a program that serves it.
@@ -577,7 +624,7 @@ fn compare_lines(
 
 fn usage() -> ExitCode {
     println!("difftest self SEED CASES [LEVEL]");
-    println!("difftest served|bench|text|asm|trace|scans|list COMMAND SEED CASES [LEVEL]");
+    println!("difftest served|bench|calls|text|asm|trace|scans|list COMMAND SEED CASES [LEVEL]");
     ExitCode::FAILURE
 }
 
@@ -599,6 +646,7 @@ fn main() -> ExitCode {
         "self" => compare(level, &mut Plain(level), seed, count),
         "served" => compare_served(level, command, seed, count),
         "bench" => compare_jobs(level, command, seed, count),
+        "calls" => compare_text_calls(level, command, seed, count),
         name => {
             let Some(kind) = Kind::named(name) else {
                 return usage();

@@ -2,7 +2,7 @@
 -- Assumes nothing.
 use mathlib.Core.Path.{_≡_, refl}
 use mathlib.Core.Logic.{⊎-elim}
-use mathlib.Core.List.{[], _∷_}
+use mathlib.Core.List.{List, [], _∷_}
 use Prim.Native.Nat.{ℕ, _≤_}
 use native.Mathlib.Omega.{arith}
 use lib.ListN.{length, length-append}
@@ -26,6 +26,10 @@ line-le w x y =
     (λ e. let n = two-le k (row-lt w) e in
     simp length-append (omega arith))
     (bool-cases (isShown (secondOf k)))
+
+pub text-le : (ws : List ℕ) → length (textOf ws) ≤ 24
+unfolding textOf
+text-le ws = line-le _ _ _
 
 -- DE38 0000 0000 is MOVB @0000(R0),@0000(R0)
 pub line-24 : length (textOf (0xDE38 ∷ 0 ∷ 0 ∷ [])) ≡ 24

@@ -145,6 +145,10 @@ sepText s k w x = cond (isShown k) (s ∷ operandText k w x) []
 abbrev pub rowText : ℕ → ℕ → ℕ → ℕ → List ℕ
 rowText k w x y = (nameOf k ++ sepText (code " ") (firstOf k) w x) ++ sepText (code ",") (secondOf k) w y
 
+-- .WORD and four digits, of any word
+unfoldable pub wordText : ℕ → List ℕ
+wordText w = rowText wordRow w 0 0
+
 -- the line in the word's own row
 unfoldable pub lineText : ℕ → ℕ → ℕ → List ℕ
 lineText w x y = rowText (rowOf w) w x y
