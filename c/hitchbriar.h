@@ -23,6 +23,11 @@ enum {
     WD16_STATE = 24,        /* bytes of a state */
     WD16_TALLY = 6,         /* bytes of a tally */
     WD16_MOST_LINES = 4096, /* line words of a run, at most */
+
+    WD16_SOURCE_LINE = 32,         /* bytes of a line of a source */
+    WD16_MOST_SOURCE_LINES = 1024, /* lines of a source, at most */
+    WD16_SECTION = 12290,          /* bytes of an assembler's output, at least */
+    WD16_ANSWER = 6,               /* bytes of an answer */
 };
 
 enum { /* a map's bytes */
@@ -97,6 +102,13 @@ enum {
     WD16_FIRST_ADDRESS = 4,
 };
 
+/* An answer's bytes: three words, two bytes each, low byte first. The assembler's are the length of the section, 0, and the
+   line of a refusal, from 0; what is not answered is 0. */
+enum {
+    WD16_SECTION_LENGTH = 0,
+    WD16_REFUSED_LINE = 4,
+};
+
 /* A line word's bits. The others are 0. */
 enum {
     WD16_LINE_I0 = 0x0001,
@@ -120,6 +132,18 @@ enum {
     WD16_BAD_LINE = 5,       /* an unused bit of a line word is set */
 };
 
+/* The assembler's refusals, in the order in which they are looked for, after 21 for an answer that is not 6 bytes. Those from
+   24 to 28 tell the lowest line that has them. */
+enum {
+    WD16_SECTION_SHORT = 10, /* the section is under 12,290 bytes */
+    WD16_SOURCE_LINES = 36,  /* the source is not whole lines of 32 bytes, or over 1,024 of them */
+    WD16_UNKNOWN_TEXT = 24,  /* a line is no text */
+    WD16_LABEL_AGAIN = 25,   /* its label is already given */
+    WD16_LABEL_MISSING = 26, /* no line gives a label that it names */
+    WD16_OUT_OF_PLACE = 28,  /* an odd origin, or words that overlap an earlier line's or run past FFFF */
+    WD16_OUT_OF_REACH = 27,  /* a branch further than -128 to 127 words, or SOB further than 0 to 63 back */
+};
+
 /* Writes the state after power-up, with cause 0. The state's bytes are not read; the image is written where the power-up
    option is the halt option and that is a save. Refusals: 21 for the state's length and for the settings, 1, 2, 3, 35. */
 uint8_t wd16_power_up(uint8_t *state, size_t state_length, uint8_t *image, size_t image_length, const uint8_t *map,
@@ -135,6 +159,13 @@ uint8_t wd16_step(uint8_t *state, size_t state_length, uint8_t *image, size_t im
 uint8_t wd16_run(uint8_t *state, size_t state_length, uint8_t *tally, size_t tally_length, uint8_t *image,
                  size_t image_length, const uint8_t *map, size_t map_length, const uint8_t *settings,
                  size_t settings_length, const uint16_t *lines, size_t lines_length);
+
+/* Assembles a source, whole lines of 32 bytes padded with spaces, into the word section of a job at the front of the
+   section's buffer: a count, then as many addresses and words, addresses rising. The bytes after it stay as they were. A
+   refused call leaves the section as it was, and the answer too unless the refusal tells a line. Refusals: 21 for the
+   answer's length, 10, 36, 24, 25, 26, 28, 27. libassembler_c.a has it, which `rt staticlib assembler_c` proves and writes. */
+uint8_t wd16_assemble(const uint8_t *source, size_t source_length, uint8_t *section, size_t section_length,
+                      uint8_t *answer, size_t answer_length);
 
 #ifdef __cplusplus
 }

@@ -16,14 +16,18 @@ example() { # NAME COMMAND
 }
 
 # Only the first line and the last ones of what is said, unless it goes wrong.
-compared() { # NAME SEED COMMAND
+told() { # NAME WORDS OF DIFFTEST
     local said=target/c/$1.said
-    if compare/target/release/difftest served "$3" "$2" "$cases" >"$said" 2>&1; then
+    if compare/target/release/difftest "${@:2}" >"$said" 2>&1; then
         echo "$1: $(head -1 "$said"), $(tail -1 "$said")"
     else
         cat "$said"
         return 1
     fi
+}
+compared() { # NAME SEED COMMAND
+    told "$1" served "$3" "$2" "$cases"
+    told "$1-asm" asm "$3" "$2" "$((cases / 10))"
 }
 
 example example $emulator

@@ -61,6 +61,14 @@ first-at f (suc n) i k l h e =
     go true r = l
     go false r = r
 
+-- and none before the first passes
+pub first-none : (f : ℕ → Bool) (n k : ℕ) → n ≤ firstFrom f n 0 → k < n → f k ≡ false
+first-none f n k h l = go (f k) refl
+  where
+    go : (b : Bool) → f k ≡ b → b ≡ false
+    go true e = absurd (let z = first-at f n 0 k (omega arith) (omega arith) e in omega arith)
+    go false e = refl
+
 -- a loop that looks for it: r is what is left to find from i on
 pub first-found : (f : ℕ → Bool) (n i r : ℕ) → r ≡ firstFrom f (n - i) i → i < n → f i ≡ true → i ≡ r
 first-found f n i r e h t =
