@@ -25,6 +25,11 @@ enum {
     WD16_STATE = 24,        /* bytes of a state */
     WD16_TALLY = 6,         /* bytes of a tally */
     WD16_MOST_LINES = 4096, /* line words of a run, at most */
+
+    WD16_SOURCE_LINE = 32,         /* bytes of a line of a source */
+    WD16_MOST_SOURCE_LINES = 1024, /* lines of a source, at most */
+    WD16_SECTION = 12290,          /* bytes of an assembler's output, at least */
+    WD16_ANSWER = 6,               /* bytes of an answer */
 };
 
 enum { /* a map's bytes */
@@ -99,6 +104,13 @@ enum {
     WD16_FIRST_ADDRESS = 4,
 };
 
+/* An answer's bytes: three words, two bytes each, low byte first. The assembler's are the length of the section, 0, and the
+   line of a refusal, from 0; what is not answered is 0. */
+enum {
+    WD16_SECTION_LENGTH = 0,
+    WD16_REFUSED_LINE = 4,
+};
+
 /* A line word's bits. The others are 0. */
 enum {
     WD16_LINE_I0 = 0x0001,
@@ -120,6 +132,18 @@ enum {
     WD16_BAD_SETUP = 35,     /* a jumper number is over 3, or the External Address Register over 63 */
     WD16_TOO_MANY_LINES = 4, /* over 4,096 */
     WD16_BAD_LINE = 5,       /* an unused bit of a line word is set */
+};
+
+/* The assembler's refusals, in the order in which they are looked for, after 21 for an answer that is not 6 bytes. Those from
+   24 to 28 tell the lowest line that has them. */
+enum {
+    WD16_SECTION_SHORT = 10, /* the section is under 12,290 bytes */
+    WD16_SOURCE_LINES = 36,  /* the source is not whole lines of 32 bytes, or over 1,024 of them */
+    WD16_UNKNOWN_TEXT = 24,  /* a line is no text */
+    WD16_LABEL_AGAIN = 25,   /* its label is already given */
+    WD16_LABEL_MISSING = 26, /* no line gives a label that it names */
+    WD16_OUT_OF_PLACE = 28,  /* an odd origin, or words that overlap an earlier line's or run past FFFF */
+    WD16_OUT_OF_REACH = 27,  /* a branch further than -128 to 127 words, or SOB further than 0 to 63 back */
 };
 
 /* Writes the state after power-up, with cause 0. The state's bytes are not read; the image is written where the power-up
@@ -180,6 +204,12 @@ uint8_t wd16_write_text(const uint8_t *words, size_t words_length, uint8_t *text
    31, 9 or 30, which alone among refusals write: the answer, with the column. */
 uint8_t wd16_read_text(const uint8_t *text, size_t text_length, uint8_t *words, size_t words_length, uint8_t *answer,
                        size_t answer_length);
+/* Assembles a source, whole lines of 32 bytes padded with spaces, into the word section of a job at the front of the
+   section's buffer: a count, then as many addresses and words, addresses rising. The bytes after it stay as they were. A
+   refused call leaves the section as it was, and the answer too unless the refusal tells a line. Refusals: 21 for the
+   answer's length, 10, 36, 24, 25, 26, 28, 27. libassembler_c.a has it, which `rt staticlib assembler_c` proves and writes. */
+uint8_t wd16_assemble(const uint8_t *source, size_t source_length, uint8_t *section, size_t section_length,
+                      uint8_t *answer, size_t answer_length);
 
 #ifdef __cplusplus
 }

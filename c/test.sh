@@ -26,11 +26,12 @@ compared() { # KIND NAME SEED CASES COMMAND
     fi
 }
 
-# The processor's calls, the text's with every byte that is lent, and cases of texts.
+# The processor's calls, the text's with every byte that is lent, and cases of texts and patches.
 all_compared() { # NAME SEED COMMAND
     compared served "$1" "$2" "$cases" "$3"
     compared calls "$1" "$2" "$cases" "$3"
     compared text "$1" "$2" "$((cases / 10))" "$3"
+    compared asm "$1" "$2" "$((cases / 10))" "$3"
 }
 
 for name in example text; do example "$name" '' $emulator; done

@@ -14,7 +14,7 @@ pub enum Answer {
     Refused(u8),
 }
 
-enum Section {
+pub enum Section {
     Pages,
     Words,
     Lines,

@@ -1,0 +1,4 @@
+pub mod Origins
+pub mod Sorted
+pub mod Checked
+pub mod Theorems

@@ -1,0 +1,4 @@
+pub mod Source
+pub mod Section
+pub mod Answer
+pub mod Good

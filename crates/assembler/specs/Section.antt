@@ -1,0 +1,64 @@
+-- The words of a source by their addresses, and the word section that they make.
+-- Assumes nothing.
+use mathlib.Core.Bool.{Bool, true, false, cond}
+use mathlib.Core.List.{List, [], _∷_, _++_}
+use Prim.Native.Nat.{ℕ, zero, suc, _+_, _*_, _/_, _%_, _≤_}
+use lib.Dec.{ltb}
+use mathlib.Core.Path.{_≡_}
+use lib.ListN.{length, take}
+use Rattle.word.specs.Address.{plus}
+use Rattle.optext.specs.declared.Op.{Op}
+use Rattle.assembler.specs.Source.{countOf, textAt, hereOf, wordsIn}
+
+-- an entry is a number, the address before the sixteen bits of the word
+abbrev pub entryOf : ℕ → ℕ → ℕ
+entryOf address word = address * 65536 + word % 65536
+
+-- among rising entries each place keeps the lower and hands on the higher
+
+abbrev pub lowerOf : ℕ → ℕ → ℕ
+lowerOf x y = cond (ltb x y) x y
+
+abbrev pub higherOf : ℕ → ℕ → ℕ
+higherOf x y = cond (ltb x y) y x
+
+unfoldable pub inserted : ℕ → List ℕ → List ℕ
+inserted x [] = x ∷ []
+inserted x (y ∷ ys) = lowerOf x y ∷ inserted (higherOf x y) ys
+
+-- up to three words from an address on
+unfoldable pub entered : Op → ℕ → List ℕ → List ℕ
+entered o h l =
+    cond (ltb 2 (o .count)) (inserted (entryOf (plus h 4) (o .c)) (inserted (entryOf (plus h 2) (o .b)) (inserted (entryOf h (o .a)) l)))
+    (cond (ltb 1 (o .count)) (inserted (entryOf (plus h 2) (o .b)) (inserted (entryOf h (o .a)) l))
+    (cond (ltb 0 (o .count)) (inserted (entryOf h (o .a)) l) l))
+
+-- the words of the first i lines
+unfoldable pub placed : List ℕ → ℕ → List ℕ
+placed s zero = []
+placed s (suc i) = entered (wordsIn s (hereOf s i) (textAt s i)) (hereOf s i) (placed s i)
+
+-- two bytes, low first; an entry's address and word; the count and the entries
+abbrev pub pair : ℕ → List ℕ
+pair x = x % 256 ∷ x / 256 % 256 ∷ []
+
+abbrev pub bytesOf : ℕ → List ℕ
+bytesOf e = e / 65536 % 256 ∷ e / 16777216 % 256 ∷ e % 256 ∷ e / 256 % 256 ∷ []
+
+unfoldable pub flat : List ℕ → List ℕ
+flat [] = []
+flat (e ∷ l) = bytesOf e ++ flat l
+
+unfoldable pub sectionOf : List ℕ → List ℕ
+sectionOf l = pair (length l) ++ flat l
+
+-- the table whose first entries these are: one entry more, and a line's entries more
+pub record Inserts (t e : List ℕ) (n x r : ℕ) : Type 0 where
+  pub entries : take r e ≡ inserted x (take n t)
+  pub count : r ≡ n + 1
+  pub size : length e ≡ 3072
+
+pub record Enters (t e : List ℕ) (n : ℕ) (o : Op) (h r : ℕ) : Type 0 where
+  pub entries : take r e ≡ entered o h (take n t)
+  pub count : r ≤ n + 3
+  pub size : length e ≡ 3072

@@ -1,0 +1,41 @@
+-- From the code's facts to what the exported call leaves.
+use Prim.Native.Nat.{ℕ}
+use mathlib.Core.List.{List, [], _∷_, _++_, append-nil}
+use mathlib.Core.Path.{_≡_, refl, ap, sym, _∙_}
+use lib.ListN.{length, take, drop}
+use lib.Seq.{take-length, drop-length}
+use borrow.Author.Tests.{eq-eqb, ne-eqb}
+use Rattle.refusal.specs.Numbers.{noState}
+use Rattle.assembler.specs.declared.Assembled.{Assembled}
+use Rattle.assembler.specs.declared.Assembled.the-variants.{Section, Refused, RefusedAt}
+use Rattle.assembler.specs.Answer.{pageOf, after, asmOf}
+use Rattle.assembler_c.specs.Call.{answerBytes, Went, went, assembleCall}
+
+-- a buffer that is as long as what is copied into it is what was copied
+pub copied : (from b b′ : List ℕ) → length b ≡ length from → b′ ≡ take (length from) from ++ drop (length from) b → b′ ≡ from
+copied from b b′ l e = e ∙ rw (take-length from, ← l, drop-length b, append-nil)
+
+module _ (s out b : List ℕ) where
+  pub bad : (length b ≡ 6 → ⊥) → went noState out b ≡ assembleCall s out b
+  unfolding assembleCall
+  bad h = rw (ne-eqb (length b) 6 h) refl
+
+  module _ (out′ : List ℕ) (r : Assembled) (l : length b ≡ 6) (e : after (pageOf r) out′ ≡ asmOf s out) where
+    pub done : (n : ℕ) (b′ : List ℕ) → r ≡ Section n → b′ ≡ answerBytes n 0 → went 0 out′ b′ ≡ assembleCall s out b
+    unfolding assembleCall
+    done n b′ q p = rw (eq-eqb (length b) 6 l, ← e, q, p) refl
+
+    pub stopped : (why : ℕ) → r ≡ Refused why → went why out′ b ≡ assembleCall s out b
+    unfolding assembleCall
+    stopped why q = rw (eq-eqb (length b) 6 l, ← e, q) refl
+
+    pub stopped-at : (why line : ℕ) (b′ : List ℕ) → r ≡ RefusedAt why line → b′ ≡ answerBytes 0 line → went why out′ b′ ≡ assembleCall s out b
+    unfolding assembleCall
+    stopped-at why line b′ q p = rw (eq-eqb (length b) 6 l, ← e, q, p) refl
+
+-- one number, one section and one answer
+pub one-outcome : (s out b x y x′ y′ : List ℕ) (n n′ : ℕ) → went n x y ≡ assembleCall s out b → went n′ x′ y′ ≡ assembleCall s out b → (n ≡ n′) × (x ≡ x′) × (y ≡ y′)
+one-outcome s out b x y x′ y′ n n′ p q = (ap (λ (z : Went). z .number) e, ap (λ (z : Went). z .section) e, ap (λ (z : Went). z .answer) e)
+  where
+    e : went n x y ≡ went n′ x′ y′
+    e = p ∙ sym q

@@ -1,0 +1,230 @@
+-- Laws of one line: parts of a text, labels, aliases, texts with digits for their labels, and what a line says.
+-- Assumes nothing.
+use mathlib.Core.Path.{_≡_, refl, ap, sym, _∙_}
+use mathlib.Core.Bool.{Bool, true, false, cond, _&&_}
+use mathlib.Core.List.{List, [], _∷_, _++_}
+use mathlib.Core.Logic.{_⊎_, inl, inr, ⊎-elim}
+use Prim.Native.Nat.{ℕ, zero, suc, _+_, _-_, _≤_, _<_}
+use native.Mathlib.Omega.{arith}
+use borrow.Author.Tests.{eq-eqb, ne-eqb, lt-ltb, le-ltb}
+use lib.Dec.{eqb}
+use lib.ListN.{length, take, drop, getD, length-append, length-take, length-drop, List·getD-eq-default}
+use lib.Seq.{take-all}
+use Rattle.letters.specs.Digits.{letters, hex4}
+use Rattle.letters.specs.Over.{over, Left, left, written}
+use Rattle.optext.specs.declared.Op.{Op}
+use Rattle.optext.specs.Digits.{unHex4}
+use Rattle.optext.specs.Read.{same}
+use Rattle.patchline.specs.Search.{lt-cases, first-le}
+use Rattle.patchline.specs.Text.{partOf, endFrom, gives, isName, pastOf, placeOf, isAt, nameIn, labelOf, shown, restOf}
+use Rattle.patchline.specs.Line.{operandsAt, commaAt, firstIn, secondIn, bare, atOf, labelIn, filledIn, aliasOf, tailOf, filled, isDirective, opIn, says, op, saidOf, saidWith, isBranch, isSob}
+use Rattle.patchline.specs.declared.line.How.the-variants.{Origin, Plain}
+use Rattle.patchline.specs.declared.line.Said.{Said}
+
+pub bool-cases : (b : Bool) → (b ≡ false) ⊎ (b ≡ true)
+bool-cases true = inr refl
+bool-cases false = inl refl
+
+-- parts of a text
+pub part-none : (a e : ℕ) (t : List ℕ) → e ≤ a → [] ≡ partOf a e t
+part-none a e t h =
+    let z : e - a ≡ 0 = omega arith in
+    rw z refl
+
+pub part-all : (a e : ℕ) (t u : List ℕ) → u ≡ drop a t → length u ≤ e - a → u ≡ partOf a e t
+part-all a e t u q h = q ∙ sym (take-all (e - a) (drop a t) (rw q at h))
+
+-- where the padding begins
+pub end-here : (t : List ℕ) (i b : ℕ) → 0 < i → b ≡ getD t (i - 1) 0 → (b ≡ 32 → ⊥) → i ≡ endFrom i t
+unfolding endFrom
+end-here t zero b h e n = absurd (omega arith)
+end-here t (suc i) b h e n =
+    let z : suc i - 1 ≡ i = omega arith in
+    rw (ne-eqb (getD t i 0) 32 (λ q. n ((rw z at e) ∙ q))) refl
+
+pub end-step : (t : List ℕ) (i b : ℕ) → 0 < i → b ≡ getD t (i - 1) 0 → b ≡ 32 → endFrom i t ≡ endFrom (i - 1) t
+unfolding endFrom
+end-step t zero b h e n = absurd (omega arith)
+end-step t (suc i) b h e n =
+    let z : suc i - 1 ≡ i = omega arith in
+    rw (z, eq-eqb (getD t i 0) 32 (sym (rw z at e) ∙ n)) refl
+
+-- tests joined
+pub and-no : (a : Bool) → (a && false) ≡ false
+and-no true = refl
+and-no false = refl
+
+pub gives-short : (u l : List ℕ) → length l ≤ length u → false ≡ gives u l
+unfolding gives
+gives-short u l h = rw (List·getD-eq-default l 0 h) (sym (and-no (same (take (length u) l) u)))
+
+-- a line's label
+module _ (l : List ℕ) (n : ℕ) (e : n ≡ pastOf 90 l) where
+  pub label-taken : isName (take n l) ≡ true → gives (take n l) l ≡ true → take n l ≡ labelOf l
+  unfolding labelOf nameIn
+  label-taken p q = rw (← e, p, q) refl
+
+  pub label-other : isName (take n l) ≡ true → gives (take n l) l ≡ false → [] ≡ labelOf l
+  unfolding labelOf nameIn
+  label-other p q = rw (← e, p, q) refl
+
+  pub label-none : isName (take n l) ≡ false → [] ≡ labelOf l
+  unfolding labelOf nameIn
+  label-none p = rw (← e, p) refl
+
+cond-le : (b : Bool) (u l : List ℕ) → length u ≤ length l → length (cond b u []) ≤ length l
+cond-le true u l h = h
+cond-le false u l h = omega arith
+
+take-le : (n : ℕ) (l : List ℕ) → length (take n l) ≤ length l
+take-le n l = simp length-take (omega arith)
+
+pub label-le : (l : List ℕ) → length (labelOf l) ≤ length l
+unfolding labelOf nameIn
+label-le l = cond-le (isName (take (pastOf 90 l) l)) _ l (cond-le (gives (take (pastOf 90 l) l) l) _ l (take-le (pastOf 90 l) l))
+
+pub rest-le : (l : List ℕ) → length (restOf l) ≤ length l
+unfolding restOf shown
+rest-le l = simp (length-take, length-drop) (omega arith)
+
+-- where operands begin
+pub place-le : (c : ℕ) (t : List ℕ) (i : ℕ) → placeOf c t i ≤ i + (length t - i)
+unfolding placeOf
+place-le c t i = first-le (isAt c t) (length t - i) i
+
+pub part-le : (a e : ℕ) (t : List ℕ) → length (partOf a e t) ≤ length t
+part-le a e t = simp (length-take, length-drop) (omega arith)
+
+pub part-few : (e : ℕ) (t : List ℕ) → length (partOf 0 e t) ≤ e
+part-few e t = simp (length-take, length-drop) (omega arith)
+
+-- an operand
+pub label-in-yes : (o u : List ℕ) → u ≡ bare o → isName u ≡ true → u ≡ labelIn o
+unfolding labelIn
+label-in-yes o u e p = rw (← e, p) refl
+
+pub label-in-no : (o u : List ℕ) → u ≡ bare o → isName u ≡ false → [] ≡ labelIn o
+unfolding labelIn
+label-in-no o u e p = rw (← e, p) refl
+
+pub filled-label : (d o : List ℕ) → isName (bare o) ≡ true → filledIn d o ≡ partOf 0 (atOf o) o ++ d
+unfolding filledIn
+filled-label d o p = rw p refl
+
+pub filled-plain : (d o : List ℕ) → isName (bare o) ≡ false → filledIn d o ≡ o
+unfolding filledIn
+filled-plain d o p = rw p refl
+
+pub filled-in-le : (d o : List ℕ) → length (filledIn d o) ≤ length o + length d
+filled-in-le d o =
+    ⊎-elim (λ p. rw (filled-plain d o p) (omega arith)) (λ p. rw (filled-label d o p, length-append) (yes (part-le 0 (atOf o) o))) (bool-cases (isName (bare o)))
+  where
+    yes : length (partOf 0 (atOf o) o) ≤ length o → length (partOf 0 (atOf o) o) + length d ≤ length o + length d
+    yes h = omega arith
+
+-- aliases
+module _ (h : List ℕ) where
+  pub alias-1 : same h (letters "BHIS ") ≡ true → aliasOf h ≡ letters "BCC "
+  unfolding aliasOf
+  alias-1 a = rw a refl
+
+  pub alias-2 : same h (letters "BHIS ") ≡ false → same h (letters "BLO ") ≡ true → aliasOf h ≡ letters "BCS "
+  unfolding aliasOf
+  alias-2 a b = rw (a, b) refl
+
+  pub alias-3 : same h (letters "BHIS ") ≡ false → same h (letters "BLO ") ≡ false → same h (letters "CALL ") ≡ true → aliasOf h ≡ letters "JSR PC,"
+  unfolding aliasOf
+  alias-3 a b c = rw (a, b, c) refl
+
+  pub alias-4 : same h (letters "BHIS ") ≡ false → same h (letters "BLO ") ≡ false → same h (letters "CALL ") ≡ false → same h (letters "JMP ") ≡ true
+      → aliasOf h ≡ letters "LEA PC,"
+  unfolding aliasOf
+  alias-4 a b c d = rw (a, b, c, d) refl
+
+  pub alias-5 : same h (letters "BHIS ") ≡ false → same h (letters "BLO ") ≡ false → same h (letters "CALL ") ≡ false → same h (letters "JMP ") ≡ false
+      → aliasOf h ≡ h
+  unfolding aliasOf
+  alias-5 a b c d = rw (a, b, c, d) refl
+
+  pub alias-le : length (aliasOf h) ≤ length h + 7
+  unfolding aliasOf
+  alias-le =
+      pick (same h (letters "BHIS ")) (letters "BCC ") _ (omega arith)
+      (pick (same h (letters "BLO ")) (letters "BCS ") _ (omega arith)
+      (pick (same h (letters "CALL ")) (letters "JSR PC,") _ (omega arith)
+      (pick (same h (letters "JMP ")) (letters "LEA PC,") h (omega arith) (omega arith))))
+    where
+      pick : (b : Bool) (u v : List ℕ) → length u ≤ length h + 7 → length v ≤ length h + 7 → length (cond b u v) ≤ length h + 7
+      pick true u v p q = p
+      pick false u v p q = q
+
+-- the second operand
+pub tail-some : (d t : List ℕ) → commaAt t < length t → tailOf d t ≡ (44 ∷ []) ++ filledIn d (secondIn t)
+unfolding tailOf
+tail-some d t h = rw (lt-ltb _ _ h) refl
+
+pub tail-none : (d t : List ℕ) → length t ≤ commaAt t → tailOf d t ≡ []
+unfolding tailOf
+tail-none d t h = rw (le-ltb _ _ h) refl
+
+pub second-le : (t : List ℕ) → length (secondIn t) ≤ length t
+unfolding secondIn
+second-le t = simp length-drop (omega arith)
+
+pub tail-le : (d t : List ℕ) → length (tailOf d t) ≤ 1 + (length t + length d)
+tail-le d t = ⊎-elim (λ h. rw (tail-some d t h) (some (filled-in-le d (secondIn t)) (second-le t))) (λ h. rw (tail-none d t h) (omega arith)) (lt-cases (commaAt t) (length t))
+  where
+    some : length (filledIn d (secondIn t)) ≤ length (secondIn t) + length d → length (secondIn t) ≤ length t
+        → suc (length (filledIn d (secondIn t))) ≤ 1 + (length t + length d)
+    some p q = omega arith
+
+-- what a line says
+module _ (t : List ℕ) where
+  pub said-empty : length t ≡ 0 → saidOf t ≡ says Plain (op 0 0)
+  unfolding saidOf
+  said-empty h = rw (eq-eqb _ 0 h) refl
+
+  pub said-plain : (length t ≡ 0 → ⊥) → 0 < opIn t .count → saidOf t ≡ says Plain (opIn t)
+  unfolding saidOf
+  said-plain h p = rw (ne-eqb _ 0 h, lt-ltb 0 _ p) refl
+
+  pub said-org : (length t ≡ 0 → ⊥) → opIn t .count ≤ 0 → isDirective (letters ".ORG ") t ≡ true → saidOf t ≡ says Origin (op 0 (unHex4 (drop 5 t)))
+  unfolding saidOf
+  said-org h p q = rw (ne-eqb _ 0 h, le-ltb 0 _ p, q) refl
+
+  pub said-word : (length t ≡ 0 → ⊥) → opIn t .count ≤ 0 → isDirective (letters ".ORG ") t ≡ false → isDirective (letters ".WORD ") t ≡ true
+      → saidOf t ≡ says Plain (op 1 (unHex4 (drop 6 t)))
+  unfolding saidOf
+  said-word h p q r = rw (ne-eqb _ 0 h, le-ltb 0 _ p, q, r) refl
+
+  pub said-labels : (length t ≡ 0 → ⊥) → opIn t .count ≤ 0 → isDirective (letters ".ORG ") t ≡ false → isDirective (letters ".WORD ") t ≡ false
+      → saidOf t ≡ saidWith (opIn (filled (letters "00") t)) (opIn (filled (letters "0000(PC)") t))
+  unfolding saidOf
+  said-labels h p q r = rw (ne-eqb _ 0 h, le-ltb 0 _ p, q, r) refl
+
+pub first-in-le : (t : List ℕ) → length (firstIn t) ≤ length t
+unfolding firstIn
+first-in-le t = part-le (operandsAt t) (commaAt t) t
+
+pub filled-le : (d t : List ℕ) → length t ≤ 32 → length d ≤ 8 → length (filled d t) ≤ 120
+unfolding filled
+filled-le d t h k =
+    let a = alias-le (partOf 0 (operandsAt t) t) in
+    let b = part-le 0 (operandsAt t) t in
+    let c = filled-in-le d (firstIn t) in
+    let e = first-in-le t in
+    let f = tail-le d t in
+    simp length-append (omega arith)
+
+pub said-with-le : (f o : Op) → f .count ≤ 3 → o .count ≤ 3 → saidWith f o .op .count ≤ 3
+unfolding saidWith
+said-with-le f o p q = pick (isBranch (f .a)) _ _ p (pick (isSob (f .a)) _ _ p (pick (eqb (o .count) 0) _ _ (omega arith) q))
+  where
+    pick : (b : Bool) (x y : Said) → x .op .count ≤ 3 → y .op .count ≤ 3 → cond b x y .op .count ≤ 3
+    pick true x y p q = p
+    pick false x y p q = q
+
+-- four digits where four zeros stood
+pub four-digits : (x n : ℕ) (e : List ℕ) → left n e ≡ written (hex4 x) (0 ∷ 0 ∷ 0 ∷ 0 ∷ []) → e ≡ hex4 x
+unfolding written over hex4
+four-digits x n e q = ap (λ (z : Left). z .bytes) q

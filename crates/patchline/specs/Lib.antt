@@ -1,0 +1,4 @@
+pub mod Search
+pub mod Joined
+pub mod Text
+pub mod Line
