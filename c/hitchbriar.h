@@ -1,6 +1,8 @@
-/* The WD16 processor for C: power-up, one step, and a run over line words, on buffers that the caller lends.
+/* The WD16 processor for C: power-up, one step, and a run over line words, on buffers that the caller lends; and the plug recorder
+   over it: one scan, and the report of a channel.
 
-   Link libfirmware.a, which `rt staticlib firmware` proves and writes. It needs nothing else, no C library either.
+   Link libfirmware.a, which `rt staticlib firmware` proves and writes; for the recorder liblentrecorder.a, which
+   `rt staticlib lentrecorder` proves and writes. They need nothing else, no C library either.
 
    Each buffer comes as a pointer and a length, in elements. The pointer is not null and points at that many elements, also
    where the length is wrong; a buffer that is written overlaps no other. Nothing else is asked of the caller: whatever the
@@ -23,6 +25,10 @@ enum {
     WD16_STATE = 24,        /* bytes of a state */
     WD16_TALLY = 6,         /* bytes of a tally */
     WD16_MOST_LINES = 4096, /* line words of a run, at most */
+    WD16_CHANNELS = 16,     /* plug channels of a scan: bytes of the cards, words of the readings */
+    WD16_REPORT = 12,       /* bytes of a channel's report */
+    WD16_RECORDER = 194,    /* bytes of a recorder */
+    WD16_MOST_SCANS = 4096, /* scans of a recorder, at most */
 };
 
 enum { /* a map's bytes */
@@ -97,6 +103,26 @@ enum {
     WD16_FIRST_ADDRESS = 4,
 };
 
+/* The cards' bytes: 1 where a channel has its card, else 0. The readings' words: tenths of a degree from -500 to 500, two's
+   complement; what stands there for a channel without its card is not read. */
+
+/* A report's bytes, two each, low byte first, but four for the sum. Signed ones are two's complement: take them as int16_t and
+   int32_t. The average is the sum and the number of readings. Lowest, highest and sum are 0 where there is no reading. */
+enum {
+    WD16_READINGS = 0,
+    WD16_CARD_BLANKS = 2, /* the scans in which the channel had no card */
+    WD16_LOWEST = 4,
+    WD16_HIGHEST = 6,
+    WD16_SUM = 8,
+};
+
+/* A recorder's bytes: the number of its scans, two bytes, low byte first, then the reports of channels 0 to 15. A recorder before
+   its first scan is all 0. */
+enum {
+    WD16_SCANS = 0,
+    WD16_REPORTS = 2,
+};
+
 /* A line word's bits. The others are 0. */
 enum {
     WD16_LINE_I0 = 0x0001,
@@ -111,13 +137,18 @@ enum {
     WD16_DONE = 0,
     WD16_BAD_BUFFER = 21,    /* the state is not 24 bytes, the tally not 6 or the settings not 4; the settings' first
                                 byte is over 1; or, where the state is read, indicators over 15, I2 over 1, a mode over 5,
-                                a cause over 9, or byte 20 or 21 over 1 */
+                                a cause over 9, or byte 20 or 21 over 1. Of a scan and a report: the cards or the readings
+                                are not 16, the recorder not 194 bytes, the channel not 1 or the report not 12; a card's
+                                byte is over 1 */
     WD16_BAD_IMAGE = 1,      /* not 65,536 bytes */
     WD16_BAD_MAP = 2,        /* not 256 bytes */
     WD16_BAD_MAP_BYTE = 3,   /* over 2 */
     WD16_BAD_SETUP = 35,     /* a jumper number is over 3, or the External Address Register over 63 */
     WD16_TOO_MANY_LINES = 4, /* over 4,096 */
     WD16_BAD_LINE = 5,       /* an unused bit of a line word is set */
+    WD16_BAD_READING = 33,   /* a reading of a channel that has its card is not from -500 to 500 */
+    WD16_NO_CHANNEL = 34,    /* a report on a channel over 15 */
+    WD16_SCANS_FULL = 37,    /* a scan past the 4,096th */
 };
 
 /* Writes the state after power-up, with cause 0. The state's bytes are not read; the image is written where the power-up
@@ -135,6 +166,19 @@ uint8_t wd16_step(uint8_t *state, size_t state_length, uint8_t *image, size_t im
 uint8_t wd16_run(uint8_t *state, size_t state_length, uint8_t *tally, size_t tally_length, uint8_t *image,
                  size_t image_length, const uint8_t *map, size_t map_length, const uint8_t *settings,
                  size_t settings_length, const uint16_t *lines, size_t lines_length);
+
+/* One scan: where all sixteen channels have their cards, page FE is fitted and writable, and the readings stand at FE00 on, low byte
+   first; else page FE is unfitted and stays as lent; whatever the map says, which is not changed. Then a run over the line words,
+   from the state where the last scan ended: the state, the tally and the image as after wd16_run, and the recorder with one scan
+   more. Refusals: 21, 1, 2, 3, 35, 4, 5, 33, 37. */
+uint8_t wd16_scan(uint8_t *state, size_t state_length, uint8_t *tally, size_t tally_length, uint8_t *image,
+                  size_t image_length, const uint8_t *map, size_t map_length, const uint16_t *lines, size_t lines_length,
+                  const uint8_t *settings, size_t settings_length, const uint8_t *cards, size_t cards_length,
+                  const uint16_t *readings, size_t readings_length, uint8_t *recorder, size_t recorder_length);
+
+/* Writes the report of the channel whose number is the one byte at `channel`. Refusals: 21, 34. */
+uint8_t wd16_report(const uint8_t *recorder, size_t recorder_length, const uint8_t *channel, size_t channel_length,
+                    uint8_t *report, size_t report_length);
 
 #ifdef __cplusplus
 }
