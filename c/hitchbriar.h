@@ -1,13 +1,14 @@
-/* The WD16 for C, on buffers that the caller lends: the processor, with power-up, one step, and a run over line words; and the
-   text of one op code, written and read.
+/* The WD16 for C, on buffers that the caller lends: the processor, with power-up, one step, and a run over line words; the text of
+   one op code, written and read; the assembler for patches; and the plug recorder: one scan, and the report of a channel.
 
-   The processor is in libfirmware.a, which `rt staticlib firmware` proves and writes, the text in libtextc.a, of
-   `rt staticlib textc`. A program links what it calls. Neither needs anything else, no C library either.
+   Each is a library of its own, which `rt staticlib NAME` proves and writes: the processor libfirmware.a, the text libtextc.a, the
+   assembler libassembler_c.a, the recorder liblentrecorder.a. A program links what it calls. None needs anything else, no C library
+   either.
 
    Each buffer comes as a pointer and a length, in elements. The pointer is not null and points at that many elements, also
    where the length is wrong; a buffer that is written overlaps no other. Nothing else is asked of the caller: whatever the
    buffers hold, and whatever their lengths are, a call comes back with 0 or with the number of its refusal. A refused call
-   leaves every buffer as it was, but for the column of a refused text. Nothing is kept between calls. */
+   leaves every buffer as it was, but for the answer where a text is refused with its column or a source with its line. Nothing is kept between calls. */
 #ifndef HITCHBRIAR_H
 #define HITCHBRIAR_H
 
@@ -25,11 +26,6 @@ enum {
     WD16_STATE = 24,        /* bytes of a state */
     WD16_TALLY = 6,         /* bytes of a tally */
     WD16_MOST_LINES = 4096, /* line words of a run, at most */
-
-    WD16_SOURCE_LINE = 32,         /* bytes of a line of a source */
-    WD16_MOST_SOURCE_LINES = 1024, /* lines of a source, at most */
-    WD16_SECTION = 12290,          /* bytes of an assembler's output, at least */
-    WD16_ANSWER = 6,               /* bytes of an answer */
 };
 
 enum { /* a map's bytes */
@@ -104,13 +100,6 @@ enum {
     WD16_FIRST_ADDRESS = 4,
 };
 
-/* An answer's bytes: three words, two bytes each, low byte first. The assembler's are the length of the section, 0, and the
-   line of a refusal, from 0; what is not answered is 0. */
-enum {
-    WD16_SECTION_LENGTH = 0,
-    WD16_REFUSED_LINE = 4,
-};
-
 /* A line word's bits. The others are 0. */
 enum {
     WD16_LINE_I0 = 0x0001,
@@ -134,18 +123,6 @@ enum {
     WD16_BAD_LINE = 5,       /* an unused bit of a line word is set */
 };
 
-/* The assembler's refusals, in the order in which they are looked for, after 21 for an answer that is not 6 bytes. Those from
-   24 to 28 tell the lowest line that has them. */
-enum {
-    WD16_SECTION_SHORT = 10, /* the section is under 12,290 bytes */
-    WD16_SOURCE_LINES = 36,  /* the source is not whole lines of 32 bytes, or over 1,024 of them */
-    WD16_UNKNOWN_TEXT = 24,  /* a line is no text */
-    WD16_LABEL_AGAIN = 25,   /* its label is already given */
-    WD16_LABEL_MISSING = 26, /* no line gives a label that it names */
-    WD16_OUT_OF_PLACE = 28,  /* an odd origin, or words that overlap an earlier line's or run past FFFF */
-    WD16_OUT_OF_REACH = 27,  /* a branch further than -128 to 127 words, or SOB further than 0 to 63 back */
-};
-
 /* Writes the state after power-up, with cause 0. The state's bytes are not read; the image is written where the power-up
    option is the halt option and that is a save. Refusals: 21 for the state's length and for the settings, 1, 2, 3, 35. */
 uint8_t wd16_power_up(uint8_t *state, size_t state_length, uint8_t *image, size_t image_length, const uint8_t *map,
@@ -165,15 +142,20 @@ uint8_t wd16_run(uint8_t *state, size_t state_length, uint8_t *tally, size_t tal
                  size_t image_length, const uint8_t *map, size_t map_length, const uint8_t *settings,
                  size_t settings_length, const uint16_t *lines, size_t lines_length);
 
+/* ---- answers: what a call tells beside its number, in three words, two bytes each, low byte first. What it doesn't tell is 0 */
+
+enum {
+    WD16_ANSWER = 6, /* bytes of an answer */
+};
+
 /* ---- the text of one op code */
 
 enum {
     WD16_TEXT = 32,   /* bytes of a text's buffer, at least, where a text is written. The longest line has 24 characters */
     WD16_WORDS = 6,   /* bytes of the words' buffer, at least, where a text is read: three words, the most of an op code */
-    WD16_ANSWER = 6,  /* bytes of an answer: three words */
 };
 
-/* An answer's bytes: words, two bytes each, low byte first. What a call doesn't answer is 0. */
+/* An answer's bytes. */
 enum {
     WD16_LENGTH = 0, /* writing: the line's length */
     WD16_TAKEN = 2,  /* writing: the number of words that the op code has */
@@ -204,12 +186,88 @@ uint8_t wd16_write_text(const uint8_t *words, size_t words_length, uint8_t *text
    31, 9 or 30, which alone among refusals write: the answer, with the column. */
 uint8_t wd16_read_text(const uint8_t *text, size_t text_length, uint8_t *words, size_t words_length, uint8_t *answer,
                        size_t answer_length);
+
+/* ---- the assembler */
+
+enum {
+    WD16_SOURCE_LINE = 32,         /* bytes of a line of a source */
+    WD16_MOST_SOURCE_LINES = 1024, /* lines of a source, at most */
+    WD16_SECTION = 12290,          /* bytes of the output, at least */
+};
+
+/* An answer's bytes. */
+enum {
+    WD16_SECTION_LENGTH = 0, /* the length of the section */
+    WD16_REFUSED_LINE = 4,   /* the line of a refusal from 24 to 28, from 0 */
+};
+
+/* Refusals, in the order in which they are looked for: 21 (the answer is not 6 bytes), then these. Those from 24 to 28 tell the lowest line that has them. */
+enum {
+    WD16_SECTION_SHORT = 10, /* the section is under 12,290 bytes */
+    WD16_SOURCE_LINES = 36,  /* the source is not whole lines of 32 bytes, or over 1,024 of them */
+    WD16_UNKNOWN_TEXT = 24,  /* a line is no text */
+    WD16_LABEL_AGAIN = 25,   /* its label is already given */
+    WD16_LABEL_MISSING = 26, /* no line gives a label that it names */
+    WD16_OUT_OF_PLACE = 28,  /* an odd origin, or words that overlap an earlier line's or run past FFFF */
+    WD16_OUT_OF_REACH = 27,  /* a branch further than -128 to 127 words, or SOB further than 0 to 63 back */
+};
+
 /* Assembles a source, whole lines of 32 bytes padded with spaces, into the word section of a job at the front of the
    section's buffer: a count, then as many addresses and words, addresses rising. The bytes after it stay as they were. A
    refused call leaves the section as it was, and the answer too unless the refusal tells a line. Refusals: 21 for the
-   answer's length, 10, 36, 24, 25, 26, 28, 27. libassembler_c.a has it, which `rt staticlib assembler_c` proves and writes. */
+   answer's length, 10, 36, 24, 25, 26, 28, 27. */
 uint8_t wd16_assemble(const uint8_t *source, size_t source_length, uint8_t *section, size_t section_length,
                       uint8_t *answer, size_t answer_length);
+
+/* ---- the plug recorder */
+
+enum {
+    WD16_CHANNELS = 16,     /* plug channels of a scan: bytes of the cards, words of the readings */
+    WD16_REPORT = 12,       /* bytes of a channel's report */
+    WD16_RECORDER = 194,    /* bytes of a recorder */
+    WD16_MOST_SCANS = 4096, /* scans of a recorder, at most */
+};
+
+/* The cards' bytes: 1 where a channel has its card, else 0. The readings' words: tenths of a degree from -500 to 500, two's
+   complement; what stands there for a channel without its card is not read. */
+
+/* A report's bytes, two each, low byte first, but four for the sum. Signed ones are two's complement: take them as int16_t and
+   int32_t. The average is the sum and the number of readings. Lowest, highest and sum are 0 where there is no reading. */
+enum {
+    WD16_READINGS = 0,
+    WD16_CARD_BLANKS = 2, /* the scans in which the channel had no card */
+    WD16_LOWEST = 4,
+    WD16_HIGHEST = 6,
+    WD16_SUM = 8,
+};
+
+/* A recorder's bytes: the number of its scans, two bytes, low byte first, then the reports of channels 0 to 15. A recorder before
+   its first scan is all 0. */
+enum {
+    WD16_SCANS = 0,
+    WD16_REPORTS = 2,
+};
+
+/* Refusals, in the order in which they are looked for: 21 (the cards or the readings are not 16, the recorder not 194 bytes, the
+   channel not 1 or the report not 12; a card's byte is over 1; or as of a run), then a run's, then these. */
+enum {
+    WD16_BAD_READING = 33, /* a reading of a channel that has its card is not from -500 to 500 */
+    WD16_SCANS_FULL = 37,  /* a scan past the 4,096th */
+    WD16_NO_CHANNEL = 34,  /* a report on a channel over 15 */
+};
+
+/* One scan: where all sixteen channels have their cards, page FE is fitted and writable, and the readings stand at FE00 on, low byte
+   first; else page FE is unfitted and stays as lent; whatever the map says, which is not changed. Then a run over the line words,
+   from the state where the last scan ended: the state, the tally and the image as after wd16_run, and the recorder with one scan
+   more. Refusals: 21, 1, 2, 3, 35, 4, 5, 33, 37. */
+uint8_t wd16_scan(uint8_t *state, size_t state_length, uint8_t *tally, size_t tally_length, uint8_t *image,
+                  size_t image_length, const uint8_t *map, size_t map_length, const uint16_t *lines, size_t lines_length,
+                  const uint8_t *settings, size_t settings_length, const uint8_t *cards, size_t cards_length,
+                  const uint16_t *readings, size_t readings_length, uint8_t *recorder, size_t recorder_length);
+
+/* Writes the report of the channel whose number is the one byte at `channel`. Refusals: 21, 34. */
+uint8_t wd16_report(const uint8_t *recorder, size_t recorder_length, const uint8_t *channel, size_t channel_length,
+                    uint8_t *report, size_t report_length);
 
 #ifdef __cplusplus
 }

@@ -73,28 +73,28 @@ fn refused_settings(w: &[u8]) -> bool
 }
 
 // What power-up refuses as 21: it only writes the state.
-pub(crate) fn refused_up(b: &[u8], w: &[u8]) -> bool
+pub fn refused_up(b: &[u8], w: &[u8]) -> bool
     ensures { λ r. ⌜ r ≡ Spec.refusedUp (now (b .entry)) (now (w .entry)) ⌝ }
 {
     (b.len() != 24) | refused_settings(w)
 }
 
 // What a step refuses as 21.
-pub(crate) fn refused_step(b: &[u8], w: &[u8]) -> bool
+pub fn refused_step(b: &[u8], w: &[u8]) -> bool
     ensures { λ r. ⌜ r ≡ Spec.refusedStep (now (b .entry)) (now (w .entry)) ⌝ }
 {
     refused_state(b) | refused_settings(w)
 }
 
 // What a run refuses as 21.
-pub(crate) fn refused_run(b: &[u8], t: &[u8], w: &[u8]) -> bool
+pub fn refused_run(b: &[u8], t: &[u8], w: &[u8]) -> bool
     ensures { λ r. ⌜ r ≡ Spec.refusedRun (now (b .entry)) (now (t .entry)) (now (w .entry)) ⌝ }
 {
     refused_step(b, w) | (t.len() != 6)
 }
 
 // The settings that the bytes hold.
-pub(crate) fn settings_from(w: &[u8]) -> Settings
+pub fn settings_from(w: &[u8]) -> Settings
     ensures { λ r. ⌜ r ≡ Spec.settingsFrom (now (w .entry)) ⌝ }
 {
     Settings {
@@ -121,7 +121,7 @@ fn regs_from(b: &[u8]) -> State
 }
 
 // The state that the bytes hold.
-pub(crate) fn state_from(b: &[u8]) -> State
+pub fn state_from(b: &[u8]) -> State
     ensures { λ r. ⌜ r ≡ Spec.stateFrom (now (b .entry)) ⌝ }
 {
     regs_from(b)
@@ -185,7 +185,7 @@ fn state_bytes(s: State, cause: u8, told: Told) -> [u8; 24]
     ]
 }
 
-pub(crate) fn put_state(b: &mut [u8], s: State, cause: u8, told: Told)
+pub fn put_state(b: &mut [u8], s: State, cause: u8, told: Told)
     requires { ⌜ length (now b) ≡ 24 ⌝ }
     ensures { λ _. ⌜ now (b .exit) ≡ Spec.bytesOf (Page.statePage s) cause (Page.toldOf told) ⌝ }
 {
@@ -230,7 +230,7 @@ fn tally_bytes(t: Tally) -> [u8; 6]
     ]
 }
 
-pub(crate) fn put_tally(b: &mut [u8], t: Tally)
+pub fn put_tally(b: &mut [u8], t: Tally)
     requires { ⌜ length (now b) ≡ 6 ⌝ }
     ensures { λ _. ⌜ now (b .exit) ≡ Spec.tallyBytes (t .blanks) (Page.placeOf (t .first)) ⌝ }
 {

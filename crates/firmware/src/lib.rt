@@ -14,7 +14,7 @@ use step::Told;
 ghost use mathlib.Core.Path.{_≡_};
 ghost use Rattle.firmware.specs.Calls as Spec;
 
-mod layout;
+pub mod layout;
 
 // The state after power-up; or 21, 1, 2, 3 or 35.
 #[no_mangle]
