@@ -361,7 +361,7 @@ fn fill(input: &[u8], image: &mut [u8], map: &mut [u8], lines: &mut [u16]) -> u1
 }
 
 // The number of the first refusal that applies, or 0: the lent buffers' lengths, then the job in reading order.
-fn refusal(image: usize, map: usize, lines: usize, input: &[u8]) -> u8
+pub fn refusal(image: usize, map: usize, lines: usize, input: &[u8]) -> u8
     ensures { λ r. ⌜ r ≡ whyRead image map lines (now (input .entry)) ⌝ }
 {
     if image != 65536 {

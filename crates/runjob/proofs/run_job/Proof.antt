@@ -1,4 +1,5 @@
-use Rattle.runjob.proofs.Laws.{read, read-taken, job-done, job-refused}
+use Rattle.runjob.specs.Taken.{read, read-taken}
+use Rattle.runjob.proofs.Laws.{job-done, job-refused}
 use borrow.Author.Needs.{needs}
 use Rattle.runjob.proofs.run_job.Statement.{statement}
 use Rattle.runjob.proofs.run_job.Tie as tie

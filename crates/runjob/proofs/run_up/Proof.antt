@@ -1,4 +1,4 @@
-use Rattle.runjob.proofs.Laws.{up-done, up-taken, up-refused}
+use Rattle.runjob.specs.Taken.{up-done, up-taken, up-refused, power-taken}
 use borrow.Author.Needs.{needs}
 use Rattle.runjob.proofs.run_up.Statement.{statement}
 use Rattle.runjob.proofs.run_up.Tie as tie
@@ -10,7 +10,7 @@ returns : tie.Need-returns
 returns c = rw (← up-done _ _ _ _ _ _ (c .before .before .before .before .before .before .before .before .before .before .before .before .before .bench-board .ensures) (c .before .before .before .before .before .before .before .before .before .before .before .before .power-up .ensures) (c .before .before .before .before .before .before .before .before .s .given .1)) (c .before .before .before .before .run-from .ensures)
 
 returns-2 : tie.Need-returns-2
-returns-2 c = up-refused _ _ _ _ _ _ _ (c .before .before .before .before .before .before .before .before .before .before .bench-board .ensures) (c .before .before .before .before .before .before .before .before .before .before .before .before .before .before .before .before .pre) (c .before .before .before .before .before .before .before .before .before .power-up .ensures) (c .before .before .before .before .before .why .given .1)
+returns-2 c = up-refused _ _ _ _ _ _ (c .before .before .before .before .before .before .before .before .before .before .bench-board .ensures) (power-taken (c .before .before .before .before .before .before .before .before .before .before .before .before .before .before .before .before .args .image .now) (c .before .before .before .before .before .before .before .before .before .before .before .before .before .before .before .before .args .map .now) (c .before .before .before .before .before .before .before .before .before .before .before .before .before .before .before .before .args .lines .now) (c .before .before .before .before .before .before .before .before .before .before .before .before .before .before .before .before .pre)) (c .before .before .before .before .before .before .before .before .before .power-up .ensures) (c .before .before .before .before .before .why .given .1)
 
 pub run-up-spec : {M : Type 1} → statement M
 run-up-spec =

@@ -1,0 +1,4 @@
+pub mod Trace
+pub mod Walk
+pub mod Bytes
+pub mod Right

@@ -1,0 +1,171 @@
+-- The trace of a job: after each step from power-up, the bench line's fields from R0 to the mode. What is right, and what another shop's trace is found to be.
+-- Assumes nothing.
+use Prim.Native.Nat.{ℕ, zero, suc, _+_, _*_, _%_}
+use mathlib.Core.Bool.{false, cond}
+use mathlib.Core.List.{List, [], _∷_, _++_}
+use lib.ListN.{length}
+use lib.Dec.{eqb, leb}
+use Rattle.words.specs.Words.{wordAt, bytesIn}
+use Rattle.state.specs.declared.State.{State}
+use Rattle.state.specs.State.{modeNumber, psOf, heard}
+use Rattle.step.specs.declared.Cause.the-variants as Cause
+use Rattle.step.specs.Step.{After, after, Up, powerUpOf}
+use Rattle.letters.specs.Over.{over}
+use Rattle.refusal.specs.Numbers.{traceCut}
+use Rattle.refusal.specs.Page.{Page, refused, answered, first, unless}
+use Rattle.machine.specs.Numbers.{registers}
+use Rattle.machine.specs.Trail.{trailOf, lastOf}
+use Rattle.job.specs.Job.{imageOf, mapOf, linesOf, lineWords, whyRead}
+use Rattle.report.specs.Report.{benchBoard}
+use Rattle.trace.specs.declared.Verdict.{Verdict}
+use Rattle.trace.specs.declared.Verdict.the-variants.{Accepted, Wrong, Missing, Extra}
+use Rattle.trace.specs.declared.Checked.{Checked}
+use Rattle.trace.specs.declared.Checked.the-variants as Checked
+use Rattle.trace.specs.declared.Made.{Made}
+use Rattle.trace.specs.declared.Made.the-variants as Made
+
+-- ---- the right trace of a job
+
+-- R0 to R5, SP, PC, PS with bits 15 and 14 clear, as it is formed on a quiet line; the mode
+unfoldable pub entryOf : State → List ℕ
+entryOf s = registers s ++ (psOf (heard benchBoard 0) false s % 16384 ∷ modeNumber (s .mode) ∷ [])
+
+-- one for each step
+unfoldable pub entriesOf : List After → List (List ℕ)
+entriesOf [] = []
+entriesOf (a ∷ rs) = entryOf (a .state) ∷ entriesOf rs
+
+-- bench's board after power-up, and the steps from there over the job's line words
+abbrev pub upOf : List ℕ → Up
+upOf input = powerUpOf benchBoard (mapOf input) (imageOf input)
+
+unfoldable pub stepsOf : List ℕ → List After
+stepsOf input = trailOf benchBoard (mapOf input) (lineWords input) (upOf input .state) (upOf input .image)
+
+abbrev pub rightTrace : List ℕ → List (List ℕ)
+rightTrace input = entriesOf (stepsOf input)
+
+-- where they end
+abbrev pub startOf : List ℕ → After
+startOf input = after (upOf input .state) (upOf input .image) Cause.Nothing
+
+unfoldable pub imageAfter : List ℕ → List ℕ
+imageAfter input = lastOf (startOf input) (stepsOf input) .image
+
+-- ---- as bytes: the count, then the fields of each entry, all two bytes, low first
+
+unfoldable pub joined : List (List ℕ) → List ℕ
+joined [] = []
+joined (e ∷ es) = e ++ joined es
+
+unfoldable pub traceBytes : List (List ℕ) → List ℕ
+traceBytes es = bytesIn (length es ∷ joined es)
+
+-- ---- a trace that is lent
+
+-- n words from a place on; n entries of ten words
+unfoldable pub wordsFrom : List ℕ → ℕ → ℕ → List ℕ
+wordsFrom t at zero = []
+wordsFrom t at (suc n) = wordAt t at ∷ wordsFrom t (at + 2) n
+
+unfoldable pub entriesFrom : List ℕ → ℕ → ℕ → List (List ℕ)
+entriesFrom t at zero = []
+entriesFrom t at (suc n) = wordsFrom t at 10 ∷ entriesFrom t (at + 20) n
+
+-- the entries that it tells, after its count
+unfoldable pub toldIn : List ℕ → List (List ℕ)
+toldIn t = entriesFrom t 2 (wordAt t 0)
+
+-- 29: it is cut inside its count; inside a state, or bytes are left over
+unfoldable pub whyTrace : List ℕ → ℕ
+whyTrace t =
+    first (cond (leb 2 (length t)) 0 traceCut)
+    (cond (eqb (length t) (2 + wordAt t 0 * 20)) 0 traceCut)
+
+-- ---- what it is found to be
+
+-- the first of two
+abbrev pub orElse : Verdict → Verdict → Verdict
+orElse Accepted later = later
+orElse (Wrong step field right) later = Wrong step field right
+orElse (Missing step) later = Missing step
+orElse (Extra step) later = Extra step
+
+-- a step's first wrong field from field k on, and what is right there
+unfoldable pub differ : ℕ → ℕ → List ℕ → List ℕ → Verdict
+differ step k [] told = Accepted
+differ step k (x ∷ right) [] = Accepted
+differ step k (x ∷ right) (y ∷ told) = cond (eqb x y) (differ step (k + 1) right told) (Wrong step k x)
+
+-- from a step on, the entries that are right and those that are told: the first wrong step, with its first wrong field; where one list
+-- is shorter, the first missing or extra step
+unfoldable pub compared : ℕ → List (List ℕ) → List (List ℕ) → Verdict
+compared step [] [] = Accepted
+compared step [] (e ∷ told) = Extra step
+compared step (r ∷ right) [] = Missing step
+compared step (r ∷ right) (e ∷ told) = orElse (differ step 0 r e) (compared (step + 1) right told)
+
+abbrev pub verdictOf : List ℕ → List ℕ → Verdict
+verdictOf input t = compared 0 (rightTrace input) (toldIn t)
+
+-- ---- what is answered, and the lent buffers after it
+
+pub record Left (A : Type 0) : Type 0 where
+  pub page : Page A
+  pub image : List ℕ
+  pub map : List ℕ
+  pub lines : List ℕ
+
+abbrev pub left : {A : Type 0} → Page A → List ℕ → List ℕ → List ℕ → Left A
+left page image map lines = record { page = page; image = image; map = map; lines = lines }
+
+-- ---- the check
+
+abbrev pub checkedPage : Checked → Page Verdict
+checkedPage (Checked.Done v) = answered v
+checkedPage (Checked.Refused why) = refused why
+
+-- the job's own refusal first, then the trace's
+abbrev pub whyCheck : List ℕ → List ℕ → ℕ → ℕ → ℕ → ℕ
+whyCheck input t image map lines = first (whyRead image map lines input) (whyTrace t)
+
+-- a refusal: its number alone, and the buffers as lent. Else the verdict; the image after the job's last step, the job's map and its line words
+unfoldable pub checkOf : List ℕ → List ℕ → List ℕ → List ℕ → List ℕ → Left Verdict
+checkOf input t image map lines =
+    let why = whyCheck input t (length image) (length map) (length lines) in
+    unless why
+    (left (answered (verdictOf input t)) (imageAfter input) (mapOf input) (linesOf input))
+    (left (refused why) image map lines)
+
+-- ---- the trace made
+
+abbrev pub madePage : Made → Page ℕ
+madePage (Made.Bytes n) = answered n
+madePage (Made.Refused why) = refused why
+
+-- 10: fewer bytes are lent than the longest trace has, of 4,096 entries
+abbrev pub outputShort : ℕ
+outputShort = 10
+
+abbrev pub longest : ℕ
+longest = 81922
+
+abbrev pub whyMake : List ℕ → ℕ → ℕ → ℕ → ℕ → ℕ
+whyMake input out image map lines = first (whyRead image map lines input) (cond (leb longest out) 0 outputShort)
+
+-- what stands in the lent bytes, and what is answered
+pub record Put : Type 0 where
+  pub bytes : List ℕ
+  pub rest : Left ℕ
+
+abbrev pub put : List ℕ → Left ℕ → Put
+put bytes rest = record { bytes = bytes; rest = rest }
+
+-- the right trace goes to the front of the lent bytes, the rest of them stays; the number of its bytes is answered
+unfoldable pub makeOf : List ℕ → List ℕ → List ℕ → List ℕ → List ℕ → Put
+makeOf input out image map lines =
+    let why = whyMake input (length out) (length image) (length map) (length lines) in
+    let t = traceBytes (rightTrace input) in
+    unless why
+    (put (over t out) (left (answered (length t)) (imageAfter input) (mapOf input) (linesOf input)))
+    (put out (left (refused why) image map lines))
