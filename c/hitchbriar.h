@@ -137,7 +137,8 @@ uint8_t wd16_step(uint8_t *state, size_t state_length, uint8_t *image, size_t im
    3, 35, 4, 5.
    A run may be made in parts, each from the state and the image that the one before left: it ends as the run over all lines.
    The blanks add up, and the first is the first part's, or else the second's with its place moved on by the first's length
-   (c/example.c). */
+   (c/example.c).
+   A run that leaves no blanks and a mode other than 4 is the same where further pages of the map are fitted, as 1 or 2. */
 uint8_t wd16_run(uint8_t *state, size_t state_length, uint8_t *tally, size_t tally_length, uint8_t *image,
                  size_t image_length, const uint8_t *map, size_t map_length, const uint8_t *settings,
                  size_t settings_length, const uint16_t *lines, size_t lines_length);

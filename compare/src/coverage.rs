@@ -299,10 +299,13 @@ pub enum RunKind {
     CutLocked,
     PluggedWritable,
     PluggedReadOnly,
-    NotSound,
+    PluggedBoth,
+    PluggedLong,
+    Healed,
+    Spared,
 }
 
-const RUN_KINDS: [(RunKind, &str); 12] = [
+const RUN_KINDS: [(RunKind, &str); 15] = [
     (
         RunKind::CutBlankInFirst,
         "a cut run, blank in its first part",
@@ -329,7 +332,16 @@ const RUN_KINDS: [(RunKind, &str); 12] = [
         RunKind::PluggedReadOnly,
         "a sound run with more read-only cards",
     ),
-    (RunKind::NotSound, "a run that is not sound"),
+    (
+        RunKind::PluggedBoth,
+        "a sound run with more cards of both kinds",
+    ),
+    (
+        RunKind::PluggedLong,
+        "a sound run of four steps or more that moves on, with more cards",
+    ),
+    (RunKind::Healed, "a blank that a card heals"),
+    (RunKind::Spared, "a lock-up that a card spares"),
 ];
 
 /// What a run cut at a place shows.
@@ -550,7 +562,7 @@ impl Coverage {
             let known = match kind {
                 RunKind::CutMarked => self.level.has(LateIen),
                 RunKind::CutSaved => self.level.has(Jumpers),
-                RunKind::PluggedReadOnly => self.level.has(ReadOnlyPages),
+                RunKind::PluggedReadOnly | RunKind::PluggedBoth => self.level.has(ReadOnlyPages),
                 _ => true,
             };
             if known {

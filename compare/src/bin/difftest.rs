@@ -32,7 +32,7 @@ use wd16::recorder::{Tallies, CHANNELS};
 use wd16::served::{printed, Served};
 use wd16::text::text_of;
 use wd16::through::Through;
-use wd16::{step, Level, Mode, Ran, Refusal, Settings, Setup, State, Stepped, Wish, PC};
+use wd16::{step, Cause, Level, Mode, Ran, Refusal, Settings, Setup, State, Stepped, Wish, PC};
 
 /// What differs, told to a person.
 type Difference = String;
@@ -280,7 +280,36 @@ fn is_its_parts(
     Ok(())
 }
 
-/// A run without a blank that doesn't end locked is the same with more cards (wish 12).
+/// The map with more cards, and their kinds. Pages that were fitted keep their byte.
+fn more_cards(level: Level, map: &[u8], random: &mut Random) -> (Vec<u8>, RunKind) {
+    let read_only: &[(&[u8], RunKind)] = &[
+        (&[READ_ONLY], RunKind::PluggedReadOnly),
+        (&[WRITABLE, READ_ONLY], RunKind::PluggedBoth),
+    ];
+    let (cards, kind) = match random.below(3) {
+        0 | 1 if level.has(Wish::ReadOnlyPages) => random.pick(read_only),
+        _ => (&[WRITABLE][..], RunKind::PluggedWritable),
+    };
+    let plugged = |&page: &u8| match page {
+        0 if random.percent(50) => random.pick(cards),
+        _ => page,
+    };
+    (map.iter().map(plugged).collect(), kind)
+}
+
+/// The cause of each step from what is lent.
+fn causes(pair: &mut Pair, lines: &[u16]) -> Result<Vec<Cause>, Difference> {
+    lines
+        .iter()
+        .map(|&line| pair.step(line).map(|stepped| stepped.cause))
+        .collect()
+}
+
+/// Of runs up to this length the cause of each step is looked at too.
+const LOOKED_AT: usize = 8;
+
+/// A run without a blank that doesn't end locked is the same with more cards (wish 12), and each of its steps has the same
+/// cause. Another one may change.
 fn is_the_same_with_cards(
     pair: &mut Pair,
     before: &Buffers,
@@ -288,27 +317,40 @@ fn is_the_same_with_cards(
     random: &mut Random,
     reached: &mut Coverage,
 ) -> Result<(), Difference> {
-    if ran.blanks != 0 || ran.state.mode == Mode::Locked {
-        reached.count_run(RunKind::NotSound);
-        return Ok(());
-    }
-    let read_only = pair.level.has(Wish::ReadOnlyPages) && random.percent(50);
-    let (card, kind) = if read_only {
-        (READ_ONLY, RunKind::PluggedReadOnly)
-    } else {
-        (WRITABLE, RunKind::PluggedWritable)
+    let (map, kind) = more_cards(pair.level, &before.map, random);
+    let plugged = Buffers {
+        map,
+        ..before.clone()
     };
-    let mut plugged = before.clone();
-    for page in plugged.map.iter_mut().filter(|page| **page == 0) {
-        *page = if random.percent(50) { card } else { 0 };
-    }
-    if plugged.map != before.map {
-        reached.count_run(kind);
-    }
-    let whole = std::mem::replace(&mut pair.lent, plugged);
+    let whole = std::mem::replace(&mut pair.lent, plugged.clone());
     let again = pair.run(&whole.lines)?;
-    if again != *ran || pair.lent.image != whole.image {
+    let same = again == *ran && pair.lent.image == whole.image;
+    let more = plugged.map != before.map;
+    let (blank, locked) = (ran.blanks != 0, ran.state.mode == Mode::Locked);
+    let mut shown = Vec::new();
+    if blank || locked {
+        let spared = locked && again.state.mode != Mode::Locked;
+        shown.push((blank && again.blanks < ran.blanks, RunKind::Healed));
+        shown.push((!blank && spared, RunKind::Spared));
+    } else if same {
+        let started = abi::state_of(pair.level, &before.state).expect("a good state");
+        let long = whole.lines.len() >= 4 && ran.state.r[PC] != started.r[PC];
+        shown.push((more, kind));
+        shown.push((more && long, RunKind::PluggedLong));
+        if whole.lines.len() <= LOOKED_AT {
+            pair.lent = plugged;
+            let with = causes(pair, &whole.lines)?;
+            pair.lent = before.clone();
+            let without = causes(pair, &whole.lines)?;
+            if with != without {
+                return Err(format!("more cards changed causes: {without:?}, {with:?}"));
+            }
+        }
+    } else {
         return Err(format!("more cards changed a run: {ran:?}, {again:?}"));
+    }
+    for (_, kind) in shown.into_iter().filter(|(is, _)| *is) {
+        reached.count_run(kind);
     }
     pair.lent = whole;
     Ok(())

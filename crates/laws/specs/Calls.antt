@@ -9,21 +9,26 @@ use lib.Dec.{eqb}
 use borrow.Author.Tests.{eq-eqb, ne-eqb}
 use Rattle.state.specs.declared.State.{State}
 use Rattle.state.specs.declared.Settings.{Settings}
+use Rattle.state.specs.State.{heard, modeNumber}
+use Rattle.step.specs.declared.Cause.{Cause}
 use Rattle.step.specs.declared.Cause.the-variants as Cause
-use Rattle.step.specs.Step.{After}
+use Rattle.step.specs.Step.{After, stepOf, causeNumber, isBlank}
+use Rattle.refusal.specs.Numbers.{noState}
+use Rattle.refusal.specs.Page.{first-both}
 use Rattle.words.specs.Words.{byteAt, wordAt}
 use Rattle.machine.specs.declared.Ran.{Ran}
 use Rattle.machine.specs.declared.First.{First}
 use Rattle.machine.specs.declared.First.the-variants.{At, Never}
 use Rattle.machine.specs.declared.Finished.the-variants as Finished
-use Rattle.machine.specs.Numbers.{statePage, Address, nowhere, placeOf, Place}
+use Rattle.machine.specs.Numbers.{statePage, Address, nowhere, placeOf, Place, turnPage}
 use Rattle.machine.specs.Run.{End, end, runOf, ranOf}
 use Rattle.machine.specs.Trail.{trailOf, moved, firstIn, Least, least}
 use Rattle.machine.specs.Counted.{orFirst, run-trail, first-least, trail-length}
-use Rattle.machine.specs.Entry.{runWhy, left, finishedPage, runPage, run-answered}
+use Rattle.machine.specs.Entry.{runWhy, left, finishedPage, runPage, run-answered, stepWhy, stepPage}
 use Rattle.machine.specs.Entry as Entry
-use Rattle.firmware.specs.Layout.{bytesOf, tallyBytes, placeNumber, placeTold, stateFrom, settingsFrom, refusedState, refusedSettings, refusedStep, refusedRun}
-use Rattle.firmware.specs.Calls.{ended, endedFrom, runCall}
+use Rattle.firmware.specs.Layout.{bytesOf, tallyBytes, placeNumber, placeTold, stateFrom, settingsFrom, refusedState, refusedSettings, refusedStep, refusedRun, notTally}
+use Rattle.firmware.specs.Calls.{ended, endedFrom, runCall, stepBytes, Went, went, stepCall}
+use Rattle.demands.specs.Demand1.{wd16-step-answers, wd16-run-answers}
 
 -- a tally's bytes
 abbrev pub bytesFor : Ran → List ℕ
@@ -129,3 +134,51 @@ run-low settings map lines s m a n e l =
     low : (f : First) (rs : List After) → length rs ≡ length lines → Least rs (placeOf f) → Within f
     low (At q x) rs k (least i h g) p a d = let z : q ≡ p = cc in omega arith
     low Never rs k h p a d = let z : _≡_ {A = ℕ} 0 1 = cc in absurd (omega arith)
+
+-- ---- a call that answers 0 wasn't refused
+
+told-none : (b : Bool) → cond b noState 0 ≡ 0 → b ≡ false
+told-none true e = absurd (omega arith)
+told-none false e = refl
+
+pub run-not-refused : (b t m map w lines b′ t′ m′ : List ℕ) → ended 0 b′ t′ m′ ≡ runCall b t m map w lines → (refusedRun b t w ≡ false) × (runWhy (settingsFrom w) m map lines ≡ 0)
+run-not-refused b t m map w lines b′ t′ m′ e =
+    let both = first-both (cond (refusedRun b t w) noState 0) (runWhy (settingsFrom w) m map lines) (sym (wd16-run-answers b t m map w lines 0 b′ t′ m′ e .numberIs)) in
+    (told-none (refusedRun b t w) (both .0), both .1)
+
+pub step-not-refused : (b m map w : List ℕ) (line : ℕ) (b′ m′ : List ℕ) → went 0 b′ m′ ≡ stepCall b m map w line → (refusedStep b w ≡ false) × (stepWhy (settingsFrom w) m map line ≡ 0)
+step-not-refused b m map w line b′ m′ e =
+    let both = first-both (cond (refusedStep b w) noState 0) (stepWhy (settingsFrom w) m map line) (sym (wd16-step-answers b m map w line 0 b′ m′ e .numberIs)) in
+    (told-none (refusedStep b w) (both .0), both .1)
+
+-- with another tally's buffer it isn't refused either
+pub tally-taken : (b t t′ w : List ℕ) → refusedRun b t w ≡ false → length t′ ≡ 6 → refusedRun b t′ w ≡ false
+unfolding refusedRun
+tally-taken b t t′ w e l = rw (or-false (refusedStep b w) (notTally t) e .0, eq-eqb (length t′) 6 l)
+
+-- what a step leaves that isn't refused
+abbrev pub stepped : After → Went
+stepped a = went 0 (stepBytes (turnPage (record { state = a .state; cause = a .cause }))) (a .image)
+
+pub step-call-is : (b m map w : List ℕ) (line : ℕ) → refusedStep b w ≡ false → stepWhy (settingsFrom w) m map line ≡ 0 → stepCall b m map w line ≡ stepped (stepOf map (heard (settingsFrom w) line) (stateFrom b) m)
+unfolding stepCall stepPage
+step-call-is b m map w line h e = rw (h, e)
+
+-- ---- what the bytes say
+
+pub mode-byte : (s : State) (cause : ℕ) (told : Address) → byteAt (bytesOf (statePage s) cause told) 18 ≡ modeNumber (s .mode)
+unfolding bytesOf statePage
+mode-byte s cause told = refl
+
+-- a cause that is none of 5, 6 and 9 is no blank
+pub number-no-blank : (c : Cause) → (causeNumber c ≡ 5 → ⊥) → (causeNumber c ≡ 6 → ⊥) → (causeNumber c ≡ 9 → ⊥) → isBlank c ≡ false
+number-no-blank Cause.OpCode f s n = refl
+number-no-blank Cause.Switch f s n = refl
+number-no-blank Cause.NonVectored f s n = refl
+number-no-blank Cause.Vectored f s n = refl
+number-no-blank Cause.Nothing f s n = refl
+number-no-blank (Cause.OpCodeBlank a) f s n = absurd (f refl)
+number-no-blank (Cause.InterruptBlank a) f s n = absurd (s refl)
+number-no-blank (Cause.SaveBlank a) f s n = absurd (n refl)
+number-no-blank (Cause.LockedAt a) f s n = refl
+number-no-blank Cause.Locked f s n = refl

@@ -9,17 +9,19 @@ use lib.Dec.{leb}
 use borrow.Author.Tests.{le-leb}
 use Rattle.state.specs.declared.State.{State}
 use Rattle.state.specs.declared.Settings.{Settings}
+use Rattle.state.specs.State.{heard}
 use Rattle.step.specs.declared.Cause.the-variants as Cause
+use Rattle.step.specs.Step.{stepOf}
 use Rattle.refusal.specs.Numbers.{linesLength, lineBit}
 use Rattle.refusal.specs.Page.{refused, first-both, apart}
-use Rattle.refusal.specs.Refusal.{allOf, plain, linesRefusal, runRefusal, short}
+use Rattle.refusal.specs.Refusal.{allOf, plain, linesRefusal, runRefusal, short, stepRefusal}
 use Rattle.machine.specs.declared.Ran.{Ran}
 use Rattle.machine.specs.declared.Tally.{Tally}
 use Rattle.machine.specs.declared.Finished.{Finished}
 use Rattle.machine.specs.declared.Finished.the-variants as Finished
 use Rattle.machine.specs.Run.{End, end, runOf, ranOf}
 use Rattle.machine.specs.Counted.{run-trail}
-use Rattle.machine.specs.Entry.{powerWhy, runWhy, left, finishedPage, ended, runPage}
+use Rattle.machine.specs.Entry.{powerWhy, runWhy, left, finishedPage, ended, runPage, stepWhy, turned, stepPage}
 use Rattle.machine.specs.Answered.{run-done}
 use Rattle.laws.specs.Sizes.{trail-size}
 
@@ -81,3 +83,14 @@ ran-is e = (ap ranIn e, ap imageIn e)
 
     imageIn : End → List ℕ
     imageIn (end t k y) = k
+
+-- ---- a step
+
+pub step-page-is : (settings : Settings) (m map : List ℕ) (line : ℕ) (s : State) → stepWhy settings m map line ≡ 0 → stepPage settings m map line s ≡ turned (stepOf map (heard settings line) s m)
+unfolding stepPage
+step-page-is settings m map line s e = rw e
+
+-- a line word that isn't refused on one board isn't on another
+pub step-taken : (settings : Settings) (m map big : List ℕ) (line : ℕ) → powerWhy settings m big ≡ 0 → stepWhy settings m map line ≡ 0 → stepWhy settings m big line ≡ 0
+unfolding stepRefusal
+step-taken settings m map big line h e = rw h (first-both (powerWhy settings m map) (cond (plain line) 0 lineBit) e .1)
