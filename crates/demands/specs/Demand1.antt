@@ -5,7 +5,7 @@
 use Prim.Native.Nat.{ℕ}
 use mathlib.Core.Bool.{cond}
 use mathlib.Core.List.{List}
-use mathlib.Core.Path.{_≡_, refl, ap}
+use mathlib.Core.Path.{_≡_, refl, sym, ap, _∙_}
 use lib.ListN.{length}
 use Rattle.state.specs.declared.State.{State}
 use Rattle.state.specs.declared.Settings.{Settings}
@@ -26,10 +26,16 @@ use Rattle.firmware.specs.Calls as Calls
 use Rattle.job.specs.declared.Answer.{Answer}
 use Rattle.job.specs.Job.{linesAt, imageOf, mapOf, linesOf, whyRead, pageOf, after, jobOf}
 use Rattle.letters.specs.Over.{Left, written}
+use Rattle.optext.specs.declared.Written.{Written}
+use Rattle.optext.specs.declared.ReadBack.{ReadBack}
+use Rattle.optext.specs.declared.ReadBack.the-variants as ReadBack
+use Rattle.optext.specs.Answer.{refusal, writtenAs, readAs, writeAnswer, writeBytes, Writes}
+use Rattle.optext.specs.Words.{Reads}
 use Rattle.line.specs.Line.{refusedText}
 use Rattle.runjob.specs.Bench.{told, benchOf}
 use Rattle.demands.specs.Terms.{Answers, Numbered}
 use Rattle.demands.specs.Pages.{answers, lent-where-refused, endAnswer, end-answer}
+use Rattle.demands.specs.Texts.{as-lent}
 use Rattle.demands.specs.Calls.{numbered, went-numbered, ended-numbered}
 
 -- POWER-UP: 1, 2, 3, 35
@@ -71,6 +77,20 @@ bench-answers input text image map lines line image′ map′ lines′ e n =
     let why = whyRead (length image) (length map) (length lines) input in
     let h = lent-where-refused why _ (told (written (refusedText why) text) image map lines) e n in
     (ap (λ z. z .line) h, ap (λ z. z .image) h, ap (λ z. z .map) h, ap (λ z. z .lines) h)
+
+-- THE TEXT OF AN OP CODE, written: 8, 6 or 7, and the text's buffer as it was lent
+pub write-answers : (words text : List ℕ) (r : Written) (text′ : List ℕ) (why : ℕ) → Writes words text r text′ → writtenAs r ≡ refusal why → text′ ≡ text
+unfolding writeAnswer writeBytes
+write-answers words text r text′ why w e = w .bytes ∙ as-lent _ _ _ _ text _ _ _ _ why (sym (w .answer) ∙ e)
+
+-- and read: 10, or 32, 31, 9 or 30 with its column, and the words' buffer as it was lent
+pub read-answers : (text words : List ℕ) (r : ReadBack) (words′ : List ℕ) → Reads (readAs r) text words words′ → ((n : ℕ) → r ≡ ReadBack.Words n → ⊥) → words′ ≡ words
+read-answers text words (ReadBack.Words n) words′ w h = absurd (h n refl)
+read-answers text words ReadBack.WordsShort words′ w h = w .1 .same
+read-answers text words (ReadBack.EarlyEnd c) words′ w h = w .same
+read-answers text words (ReadBack.AfterText c) words′ w h = w .same
+read-answers text words (ReadBack.UnknownName c) words′ w h = w .same
+read-answers text words (ReadBack.BadOperand c) words′ w h = w .same
 
 -- THE SAME FOR C, whose answer is the number: 21 before the others. w are the settings' bytes
 pub wd16-power-up-answers : (b m map w : List ℕ) (number : ℕ) (b′ m′ : List ℕ) → went number b′ m′ ≡ powerUpCall b m map w

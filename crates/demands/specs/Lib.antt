@@ -1,6 +1,7 @@
 pub mod Terms
 pub mod Pages
 pub mod Calls
+pub mod Texts
 pub mod Blanks
 pub mod Demand1
 pub mod Demand2
