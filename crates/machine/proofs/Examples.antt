@@ -11,7 +11,7 @@ use Rattle.state.specs.declared.State.{State}
 use Rattle.state.specs.declared.Settings.{Settings}
 use Rattle.state.specs.declared.Mode.the-variants.{Running}
 use Rattle.state.specs.Registers.{regOf, setReg}
-use Rattle.state.specs.State.{reg, withReg, withPc, cleared}
+use Rattle.state.specs.State.{reg, withReg, withMark, withPc, cleared}
 use Rattle.format8.specs.Page.{Plain, along}
 use Rattle.step.specs.declared.Cause.the-variants as Cause
 use Rattle.step.specs.Step.{after, kindIn}
@@ -63,5 +63,5 @@ plain : Plain 1 2
 plain = record { source-some = omega arith; source-few = omega arith; destination-some = omega arith; destination-few = omega arith }
 
 both : EndsAt (after before image Cause.Nothing) (trailOf fitted-setting board (0 ∷ 0 ∷ []) before image) (blockMove 0x0e0a before image)
-unfolding before cleared withReg setReg reg regOf kindIn fitted-setting
+unfolding before cleared withReg withMark setReg reg regOf kindIn fitted-setting
 both = block-move fitted-setting refl board 0x0e0a refl plain (0 ∷ 0 ∷ []) before image Cause.Nothing (omega arith) ready refl (also refl (also refl none))

@@ -47,6 +47,11 @@ step-ends settings map line lines s m c h k =
       tally = rw (ap (λ t. t .blanks) (k .tally), ap (λ t. t .first) (k .tally)) refl;
     })
 
+-- the mark is no part of the count
+count-marked : (s : State) → reg (withMark s false) 0 ≡ reg s 0
+unfolding withMark reg
+count-marked s = refl
+
 module _ (settings : Settings) (fit : settings .blocks ≡ true) (map : List ℕ) (op : ℕ) (eight : op / 512 ≡ 7) (p : Plain (sourceOf op) (destinationOf op)) where
   -- from any state, marked or not: the first element clears the mark
   elements : (lines : List ℕ) (s : State) (m : List ℕ) (c : Cause)
@@ -69,11 +74,12 @@ module _ (settings : Settings) (fit : settings .blocks ≡ true) (map : List ℕ
       onward : (v : State) → withMark v false ≡ v → {n : ℕ} {rest : List ℕ} {b : After} {rs : List After} {x : List ℕ}
           → (Left n (withMark v false) → Ready map op n (withMark v false) x → AllUnheard settings (hears (withMark v false)) rest → EndsAt b rs (elementsOf op n (withMark v false) x))
           → Left n v → Ready map op n v x → AllUnheard settings (hears v) rest → EndsAt b rs (elementsOf op n v x)
-      onward v e f = subst (λ w. Left _ w → Ready map op _ w _ → AllUnheard settings (hears w) _ → EndsAt _ _ (elementsOf op _ w _)) e f
+      onward v e {n} {rest} {b} {rs} {x} f = subst (λ w. Left n w → Ready map op n w x → AllUnheard settings (hears w) rest → EndsAt b rs (elementsOf op n w x)) e f
 
   -- a line word for each element, in which nothing is heard; an IEN's mark ends with the first
   pub block-move : (lines : List ℕ) (s : State) (m : List ℕ) (c : Cause)
       → reg s 0 < 65536 → Ready map op (countOf (reg s 0)) s m → length lines ≡ countOf (reg s 0) → AllUnheard settings (hears (withMark s false)) lines
       → EndsAt (after s m c) (trailOf settings map lines s m) (blockMove op (withMark s false) m)
-  unfolding withMark
-  block-move lines s m c w a e q = rw (← e) (elements lines s m c (rw (← e) at (all-left (withMark s false) w)) (rw (← e) at (ready-marked a)) q)
+  block-move lines s m c w a e q =
+      let f : length lines ≡ countOf (reg (withMark s false) 0) = e ∙ ap countOf (sym (count-marked s)) in
+      rw (← f) (elements lines s m c (rw (← f) at (all-left (withMark s false) (rw (count-marked s) w))) (rw (← e) at (ready-marked a)) q)
