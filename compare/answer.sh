@@ -1,5 +1,5 @@
 #!/usr/bin/env bash
-# Reads case lines (shared/vectors/README.md) on standard input and prints an answer to each, BAD where there is none.
+# Reads case lines (compare/README.md) on standard input and prints an answer to each, BAD where there is none.
 #   compare/answer.sh          from the proved code: its functions for C, and its programs
 #   compare/answer.sh plain    from the plain interpreter
 # The code is compiled as the gate's tests compile it (c/build.sh), unless that was done since a source was changed.

@@ -1,4 +1,4 @@
-//! Case lines (shared/vectors/README.md) and their answers, whoever gives them.
+//! Case lines (compare/README.md) and their answers, whoever gives them.
 
 use crate::assembler::assemble;
 use crate::bench::four;

@@ -1,4 +1,4 @@
-//! A part of shared/vectors, each line a case, a tab and the right answer: answered right by the
+//! Cases with their right answers, each line a case, a tab and the right answer: answered right by the
 //! interpreter, and through the C interface's buffers.
 
 use std::path::Path;

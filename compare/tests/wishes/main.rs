@@ -1,4 +1,4 @@
-//! The corners of the wishes, as shared/READINGS-WISHES.md names them.
+//! The corners of the wishes, as docs/DECISIONS.md reads them.
 
 #[path = "../common/mod.rs"]
 mod common;
