@@ -1,6 +1,6 @@
 #!/usr/bin/env bash
-# Builds the C examples, the server of calls and bench in target/c, for tests that run before the proof:
-#   example, text, serve, bench
+# Builds the C examples, the server of calls, bench and list in target/c, for tests that run before the proof:
+#   example, text, serve, bench, list
 #   example-asan, text-asan, serve-asan       under the address sanitizer
 # The library's code is the module that the toolchain makes of a program that calls the exported functions (rt try, which
 # proves nothing), compiled for this machine. With arguments the libraries are those instead, for x86-64, such as
@@ -57,7 +57,7 @@ else
     for name in example text serve; do x86_64_cc $flags -Ic -I"$out" "c/$name.c" "$@" -o "$out/$name"; done
     [ "$(uname -m)" != x86_64 ] || sanitized "$@"
 fi
-for name in bench; do
+for name in bench list; do
     module . "$name" "$PWD/$out/$name.bc"
     module_text "$out/$name.bc" >"$out/$name.ll"
     object "$out/$name.ll" "$out/$name.o" -O3

@@ -42,3 +42,4 @@ if [ -x target/c/serve-asan ]; then
     all_compared serve-asan "$((seed + 1))" target/c/serve-asan
 fi
 wait "$plain"
+compared list list "$seed" "$((cases / 20))" "target/c/list"

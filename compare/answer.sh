@@ -13,4 +13,4 @@ if [ "$stamp" != "$(cat target/c/stamp 2>/dev/null)" ]; then
     c/build.sh </dev/null >&2
     echo "$stamp" >target/c/stamp
 fi
-exec "$answer" served target/c/serve target/c/bench ""
+exec "$answer" served target/c/serve target/c/bench target/c/list

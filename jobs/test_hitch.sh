@@ -127,5 +127,28 @@ printf 'MOV  R0\n' >"$made/bad.text"
 ends 0 $'15C0 0005\nMBWU R1,R2' "$spoken" ./hitch text --unproved "$made/good.text"
 ends 1 $'MOV  R0\n    ^ bad operand (refusal 30 at column 4)' "$spoken" ./hitch text --unproved <"$made/bad.text"
 
+# A listing: of a sample, by two addresses; refused by number, and wrong use.
+listed() { "$root/hitch" list --unproved "$@"; }
+told='hitch: list is compiled without proof'
+python3 jobs/make_job.py jobs/card-pulled.txt >"$made/card.job"
+for job in jobs/card-pulled.txt "$made/card.job"; do
+    ends 0 "$(cat jobs/card-pulled.0080-0092.list)" "$told" listed "$job" 0080 0092
+    ends 0 "$(cat jobs/card-pulled.0080-0092.list)" "$told" listed - 80 92 <"$job"
+done
+ends 0 '0080 09BF MOVI 10,SP' "$told" elsewhere listed example.job 0080 80
+ends 0 '0082 B7C0 .WORD B7C0' "$told" listed jobs/example.txt 0082 0082
+ends 0 $'FFFC ----\nFFFE ----' "$told" listed jobs/example.txt fffc FFFE
+ends 1 'REFUSED 23' "$told" listed jobs/example.txt 0081 0090
+ends 1 'REFUSED 23' "$told" listed jobs/example.txt 0080 0091
+ends 1 'REFUSED 23' "$told" listed jobs/example.txt 0082 0080
+ends 1 'REFUSED 17' "$told" listed jobs/refused.txt 0082 0080
+ends 1 'REFUSED 11' "$told" listed "$made/short" 0 0
+ends 1 '' "$falling" listed "$made/falling.txt" 0 0
+ends 2 '' "hitch: list takes a job, a first and a last address; $more" listed jobs/example.txt 0080
+ends 2 '' "hitch: one file at a time; $more" listed jobs/example.txt 0080 0082 0084
+ends 2 '' "hitch: '00G0' is no address: one to four hex digits; $more" listed jobs/example.txt 00G0 0082
+ends 2 '' "hitch: '10000' is no address: one to four hex digits; $more" listed jobs/example.txt 0 10000
+ends 2 '' "hitch: '' is no address: one to four hex digits; $more" listed jobs/example.txt '' 0
+
 [ "$wrong" = 0 ] || exit 1
 echo "hitch: $cases cases ok"

@@ -1,11 +1,25 @@
 #!/usr/bin/env bash
-# Holds each sample's stored line to what the plain interpreter prints for its job. Build that first: cargo build --release in compare.
+# Holds each sample's stored line, and each stored listing, to what the plain interpreter prints for its job. Build that first:
+# cargo build --release in compare.
 set -euo pipefail
 cd "$(dirname "$0")/.."
 for text in jobs/*.txt; do
     name=$(basename "$text" .txt)
     got=$(python3 jobs/make_job.py "$text" | compare/target/release/bench)
     if [ "$got" != "$(cat "jobs/$name.line")" ]; then
+        echo "$name: the plain interpreter prints $got"
+        exit 1
+    fi
+    echo "$name ok"
+done
+# NAME.FIRST-LAST.list
+for listing in jobs/*.list; do
+    name=$(basename "$listing" .list)
+    stretch=$(python3 -c 'import sys
+first, last = sys.argv[1].split("-")
+sys.stdout.write("".join(f"\\x{address[2:]}\\x{address[:2]}" for address in (first, last)))' "${name##*.}")
+    got=$({ printf "$stretch"; python3 jobs/make_job.py "jobs/${name%.*}.txt"; } | compare/target/release/list)
+    if [ "$got" != "$(cat "$listing")" ]; then
         echo "$name: the plain interpreter prints $got"
         exit 1
     fi

@@ -1,0 +1,180 @@
+-- From the code's facts to a line of a listing.
+use Prim.Native.Nat.{ℕ, zero, suc, _+_, _*_, _≤_, _<_}
+use mathlib.Core.Bool.{Bool, true, false, not, cond}
+use mathlib.Core.List.{List, [], _∷_, _++_}
+use mathlib.Core.Path.{_≡_, refl, ap, sym, _∙_, subst}
+use native.Mathlib.Numerals.{add-one}
+use native.Mathlib.Omega.{arith}
+use borrow.Author.Tests.{le-ltb, lt-ltb, ltb-false, not-true, not-false}
+use lib.Dec.{ltb}
+use lib.ListN.{length, take, getD, length-append}
+use lib.Seq.{length-take-le}
+use Rattle.letters.specs.Digits.{hex4}
+use Rattle.letters.specs.Over.{over, Wrote}
+use Rattle.refusal.specs.Numbers.{noStretch}
+use Rattle.refusal.specs.Page.{refused, answered, first-some, first-both, unless-some}
+use Rattle.refusal.specs.Refusal.{boardRefusal}
+use Rattle.words.specs.Words.{wordAt}
+use Rattle.board.specs.Work.{fitted}
+use Rattle.line.specs.Line.{field, fields}
+use Rattle.optext.specs.declared.Written.{Written}
+use Rattle.optext.specs.declared.Written.the-variants.{Line}
+use Rattle.optext.specs.Rows.{rows, theRow}
+use Rattle.optext.specs.Line.{sepText, wordText, taken, textOf}
+use Rattle.optext.specs.Answer.{Answer, found, refusal, refusalAt, writtenAs, writeAnswer, writeBytes, Writes, wordAnswer, wordBytes, WritesWord}
+use Rattle.listing.specs.declared.Found.{Found}
+use Rattle.listing.specs.declared.Found.the-variants.{Nothing, Cut, Whole}
+use Rattle.listing.specs.declared.Listed.{Listed}
+use Rattle.listing.specs.Listing.{allStand, foundAt, lineOf, movesOn, Fits, lineAt, nextAt}
+use Rattle.listing.specs.Calls.{left, told, listedPage, textShort, badStretch, lineWhy, nextOf, lineCall}
+use Rattle.listing.specs.Joined.{taken-some, cond-none}
+
+-- ---- what is found
+
+module _ (map image : List ℕ) (last a : ℕ) (f : Bool) (e : f ≡ fitted map a) where
+  pub found-nothing : not f ≡ true → (Nothing ≡ foundAt map image last a) × Fits (wordAt image a) Nothing
+  unfolding foundAt
+  found-nothing h = (rw (← e, not-true f h) refl, tt)
+
+  module _ (h : not f ≡ false) (n w : ℕ) (p : w ≡ wordAt image a) (t : (n ≡ taken w) × (n ≤ 3)) (s : Bool) (g : s ≡ allStand map last a n) where
+    own : n ≡ taken (wordAt image a)
+    own = t .0 ∙ ap taken p
+
+    pub found-whole : s ≡ true → (Whole n ≡ foundAt map image last a) × Fits (wordAt image a) (Whole n)
+    unfolding foundAt
+    found-whole k = (rw (← e, not-false f h, ← own, ← g, k) refl, (own, t .1))
+
+    pub found-cut : s ≡ false → (Cut ≡ foundAt map image last a) × Fits (wordAt image a) Cut
+    unfolding foundAt
+    found-cut k = (rw (← e, not-false f h, ← own, ← g, k) refl, tt)
+
+pub fits-whole : (w : ℕ) (f : Found) (n : ℕ) → Fits w f → f ≡ Whole n → (n ≡ taken w) × (n ≤ 3)
+fits-whole w f n h e = subst (λ (z : Found). Fits w z) e h
+
+pub fits-word : (w v : ℕ) (f : Found) → w ≡ v → Fits v f → Fits w f
+fits-word w v f e h = subst (λ (z : ℕ). Fits z f) (sym e) h
+
+pub moves-few : (w : ℕ) (f : Found) → Fits w f → movesOn f ≤ 3
+moves-few w Nothing h = omega arith
+moves-few w Cut h = omega arith
+moves-few w (Whole n) h = h .1
+
+-- ---- the address and the words
+
+pub field-length : (x : ℕ) → length (field x) ≡ 5
+unfolding field hex4
+field-length x = refl
+
+pub fields-length : (values : List ℕ) (n : ℕ) → length (fields values n) ≡ n * 5
+unfolding fields
+fields-length values zero = refl
+fields-length values (suc n) =
+    length-append (fields values n) (field (getD values n 0))
+    ∙ omega (arith, fields-length values n, field-length (getD values n 0))
+
+pub fields-more : (values : List ℕ) (n : ℕ) → fields values n ++ field (getD values n 0) ≡ fields values (n + 1)
+unfolding fields
+fields-more values n = rw (add-one n) refl
+
+-- ---- the text, where there is room for it
+
+abbrev lead : Answer → ℕ
+lead (found l) = getD l 0 0
+lead (refusal r) = 0
+lead (refusalAt r c) = 0
+
+abbrev kind : Answer → ℕ
+kind (found l) = 1
+kind (refusal r) = 0
+kind (refusalAt r c) = 0
+
+module _ (w : ℕ) (b e : List ℕ) (r : Written) (h : 32 ≤ length b) (v : WritesWord w b r e) where
+  word-answer : wordAnswer w b ≡ found (length (wordText w) ∷ 1 ∷ [])
+  unfolding wordAnswer
+  word-answer = rw (le-ltb (length b) 32 h) refl
+
+  word-bytes : wordBytes w b ≡ over (wordText w) b
+  unfolding wordBytes
+  word-bytes = rw (le-ltb (length b) 32 h) refl
+
+  pub word-wrote : (n m : ℕ) → r ≡ Line n m → Wrote (wordText w) b e n
+  word-wrote n m d = record { bytes = v .bytes ∙ word-bytes; count = ap lead (ap writtenAs (sym d) ∙ v .answer ∙ word-answer) }
+
+  pub word-never : {A : Type 0} (r′ : Written) (k : ℕ) → r ≡ r′ → writtenAs r′ ≡ refusal k → A
+  word-never r′ k d q =
+      let z : _≡_ {A = ℕ} 0 1 = ap kind (sym q ∙ ap writtenAs (sym d) ∙ v .answer ∙ word-answer) in
+      absurd (omega (arith, z))
+
+pub word-length : (w : ℕ) → length (wordText w) ≡ 10
+unfolding wordText theRow rows sepText hex4
+word-length w = refl
+
+module _ (ws b e : List ℕ) (r : Written) (h : 32 ≤ length b) (l : length ws ≡ taken (getD ws 0 0)) (v : Writes ws b r e) where
+  some : 1 ≤ length ws
+  some = omega (arith, l, taken-some (getD ws 0 0))
+
+  enough : taken (getD ws 0 0) ≤ length ws
+  enough = omega (arith, l)
+
+  op-answer : writeAnswer ws b ≡ found (length (textOf ws) ∷ taken (getD ws 0 0) ∷ [])
+  unfolding writeAnswer
+  op-answer = rw (le-ltb (length b) 32 h, le-ltb (length ws) 1 some, le-ltb (length ws) (taken (getD ws 0 0)) enough) refl
+
+  op-bytes : writeBytes ws b ≡ over (textOf ws) b
+  unfolding writeBytes
+  op-bytes = rw (le-ltb (length b) 32 h, le-ltb (length ws) 1 some, le-ltb (length ws) (taken (getD ws 0 0)) enough) refl
+
+  pub op-wrote : (n m : ℕ) → r ≡ Line n m → Wrote (textOf ws) b e n × (n ≤ 24)
+  op-wrote n m d =
+      let c : n ≡ length (textOf ws) = ap lead (ap writtenAs (sym d) ∙ v .answer ∙ op-answer) in
+      (record { bytes = v .bytes ∙ op-bytes; count = c }, omega (arith, c, v .short))
+
+  pub op-never : {A : Type 0} (r′ : Written) (k : ℕ) → r ≡ r′ → writtenAs r′ ≡ refusal k → A
+  op-never r′ k d q =
+      let z : _≡_ {A = ℕ} 0 1 = ap kind (sym q ∙ ap writtenAs (sym d) ∙ v .answer ∙ op-answer) in
+      absurd (omega (arith, z))
+
+-- as many of the three words as the op code has
+pub whole-count : (w x y n : ℕ) → n ≡ taken w → n ≤ 3 → length (take n (w ∷ x ∷ y ∷ [])) ≡ taken (getD (take n (w ∷ x ∷ y ∷ [])) 0 0)
+whole-count w x y zero q h = absurd (omega (arith, q, taken-some w))
+whole-count w x y (suc n) q h = length-take-le (suc n) (w ∷ x ∷ y ∷ []) h ∙ q
+
+-- ---- refusals
+
+module _ (size : ℕ) (map : List ℕ) (a last text k : ℕ) (e : k ≡ boardRefusal size map) where
+  pub why-board : (k ≡ 0 → ⊥) → k ≡ lineWhy size map a last text
+  unfolding lineWhy
+  why-board n = rw (← e) (first-some k _ n)
+
+  module _ (z : k ≡ 0) (s : Bool) (b : s ≡ badStretch a last) where
+    pub why-stretch : s ≡ true → noStretch ≡ lineWhy size map a last text
+    unfolding lineWhy
+    why-stretch t = rw (← e, z, ← b, t) refl
+
+    pub why-text : s ≡ false → text < 52 → textShort ≡ lineWhy size map a last text
+    unfolding lineWhy
+    why-text t h = rw (← e, z, ← b, t, lt-ltb text 52 h) refl
+
+    pub why-none : s ≡ false → 52 ≤ text → 0 ≡ lineWhy size map a last text
+    unfolding lineWhy
+    why-none t h = rw (← e, z, ← b, t, le-ltb text 52 h) refl
+
+pub room-there : (size : ℕ) (map : List ℕ) (a last text : ℕ) → lineWhy size map a last text ≡ 0 → 52 ≤ text
+unfolding lineWhy
+room-there size map a last text e =
+    let b = first-both (boardRefusal size map) _ e .1 in
+    let d = first-both (cond (badStretch a last) noStretch 0) _ b .1 in
+    ltb-false text 52 (cond-none (ltb text 52) textShort (λ h. omega arith) d)
+
+-- ---- the call
+
+module _ (image map : List ℕ) (a last : ℕ) (b : List ℕ) where
+  pub call-refused : (k : ℕ) → k ≡ lineWhy (length image) map a last (length b) → (k ≡ 0 → ⊥) → left (refused k) b ≡ lineCall image map a last b
+  unfolding lineCall
+  call-refused k e n = rw (← e) (sym (unless-some k _ _ n))
+
+  pub call-line : (w x y n m : ℕ) (e : List ℕ) (f : Found) (r : Listed) → lineWhy (length image) map a last (length b) ≡ 0 → f ≡ foundAt map image last a
+      → w ≡ wordAt image a → x ≡ wordAt image (a + 2) → y ≡ wordAt image (a + 4) → Wrote (lineOf a (w ∷ x ∷ y ∷ []) f) b e n → m ≡ movesOn f
+      → listedPage r ≡ answered (told n (nextOf last (a + m * 2))) → left (listedPage r) e ≡ lineCall image map a last b
+  unfolding lineCall lineAt nextAt
+  call-line w x y n m e f r z g p q s v u t = rw (z, t, v .bytes, v .count, u, p, q, s, g) refl

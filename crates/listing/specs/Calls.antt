@@ -1,0 +1,93 @@
+-- What the writer of one line of a listing must answer and leave.
+use Prim.Native.Nat.{ℕ, _%_}
+use mathlib.Core.Bool.{Bool, _||_, cond}
+use mathlib.Core.List.{List}
+use mathlib.Core.Path.{_≡_, refl, ap, sym, _∙_}
+use lib.ListN.{length}
+use lib.Dec.{eqb, ltb}
+use Rattle.letters.specs.Over.{over}
+use Rattle.refusal.specs.Numbers.{noStretch}
+use Rattle.refusal.specs.Page.{Page, refused, answered, first, unless}
+use Rattle.refusal.specs.Refusal.{boardRefusal}
+use Rattle.listing.specs.declared.Listed.{Listed}
+use Rattle.listing.specs.declared.Listed.the-variants.{Line, Last, Refused}
+use Rattle.listing.specs.Listing.{lineAt, nextAt}
+
+-- ---- the answer: the line's length, and the address of the next line or that it is the last
+
+pub data Next : Type 0 where
+  goesOn : ℕ → Next
+  ends : Next
+
+pub record Told : Type 0 where
+  pub count : ℕ
+  pub next : Next
+
+abbrev pub told : ℕ → Next → Told
+told n x = record { count = n; next = x }
+
+abbrev pub listedPage : Listed → Page Told
+listedPage (Line n a) = answered (told n (goesOn a))
+listedPage (Last n) = answered (told n ends)
+listedPage (Refused why) = refused why
+
+-- an answer, and the text after it
+pub record Left : Type 0 where
+  pub page : Page Told
+  pub text : List ℕ
+
+abbrev pub left : Page Told → List ℕ → Left
+left p t = record { page = p; text = t }
+
+-- ---- refusals: 1, 2 and 3 of the image and the map; 23, an odd address, or a last below the first; 8, the text is under 52
+
+-- the longest line's own text begins at character 20, and its writer asks for 32 more
+abbrev pub textShort : ℕ
+textShort = 8
+
+abbrev pub room : ℕ
+room = 52
+
+abbrev pub badStretch : ℕ → ℕ → Bool
+badStretch a last = (eqb (a % 2) 1 || eqb (last % 2) 1) || ltb last a
+
+unfoldable pub lineWhy : ℕ → List ℕ → ℕ → ℕ → ℕ → ℕ
+lineWhy size map a last text =
+    first (boardRefusal size map)
+    (first (cond (badStretch a last) noStretch 0)
+    (cond (ltb text room) textShort 0))
+
+-- ---- the call: the line at the address a of a stretch that ends at last
+
+abbrev pub nextOf : ℕ → ℕ → Next
+nextOf last a = cond (ltb last a) ends (goesOn a)
+
+unfoldable pub lineCall : List ℕ → List ℕ → ℕ → ℕ → List ℕ → Left
+lineCall image map a last b =
+    let why = lineWhy (length image) map a last (length b) in
+    let l = lineAt map image last a in
+    unless why
+    (left (answered (told (length l) (nextOf last (nextAt map image last a)))) (over l b))
+    (left (refused why) b)
+
+-- ---- no two outcomes
+
+abbrev from : ℕ → Next → Listed
+from n (goesOn a) = Line n a
+from n ends = Last n
+
+abbrev listedOf : Page Told → Listed
+listedOf (answered t) = from (t .count) (t .next)
+listedOf (refused why) = Refused why
+
+listed-back : (r : Listed) → listedOf (listedPage r) ≡ r
+listed-back (Line n a) = refl
+listed-back (Last n) = refl
+listed-back (Refused why) = refl
+
+-- ONE ANSWER, AND ONE TEXT
+pub one-listed : (image map : List ℕ) (a last : ℕ) (b e e′ : List ℕ) (r r′ : Listed) → left (listedPage r) e ≡ lineCall image map a last b → left (listedPage r′) e′ ≡ lineCall image map a last b
+    → (r ≡ r′) × (e ≡ e′)
+one-listed image map a last b e e′ r r′ p q =
+    let z : left (listedPage r) e ≡ left (listedPage r′) e′ = p ∙ sym q in
+    (sym (listed-back r) ∙ ap (λ (x : Left). listedOf (x .page)) z ∙ listed-back r′, ap (λ (x : Left). x .text) z)
