@@ -16,9 +16,9 @@ example() { # NAME COMMAND
 }
 
 # Only the first line and the last ones of what is said, unless it goes wrong.
-compared() { # NAME SEED COMMAND
+compared() { # NAME SEED COMMAND [KIND CASES]
     local said=target/c/$1.said
-    if compare/target/release/difftest served "$3" "$2" "$cases" >"$said" 2>&1; then
+    if compare/target/release/difftest "${4:-served}" "$3" "$2" "${5:-$cases}" >"$said" 2>&1; then
         echo "$1: $(head -1 "$said"), $(tail -1 "$said")"
     else
         cat "$said"
@@ -27,7 +27,10 @@ compared() { # NAME SEED COMMAND
 }
 
 example example $emulator
-compared serve "$seed" "$emulator target/c/serve" &
+{
+    compared serve "$seed" "$emulator target/c/serve"
+    compared scans "$seed" "$emulator target/c/serve" scans "$((cases / 40))"
+} &
 plain=$!
 if [ -x target/c/serve-asan ]; then
     example example-asan

@@ -107,12 +107,14 @@ impl Served {
 }
 
 /// The calls that the library has; the others wait for their wish.
-const LIBRARY: [Call; 5] = [
+const LIBRARY: [Call; 7] = [
     Call::PowerUp,
     Call::Step,
     Call::Run,
     Call::WriteText,
     Call::ReadText,
+    Call::Scan,
+    Call::Report,
 ];
 
 impl Interface for Served {
