@@ -26,12 +26,13 @@ compared() { # KIND NAME SEED CASES COMMAND
     fi
 }
 
-# The processor's calls, the text's with every byte that is lent, and cases of texts and patches.
+# The processor's calls, the text's with every byte that is lent, and cases of texts, patches and scans.
 all_compared() { # NAME SEED COMMAND
     compared served "$1" "$2" "$cases" "$3"
     compared calls "$1" "$2" "$cases" "$3"
     compared text "$1" "$2" "$((cases / 10))" "$3"
     compared asm "$1" "$2" "$((cases / 10))" "$3"
+    compared scans "$1" "$2" "$((cases / 40))" "$3"
 }
 
 for name in example text; do example "$name" '' $emulator; done

@@ -158,9 +158,9 @@ def lines_in(text):
     return re.split("\r\n|\r|\n", text)
 
 
-def job_of(text):
+def job_of(text, kind=Job):
     """The job's bytes."""
-    job = Job()
+    job = kind()
     for at, line in enumerate(lines_in(text), 1):
         words = re.findall("[^ \t\f\v]+", line.partition("#")[0].replace("=", " = "))
         try:
@@ -171,25 +171,49 @@ def job_of(text):
     return job.bytes()
 
 
-def stop(status, message):
-    """Ends with a message."""
-    print(f"make_job.py: {message}", file=sys.stderr)
-    sys.exit(status)
+class Program:
+    """A program that makes bytes from text: its name, what it says of itself, and what the lines of a text come to."""
 
+    def __init__(self, name, told, kind):
+        self.name, self.told, self.kind = name, told, kind
 
-def named(arguments):
-    """The name of the text, or - for standard input."""
-    options = arguments[: arguments.index("--")] if "--" in arguments else arguments
-    if "-h" in options or "--help" in options:
-        print(__doc__, end="")
-        sys.exit(0)
-    for word in options:
-        if word.startswith("-") and word != "-":
-            stop(2, f"there is no option {word}; make_job.py --help tells more")
-    names = options + arguments[len(options) + 1 :]
-    if len(names) > 1:
-        stop(2, "one text at a time; make_job.py --help tells more")
-    return names[0] if names else "-"
+    def stop(self, status, message):
+        """Ends with a message."""
+        print(f"{self.name}: {message}", file=sys.stderr)
+        sys.exit(status)
+
+    def named(self, arguments):
+        """The name of the text, or - for standard input."""
+        options = arguments[: arguments.index("--")] if "--" in arguments else arguments
+        if "-h" in options or "--help" in options:
+            print(self.told, end="")
+            sys.exit(0)
+        for word in options:
+            if word.startswith("-") and word != "-":
+                self.stop(2, f"there is no option {word}; {self.name} --help tells more")
+        names = options + arguments[len(options) + 1 :]
+        if len(names) > 1:
+            self.stop(2, f"one text at a time; {self.name} --help tells more")
+        return names[0] if names else "-"
+
+    def made(self, name):
+        """The bytes of the named text."""
+        try:
+            return job_of(text_of(read(name)), self.kind)
+        except OSError as why:
+            return self.stop(2, why)
+        except TextError as why:
+            return self.stop(1, why if name == "-" else f"{name}, {why}")
+
+    def run(self, arguments):
+        """Text in, bytes out."""
+        made = self.made(self.named(arguments))
+        try:
+            sys.stdout.buffer.write(made)
+            sys.stdout.flush()
+        except BrokenPipeError:
+            # Who reads the bytes has seen enough of them to refuse them.
+            os.dup2(os.open(os.devnull, os.O_WRONLY), sys.stdout.fileno())
 
 
 def read(name):
@@ -200,22 +224,5 @@ def read(name):
         return source.read()
 
 
-def main(arguments):
-    """Text in, bytes out."""
-    name = named(arguments)
-    try:
-        job = job_of(text_of(read(name)))
-    except OSError as why:
-        stop(2, why)
-    except TextError as why:
-        stop(1, why if name == "-" else f"{name}, {why}")
-    try:
-        sys.stdout.buffer.write(job)
-        sys.stdout.flush()
-    except BrokenPipeError:
-        # Who reads the job has seen enough of it to refuse it.
-        os.dup2(os.open(os.devnull, os.O_WRONLY), sys.stdout.fileno())
-
-
 if __name__ == "__main__":
-    main(sys.argv[1:])
+    Program("make_job.py", __doc__, Job).run(sys.argv[1:])

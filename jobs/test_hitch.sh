@@ -150,5 +150,24 @@ ends 2 '' "hitch: '00G0' is no address: one to four hex digits; $more" listed jo
 ends 2 '' "hitch: '10000' is no address: one to four hex digits; $more" listed jobs/example.txt 0 10000
 ends 2 '' "hitch: '' is no address: one to four hex digits; $more" listed jobs/example.txt '' 0
 
+# Scans of the plug recorder, as text and as bytes; a scan that is refused, one that is cut off, and lines that are none.
+recorded='hitch: record is compiled without proof'
+record() { ./hitch record --unproved "$@"; }
+for name in pulled-card no-card; do
+    ends 0 "$(cat "jobs/$name.table")" "$recorded" record "jobs/$name.scans"
+done
+python3 jobs/make_record.py jobs/pulled-card.scans >"$made/pulled.record"
+ends 0 "$(cat jobs/pulled-card.table)" "$recorded" record - <"$made/pulled.record"
+ends 1 "$(cat jobs/refused.table)" "$recorded" record <jobs/refused.scans
+head -c -1 "$made/pulled.record" >"$made/cut.record"
+cut=$(record "$made/cut.record" 2>/dev/null | head -1) || true
+[ "$cut" = 'scan 12: the input ends in it' ] || { echo "a scan that is cut off WRONG: $cut"; wrong=1; }
+printf 'pages 10\npages 10\n' >"$made/pages.scans"
+ends 1 'the job is refused (refusal 13)' "$recorded" record "$made/pages.scans"
+printf 'pages 00\nscan 1 2 3\n' >"$made/three.scans"
+ends 1 '' 'make_record.py: line 2: a scan has 16 channels; here are 3' record "$made/three.scans"
+printf 'scan%s 20.5\n' "$(printf ' 0%.0s' 1 2 3 4 5 6 7 8 9 10 11 12 13 14 15)" >"$made/point.scans"
+ends 1 '' "make_record.py: line 1: '20.5' is no reading and not --" record "$made/point.scans"
+
 [ "$wrong" = 0 ] || exit 1
 echo "hitch: $cases cases ok"

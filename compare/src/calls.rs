@@ -96,7 +96,11 @@ impl Plain {
         let &[channel] = &buffers[1][..] else {
             return Err(BAD_BUFFER);
         };
-        let report = abi::tallies_of(&buffers[0])?.report(channel)?;
+        let tallies = abi::tallies_of(&buffers[0])?;
+        if buffers[2].len() != abi::REPORT {
+            return Err(BAD_BUFFER);
+        }
+        let report = tallies.report(channel)?;
         buffers[2] = abi::report_bytes(&report);
         Ok(())
     }

@@ -1,5 +1,6 @@
 //! What random cases have reached, and what they must reach at a level.
 
+use crate::abi::Call;
 use crate::board::{IMAGE, PAGES, READ_ONLY};
 use crate::level::{Level, Setup, Wish};
 use crate::machine::{Ran, Stepped};
@@ -11,8 +12,16 @@ const KINDS: usize = ROWS.len() + 1;
 /// The modes and the causes of all levels.
 const MODES: usize = 6;
 const CAUSES: usize = 10;
-/// One more than the highest number of a refusal of power-up, step and run.
-const REFUSALS: usize = 36;
+/// One more than the highest number of a refusal of a damaged call.
+const REFUSALS: usize = 38;
+/// The calls that are damaged, and the refusals that they must meet.
+const DAMAGED: [(Call, &str, &[usize]); 5] = [
+    (Call::PowerUp, "power-up", &[21, 1, 2, 3, 35]),
+    (Call::Step, "step", &[21, 1, 2, 3, 35, 5]),
+    (Call::Run, "run", &[21, 1, 2, 3, 35, 4, 5]),
+    (Call::Scan, "scan", &[21, 1, 2, 3, 35, 4, 5, 33, 37]),
+    (Call::Report, "report", &[21, 34]),
+];
 
 fn kind_of(op: u16) -> usize {
     let place = ROWS.iter().position(|row| row.covers(op));
@@ -129,7 +138,7 @@ type Corner = (Wish, &'static str, fn(&Seen) -> bool);
 const IEN: u16 = 0x0002;
 const SAVS: u16 = 0x000B;
 
-use Wish::{BlankAddress, BlockMoves, Jumpers, LateIen, ReadOnlyPages};
+use Wish::{BlankAddress, BlockMoves, Jumpers, LateIen, ReadOnlyPages, Recorder};
 
 const CORNERS: [Corner; 47] = [
     (BlockMoves, "an element that is not the last", |s| {
@@ -395,8 +404,8 @@ pub struct Coverage {
     /// By the numbers of the power-up and halt jumpers, and whether it locked.
     power_ups: [[[u64; 2]; 4]; 4],
     runs: [u64; RUN_KINDS.len()],
-    /// By call (power-up, step, run) and number of damaged calls.
-    refusals: [[u64; REFUSALS]; 3],
+    /// By call and number of damaged calls.
+    refusals: [[u64; REFUSALS]; DAMAGED.len()],
 }
 
 impl Coverage {
@@ -416,7 +425,7 @@ impl Coverage {
             elements: [0; BLOCK_MOVES],
             power_ups: [[[0; 2]; 4]; 4],
             runs: [0; RUN_KINDS.len()],
-            refusals: [[0; REFUSALS]; 3],
+            refusals: [[0; REFUSALS]; DAMAGED.len()],
         }
     }
 
@@ -485,8 +494,9 @@ impl Coverage {
     }
 
     /// Counts a damaged call by its answer, 0 where the damage was none.
-    pub fn count_refusal(&mut self, call: usize, number: u8) {
-        self.refusals[call][usize::from(number)] += 1;
+    pub fn count_refusal(&mut self, call: Call, number: u8) {
+        let place = DAMAGED.iter().position(|&(damaged, ..)| damaged == call);
+        self.refusals[place.expect("a call that is damaged")][usize::from(number)] += 1;
     }
 
     /// What was not reached at all.
@@ -584,13 +594,15 @@ impl Coverage {
     }
 
     fn ask_refusals(&self, ask: &mut dyn FnMut(u64, String)) {
-        let numbers: [&[usize]; 3] = [&[21, 1, 2, 3], &[21, 1, 2, 3, 5], &[21, 1, 2, 3, 4, 5]];
-        for (call, numbers) in numbers.iter().enumerate() {
-            let jumpers = self.level.has(Jumpers).then_some(&35);
-            for &number in numbers.iter().chain(jumpers) {
-                let name = ["power-up", "step", "run"][call];
-                let what = format!("{name} refused by {number}");
-                ask(self.refusals[call][number], what);
+        for ((call, name, numbers), counts) in DAMAGED.into_iter().zip(&self.refusals) {
+            let of_recorder = matches!(call, Call::Scan | Call::Report);
+            if of_recorder && !self.level.has(Recorder) {
+                continue;
+            }
+            for &number in numbers {
+                if number != 35 || self.level.has(Jumpers) {
+                    ask(counts[number], format!("{name} refused by {number}"));
+                }
             }
         }
     }
@@ -644,13 +656,9 @@ impl Coverage {
         if self.level.has(Jumpers) {
             println!("power-ups by jumpers, and locked: {:?}", self.power_ups);
         }
-        for (call, numbers) in self.refusals.iter().enumerate() {
-            let name = ["power-up", "step", "run"][call];
-            let (some, bad) = (&numbers[1..6], numbers[21]);
-            println!(
-                "damaged {name}, refused by 1 to 5 {some:?}, by 21 {bad}, by 35 {}",
-                numbers[35]
-            );
+        for ((_, name, numbers), counts) in DAMAGED.into_iter().zip(&self.refusals) {
+            let counts: Vec<u64> = numbers.iter().map(|&number| counts[number]).collect();
+            println!("damaged {name}, refused by {numbers:?}: {counts:?}");
         }
     }
 }

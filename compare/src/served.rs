@@ -107,13 +107,15 @@ impl Served {
 }
 
 /// The calls that the library has; the others wait for their wish.
-const LIBRARY: [Call; 6] = [
+const LIBRARY: [Call; 8] = [
     Call::PowerUp,
     Call::Step,
     Call::Run,
     Call::WriteText,
     Call::ReadText,
     Call::Assemble,
+    Call::Scan,
+    Call::Report,
 ];
 
 impl Interface for Served {

@@ -211,9 +211,102 @@ fn refused_calls(
             damage(pair.level, &mut pair.lent, random, call != Call::PowerUp);
         }
         let number = pair.call(call, |_| format!("damaged {call:?}"))?;
-        reached.count_refusal(call as usize, number);
+        reached.count_refusal(call, number);
     }
     pair.lent = good;
+    Ok(())
+}
+
+// ---- scans and reports ----
+
+/// A recorder as a caller in C may lend it: any counts, lowest, highest and sums.
+fn some_recorder(random: &mut Random) -> Vec<u8> {
+    let mut bytes: Vec<u8> = (0..abi::RECORDER).map(|_| random.word() as u8).collect();
+    let scans: u16 = random.pick(&[0, 1, 4_095, 4_096, 4_097]);
+    bytes[..2].copy_from_slice(&scans.to_le_bytes());
+    for report in bytes[2..].chunks_exact_mut(abi::REPORT) {
+        if random.percent(50) {
+            let readings: u16 = random.pick(&[0, 1, 0xFFFF]);
+            report[..2].copy_from_slice(&readings.to_le_bytes());
+        }
+    }
+    bytes
+}
+
+/// The cards and the readings of a scan, now and then out of their ranges.
+fn some_channels(random: &mut Random) -> [Vec<u8>; 2] {
+    let missing = random.pick(&[0, 10]);
+    let mut cards: Vec<u8> = (0..CHANNELS)
+        .map(|_| u8::from(!random.percent(missing)))
+        .collect();
+    let mut readings: Vec<u16> = (0..CHANNELS)
+        .map(|_| (random.below(1_001) as u16).wrapping_sub(500))
+        .collect();
+    match random.below(8) {
+        0 => cards[random.below(CHANNELS)] = random.pick(&[2, 0x80, 0xFF]),
+        1 => readings[random.below(CHANNELS)] = random.pick(&[501, 0xFE0B, 0x8000]),
+        _ => {}
+    }
+    [cards, abi::bytes_of_words(&readings)]
+}
+
+/// One of the buffers an element shorter or longer, or none.
+fn resize_one(random: &mut Random, list: &mut [Vec<u8>], sizes: &[usize]) {
+    let at = random.below(2 * list.len());
+    let (Some(buffer), Some(&size)) = (list.get_mut(at), sizes.get(at)) else {
+        return;
+    };
+    let right = buffer.len();
+    let length = random.pick(&[0, right.saturating_sub(size), right + size]);
+    buffer.resize(length, 0);
+}
+
+/// A call of the recorder's on both.
+fn recorder_call(
+    pair: &mut Pair,
+    random: &mut Random,
+    call: Call,
+    mut list: Vec<Vec<u8>>,
+    reached: &mut Coverage,
+) -> Result<(), Difference> {
+    resize_one(random, &mut list, call.elements(pair.level));
+    let (mut ours, mut theirs) = (list.clone(), list.clone());
+    let number = Plain(pair.level).call(call, &mut ours);
+    let their_number = pair.other.call(call, &mut theirs);
+    if (number, &ours) != (their_number, &theirs) {
+        let place = ours.iter().zip(&theirs).position(|(a, b)| a != b);
+        return Err(format!(
+            "{call:?}: ours answers {number}, theirs {their_number}; buffer {place:?} differs"
+        ));
+    }
+    if number != 0 && ours != list {
+        return Err(format!("{call:?}: a refused call changed a buffer"));
+    }
+    reached.count_refusal(call, number);
+    Ok(())
+}
+
+fn recorder_calls(
+    pair: &mut Pair,
+    random: &mut Random,
+    map: &[u8; PAGES],
+    reached: &mut Coverage,
+) -> Result<(), Difference> {
+    for _ in 0..2 * DAMAGED_ON_A_BOARD {
+        let mut lent = pair.lent.clone();
+        lent.state = abi::bytes_of(pair.level, &gen::state(random, map, pair.level));
+        lent.lines = vec![0; 1 + random.below(3)];
+        if random.percent(50) {
+            damage(pair.level, &mut lent, random, true);
+        }
+        let mut list = lent.into_list(pair.level);
+        list.extend(some_channels(random));
+        list.push(some_recorder(random));
+        recorder_call(pair, random, Call::Scan, list, reached)?;
+        let channel = random.pick(&[0, 7, 15, 16, 0xFF]);
+        let list = vec![some_recorder(random), vec![channel], vec![9; abi::REPORT]];
+        recorder_call(pair, random, Call::Report, list, reached)?;
+    }
     Ok(())
 }
 
@@ -473,7 +566,11 @@ fn one_board(
     for _ in 0..RUNS_OF_A_BOARD {
         one_run(&mut pair, random, &map, reached)?;
     }
-    refused_calls(&mut pair, random, &map, reached)
+    refused_calls(&mut pair, random, &map, reached)?;
+    if level.has(Wish::Recorder) {
+        recorder_calls(&mut pair, random, &map, reached)?;
+    }
+    Ok(())
 }
 
 fn compare(level: Level, other: &mut dyn Interface, seed: u64, cases: usize) -> ExitCode {
