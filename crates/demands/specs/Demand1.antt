@@ -4,9 +4,10 @@
 -- every buffer that was lent for writing is as it was lent.
 use Prim.Native.Nat.{ℕ}
 use mathlib.Core.Bool.{cond}
-use mathlib.Core.List.{List}
+use mathlib.Core.List.{List, [], _∷_}
 use mathlib.Core.Path.{_≡_, refl, sym, ap, _∙_}
-use lib.ListN.{length}
+use lib.Dec.{ltb}
+use lib.ListN.{length, getD}
 use Rattle.state.specs.declared.State.{State}
 use Rattle.state.specs.declared.Settings.{Settings}
 use Rattle.state.specs.State.{heard}
@@ -25,11 +26,12 @@ use Rattle.firmware.specs.Calls.{upBytes, stepBytes, powerUpCall, went, stepCal
 use Rattle.firmware.specs.Calls as Calls
 use Rattle.job.specs.declared.Answer.{Answer}
 use Rattle.job.specs.Job.{linesAt, imageOf, mapOf, linesOf, whyRead, pageOf, after, jobOf}
-use Rattle.letters.specs.Over.{Left, written}
+use Rattle.letters.specs.Over.{Left, written, over}
 use Rattle.optext.specs.declared.Written.{Written}
 use Rattle.optext.specs.declared.ReadBack.{ReadBack}
 use Rattle.optext.specs.declared.ReadBack.the-variants as ReadBack
 use Rattle.optext.specs.Answer.{refusal, writtenAs, readAs, writeAnswer, writeBytes, Writes}
+use Rattle.optext.specs.Line.{taken, textOf}
 use Rattle.optext.specs.Words.{Reads}
 use Rattle.line.specs.Line.{refusedText}
 use Rattle.runjob.specs.Bench.{told, benchOf}
@@ -81,7 +83,9 @@ bench-answers input text image map lines line image′ map′ lines′ e n =
 -- THE TEXT OF AN OP CODE, written: 8, 6 or 7, and the text's buffer as it was lent
 pub write-answers : (words text : List ℕ) (r : Written) (text′ : List ℕ) (why : ℕ) → Writes words text r text′ → writtenAs r ≡ refusal why → text′ ≡ text
 unfolding writeAnswer writeBytes
-write-answers words text r text′ why w e = w .bytes ∙ as-lent _ _ _ _ text _ _ _ _ why (sym (w .answer) ∙ e)
+write-answers words text r text′ why w e =
+    w .bytes
+    ∙ as-lent (ltb (length text) 32) (ltb (length words) 1) (ltb (length words) (taken (getD words 0 0))) (length (textOf words) ∷ taken (getD words 0 0) ∷ []) text (over (textOf words) text) 8 6 7 why (sym (w .answer) ∙ e)
 
 -- and read: 10, or 32, 31, 9 or 30 with its column, and the words' buffer as it was lent
 pub read-answers : (text words : List ℕ) (r : ReadBack) (words′ : List ℕ) → Reads (readAs r) text words words′ → ((n : ℕ) → r ≡ ReadBack.Words n → ⊥) → words′ ≡ words
