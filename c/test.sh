@@ -33,7 +33,15 @@ all_compared() { # NAME SEED COMMAND
     compared text "$1" "$2" "$((cases / 10))" "$3"
 }
 
+# The cases of compare/vectors that hold with all that has landed, answered through the library and the programs.
+vectors() { # NAME
+    cut -f1 "compare/vectors/$1.txt" | compare/target/release/answer served "$emulator target/c/serve" target/c/bench target/c/list |
+        diff <(cut -f2 "compare/vectors/$1.txt") -
+    echo "$1 ok"
+}
+
 for name in example text; do example "$name" '' $emulator; done
+for name in w06-listing-and-c w09-columns w14-jumpers; do vectors "$name"; done
 all_compared serve "$seed" "$emulator target/c/serve" &
 plain=$!
 if [ -x target/c/serve-asan ]; then
