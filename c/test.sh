@@ -35,17 +35,17 @@ all_compared() { # NAME SEED COMMAND
     compared scans "$1" "$2" "$((cases / 40))" "$3"
 }
 
-# The kept cases, held to their right answers. Those of the first wishes hold at their own landing alone.
-answered() { # COMMAND
-    local file
-    for file in compare/vectors/w{05,06,07,08,09,10,13,14}-*.txt; do
-        cut -f 1 "$file" | compare/target/release/answer served "$1" target/c/bench target/c/list | diff <(cut -f 2 "$file") -
-    done
-    echo "vectors ok"
+# The cases of compare/vectors that hold with all that has landed, answered through the library and the programs.
+vectors() { # NAME
+    cut -f1 "compare/vectors/$1.txt" | compare/target/release/answer served "$emulator target/c/serve" target/c/bench target/c/list |
+        diff <(cut -f2 "compare/vectors/$1.txt") -
+    echo "$1 ok"
 }
 
 for name in example text; do example "$name" '' $emulator; done
-answered "$emulator target/c/serve"
+for name in w05-read-only w06-listing-and-c w07-assembler w08-trace w09-columns w10-no-cause-7 w13-recorder w14-jumpers; do
+    vectors "$name"
+done
 all_compared serve "$seed" "$emulator target/c/serve" &
 plain=$!
 if [ -x target/c/serve-asan ]; then
