@@ -1,5 +1,5 @@
 #!/usr/bin/env python3
-"""Makes a job's bytes from readable text: make_job.py [TEXT] > JOB   (without TEXT, or with -, from standard input)
+"""Makes a job's bytes from readable text: make_job.py [--words SECTION] [TEXT] > JOB   (without TEXT, or with -, from standard input)
 
 Lines of the text, all numbers hex but a count after x or cut:
     pages 00 04 10-1F     fitted pages; a range stands for each page of it
@@ -8,7 +8,8 @@ Lines of the text, all numbers hex but a count after x or cut:
     lines 0000 x12 0008   line words; x12 repeats the one before, so that there are 12
     bytes 00 FF           bytes after the last section, for a job that is to be refused
     cut 3                 leaves out the last 3 bytes, for the same
-A # starts a comment. Sections are written in the order of the format, entries in the order of the text.
+A # starts a comment. Sections are written in the order of the format, entries in the order of the text. SECTION is a file
+that hitch asm wrote: its words stand before those of the text, so that a program can be written in mnemonics.
 Nothing is checked that the job reader checks: a text can say what is to be refused. A repeat is of 4,096 at most, and a
 section has 65,535 entries at most, since its count has two bytes.
 
@@ -96,6 +97,18 @@ def two(value):
     return value.to_bytes(2, "little")
 
 
+def word_at(section, at):
+    """The word whose two bytes stand at a place."""
+    return int.from_bytes(section[at : at + 2], "little")
+
+
+def entries_in(section):
+    """Addresses and words of a word section."""
+    if len(section) < 2 or len(section) != 2 + 4 * word_at(section, 0):
+        raise TextError("no word section: a count, and as many addresses and words")
+    return [(word_at(section, at), word_at(section, at + 2)) for at in range(2, len(section), 4)]
+
+
 class Job:
     """What the lines of a text come to."""
 
@@ -158,9 +171,10 @@ def lines_in(text):
     return re.split("\r\n|\r|\n", text)
 
 
-def job_of(text, kind=Job):
-    """The job's bytes."""
+def job_of(text, kind=Job, entries=()):
+    """The bytes that a text comes to; these entries stand before those of the text."""
     job = kind()
+    job.entries.extend(entries)
     for at, line in enumerate(lines_in(text), 1):
         words = re.findall("[^ \t\f\v]+", line.partition("#")[0].replace("=", " = "))
         try:
@@ -183,31 +197,45 @@ class Program:
         sys.exit(status)
 
     def named(self, arguments):
-        """The name of the text, or - for standard input."""
+        """The name of the text, or - for standard input, and the name of the section, or none."""
         options = arguments[: arguments.index("--")] if "--" in arguments else arguments
+        names = arguments[len(options) + 1 :]
+        section = None
         if "-h" in options or "--help" in options:
             print(self.told, end="")
             sys.exit(0)
-        for word in options:
-            if word.startswith("-") and word != "-":
+        words = iter(options)
+        for word in words:
+            if word == "--words":
+                section = next(words, None)
+                if section is None:
+                    self.stop(2, f"--words, and a section's file; {self.name} --help tells more")
+            elif word.startswith("-") and word != "-":
                 self.stop(2, f"there is no option {word}; {self.name} --help tells more")
-        names = options + arguments[len(options) + 1 :]
+            else:
+                names.append(word)
         if len(names) > 1:
             self.stop(2, f"one text at a time; {self.name} --help tells more")
-        return names[0] if names else "-"
+        return names[0] if names else "-", section
 
-    def made(self, name):
-        """The bytes of the named text."""
+    def made(self, name, section):
+        """The bytes of the named text, with the words of the named section."""
+        at = ""
         try:
-            return job_of(text_of(read(name)), self.kind)
+            entries = []
+            if section is not None:
+                at = f"{section}, "
+                entries = entries_in(read(section))
+            at = "" if name == "-" else f"{name}, "
+            return job_of(text_of(read(name)), self.kind, entries)
         except OSError as why:
             return self.stop(2, why)
         except TextError as why:
-            return self.stop(1, why if name == "-" else f"{name}, {why}")
+            return self.stop(1, f"{at}{why}")
 
     def run(self, arguments):
         """Text in, bytes out."""
-        made = self.made(self.named(arguments))
+        made = self.made(*self.named(arguments))
         try:
             sys.stdout.buffer.write(made)
             sys.stdout.flush()

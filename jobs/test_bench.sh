@@ -20,7 +20,7 @@ same() { # NAME GOT WANT
 }
 for text in jobs/*.txt; do
     name=$(basename "$text" .txt)
-    python3 jobs/make_job.py "$text" >"$made/job"
+    jobs/sample_job.sh "$name" >"$made/job"
     same "$name" "$($bench <"$made/job")" "$(cat "jobs/$name.line")"
 done
 python3 jobs/make_job.py jobs/example.txt >"$made/job"

@@ -80,7 +80,7 @@ ends 2 '' "hitch: there is no file 'jobs'; $more" bench jobs
 ends 2 '' "hitch: there is no file ''; $more" bench ''
 for word in help -h --help; do ends 0 "$(./hitch help)" '' ./hitch "$word"; done
 ends 0 "$(./hitch help)" '' ./hitch run --help
-case $(./hitch help) in *'hitch run [--unproved] [JOB]'*) ;; *) echo 'hitch help WRONG'; wrong=1 ;; esac
+case $(./hitch help) in *'hitch run [--unproved] [--asm SOURCE] [JOB]'*) ;; *) echo 'hitch help WRONG'; wrong=1 ;; esac
 
 # A proof: the copy's rt proves three crates, or one of three.
 copy=$made/copy
@@ -168,6 +168,41 @@ printf 'pages 00\nscan 1 2 3\n' >"$made/three.scans"
 ends 1 '' 'make_record.py: line 2: a scan has 16 channels; here are 3' record "$made/three.scans"
 printf 'scan%s 20.5\n' "$(printf ' 0%.0s' 1 2 3 4 5 6 7 8 9 10 11 12 13 14 15)" >"$made/point.scans"
 ends 1 '' "make_record.py: line 1: '20.5' is no reading and not --" record "$made/point.scans"
+
+# The assembler: a section, a job of it, and what is refused, with its line.
+asm='hitch: assemble is compiled without proof'
+assembled() { ./hitch asm --unproved "$@" | od -An -v -tx1; }
+source() { printf '%b' "$1" >"$made/patch.asm"; }
+section=' 02 00 80 00 c0 b5 82 00 05 00'
+source '.ORG 0080\nMOV #0005,R0\n'
+ends 0 "$section" "$asm" assembled "$made/patch.asm"
+ends 0 "$section" "$asm" assembled <"$made/patch.asm"
+source '.ORG 0080\nMOV #0005,R0'
+ends 0 "$section" "$asm" assembled "$made/patch.asm"
+ends 0 ' 00 00' "$asm" assembled </dev/null
+ends 0 "$(cat jobs/sob.line)" "$asm"$'\n'"$unproved" bench --asm jobs/sob.asm jobs/sob.txt
+refused() { # REASON SOURCE
+    source "$2"
+    ends 1 '' "$asm"$'\n'"$1" ./hitch asm --unproved "$made/patch.asm"
+}
+refused $'LOOP: NOPE\nunknown text (refusal 24 at line 1, from 0)' 'NOP\nLOOP: NOPE\n'
+refused $'A: NOP\nunknown text (refusal 24 at line 0, from 0)' 'A: NOP\n'
+refused $'X:\nits label is already given (refusal 25 at line 2, from 0)' 'X: NOP\n\nX:\n'
+refused $'JMP @X\nno line gives its label (refusal 26 at line 0, from 0)' 'JMP @X\n'
+far='its label is out of reach: a branch goes 128 words back to 127 ahead, SOB 0 to 63 back (refusal 27 at line 0, from 0)'
+refused $'SOB R1,X\n'"$far" 'SOB R1,X\nNOP\nX: NOP\n'
+place="an odd origin, or words on an earlier line's or past FFFF (refusal 28 at line"
+refused $'.ORG 0081\n'"$place 1, from 0)" 'NOP\n.ORG 0081\n'
+refused $'NOP\n'"$place 2, from 0)" 'NOP\n.ORG 0000\nNOP\n'
+refused 'line 1, from 0, is longer than 32 bytes' "NOP\\n$(printf '%033d' 0)\\nNOP\\n"
+for _ in $(seq 1025); do echo; done >"$made/many.asm"
+ends 1 '' "$asm"$'\nmore than 1024 lines (refusal 36)' ./hitch asm --unproved "$made/many.asm"
+sed 1d "$made/many.asm" >"$made/most.asm"
+ends 0 ' 00 00' "$asm" assembled "$made/most.asm"
+source 'NOPE\n'
+ends 1 '' "$asm"$'\nNOPE\nunknown text (refusal 24 at line 0, from 0)' bench --asm "$made/patch.asm" jobs/sob.txt
+ends 2 '' "hitch: --asm, and a source's file; $more" bench jobs/sob.txt --asm
+ends 2 '' "hitch: there is no file 'no.asm'; $more" bench --asm no.asm jobs/sob.txt
 
 [ "$wrong" = 0 ] || exit 1
 echo "hitch: $cases cases ok"

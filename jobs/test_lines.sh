@@ -5,7 +5,7 @@ set -euo pipefail
 cd "$(dirname "$0")/.."
 for text in jobs/*.txt; do
     name=$(basename "$text" .txt)
-    got=$(python3 jobs/make_job.py "$text" | compare/target/release/bench)
+    got=$(jobs/sample_job.sh "$name" | compare/target/release/bench)
     if [ "$got" != "$(cat "jobs/$name.line")" ]; then
         echo "$name: the plain interpreter prints $got"
         exit 1

@@ -58,6 +58,12 @@ class Bytes(unittest.TestCase):
     def test_a_mark_of_byte_order_is_no_word(self):
         self.assertEqual(text_of(b"\xef\xbb\xbfpages 07"), "pages 07")
 
+    def test_words_of_a_section(self):
+        section = make_job.entries_in(bytes.fromhex("0200 80000100 82000200"))
+        self.assertEqual(section, [(0x80, 1), (0x82, 2)])
+        self.assertEqual(make_job.entries_in(bytes(2)), [])
+        self.assertEqual(job_of("pages 0\n90 = 3", section), job_of("pages 0\n80 = 1 2\n90 = 3"))
+
     def test_as_many_as_a_count_can_say(self):
         self.assertEqual(job_of("lines 0000 x4096")[4:], bytes.fromhex("0010") + bytes(2 * 4096))
         most = job_of("lines 0000 x4096\n" * 15 + "lines 0000 x4095\n")
@@ -158,11 +164,24 @@ class Command(unittest.TestCase):
             text.flush()
             self.ends([text.name], b"", 1, b"", f"make_job.py: {text.name}, line 1: no line begins 'page'\n")
 
+    def test_a_section(self):
+        with tempfile.NamedTemporaryFile() as section:
+            section.write(bytes.fromhex("0100 8000BF09"))
+            section.flush()
+            job = bytes.fromhex("0100 00 0100 8000BF09 0000")
+            for words in (["--words", section.name], ["-", "--words", section.name], ["--words", section.name, "--", "-"]):
+                self.ends(words, b"pages 00\n", 0, job, "")
+            section.write(b"\0")
+            section.flush()
+            said = f"make_job.py: {section.name}, no word section: a count, and as many addresses and words\n"
+            self.ends(["--words", section.name], b"", 1, b"", said)
+
     def test_wrong_use(self):
         more = "make_job.py --help tells more\n"
         for word in ("-x", "--raw", "--help=1"):
             self.ends([word], b"", 2, b"", f"make_job.py: there is no option {word}; {more}")
         self.ends(["a", "b"], b"", 2, b"", f"make_job.py: one text at a time; {more}")
+        self.ends(["--words"], b"", 2, b"", f"make_job.py: --words, and a section's file; {more}")
         missing = "make_job.py: [Errno 2] No such file or directory: '{}'\n"
         self.ends(["no/such.txt"], b"", 2, b"", missing.format("no/such.txt"))
         self.ends(["--", "-x"], b"", 2, b"", missing.format("-x"))

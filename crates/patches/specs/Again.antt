@@ -3,17 +3,20 @@
 use mathlib.Core.Path.{_≡_, refl, ap, sym, _∙_}
 use mathlib.Core.Bool.{Bool, true, false, cond}
 use mathlib.Core.List.{List, [], _∷_, _++_}
-use Prim.Native.Nat.{ℕ, suc, _≤_, _<_}
+use mathlib.Core.Logic.{_⊎_, ⊎-elim}
+use Prim.Native.Nat.{ℕ, zero, suc, _+_, _*_, _/_, _%_, _≤_, _<_}
 use native.Mathlib.Omega.{arith}
 use lib.Dec.{ltb, eqb}
-use borrow.Author.Tests.{ne-eqb, lt-ltb, le-ltb}
+use borrow.Author.Tests.{ne-eqb, eqb-true, lt-ltb}
 use lib.ListN.{length, drop}
-use Rattle.letters.specs.Digits.{letters, hex4}
+use Rattle.letters.specs.Digits.{letters, digits, hexOf, hex4}
 use Rattle.optext.specs.declared.Op.{Op}
-use Rattle.optext.specs.Digits.{unHex4}
-use Rattle.optext.specs.Read.{readOf, opOf}
-use Rattle.patchline.specs.declared.line.How.the-variants.{Plain}
-use Rattle.patchline.specs.Line.{opIn, op, says, isDirective, saidOf}
+use Rattle.optext.specs.Digits.{unHex, unHex4}
+use Rattle.optext.specs.Line.{textOf}
+use Rattle.optext.specs.Read.{same-refl, readOf, opOf}
+use Rattle.patchline.specs.Search.{eq-cases}
+use Rattle.patchline.specs.declared.line.How.the-variants.{Origin, Plain}
+use Rattle.patchline.specs.Line.{opIn, op, says, isNumber, isDirective, saidOf}
 use Rattle.assembler.specs.Source.{textAt, hereOf, put, wordsIn}
 use Rattle.assembler.specs.Section.{entered, placed}
 
@@ -49,3 +52,54 @@ pub any-word : (s t : List ℕ) (h : ℕ) → 0 < length t → readOf t ≡ [] �
     → wordsIn s h t ≡ op 1 (unHex4 (drop 6 t))
 unfolding saidOf opIn
 any-word s t h l e f g = plain-words s t h _ (rw (ne-eqb (length t) 0 (some t l), e, f, g) refl)
+
+-- ---- the lines of a listing
+
+-- the text of an op code that the reader gives back, which is every whole one: `read-of-text` of optext
+pub listed-again : (s vs : List ℕ) (h : ℕ) → readOf (textOf vs) ≡ vs → 0 < length (textOf vs) → 0 < length vs → wordsIn s h (textOf vs) ≡ opOf vs
+listed-again s vs h e l p = reader-words s (textOf vs) h l (rw e p) ∙ ap opOf e
+
+-- .WORD and .ORG with the four digits of a word
+unfoldable pub wordLine : ℕ → List ℕ
+wordLine w = letters ".WORD " ++ hex4 w
+
+unfoldable pub originLine : ℕ → List ℕ
+originLine a = letters ".ORG " ++ hex4 a
+
+-- a test at all numbers below one, in one computation
+abbrev allBelow : (ℕ → Bool) → ℕ → Bool
+allBelow f zero = true
+allBelow f (suc n) = cond (f n) (allBelow f n) false
+
+below : (f : ℕ → Bool) (n : ℕ) → allBelow f n ≡ true → (k : ℕ) → k < n → f k ≡ true
+below f zero e k h = absurd (omega arith)
+below f (suc n) e k h = go (f n) refl e (λ q. below f n q k)
+  where
+    go : (b : Bool) → f n ≡ b → cond b (allBelow f n) false ≡ true → (allBelow f n ≡ true → k < n → f k ≡ true) → f k ≡ true
+    go true p q r = ⊎-elim (λ z. ap f z ∙ p) (λ z. r q (omega arith)) (eq-cases k n)
+    go false p q r = cc
+
+digit-back : (d : ℕ) → d < 16 → unHex (hexOf d) ≡ d
+unfolding unHex hexOf digits
+digit-back d h = eqb-true _ _ (below (λ (d : ℕ). eqb (unHex (hexOf d)) d) 16 refl d h)
+
+four-back : (w : ℕ) → w < 65536 → unHex4 (hex4 w) ≡ w
+unfolding unHex4 hex4
+four-back w h = rw (digit-back (w / 4096) (omega arith), digit-back (w / 256 % 16) (omega arith), digit-back (w / 16 % 16) (omega arith), digit-back (w % 16) (omega arith)) (omega arith)
+
+is-number : (w : ℕ) → w < 65536 → isNumber (hex4 w) ≡ true
+unfolding isNumber
+is-number w h = rw (four-back w h) (same-refl (hex4 w))
+
+module _ (s : List ℕ) (w h : ℕ) (l : w < 65536) where
+  -- any word after .WORD comes back, whether the reader takes the line or not
+  pub word-again : (readOf (wordLine w) ≡ []) ⊎ (readOf (wordLine w) ≡ w ∷ []) → wordsIn s h (wordLine w) ≡ opOf (w ∷ [])
+  unfolding wordLine isDirective
+  word-again u =
+      ⊎-elim (λ e. any-word s (wordLine w) h (omega arith) e refl (is-number w l) ∙ ap (λ (x : ℕ). op 1 x) (four-back w l))
+      (λ e. reader-words s (wordLine w) h (omega arith) (rw e (omega arith)) ∙ ap opOf e) u
+
+  -- .ORG is the origin that its digits are
+  pub origin-again : readOf (originLine w) ≡ [] → saidOf (originLine w) ≡ says Origin (op 0 w)
+  unfolding originLine saidOf opIn isDirective hex4
+  origin-again e = rw (e, is-number w l, four-back w l) refl

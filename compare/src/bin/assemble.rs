@@ -1,0 +1,30 @@
+//! Reads the source of a patch on standard input, a line of up to 32 bytes each, and writes the
+//! word section of a job. An argument is the level; without one it is the landed one.
+
+use std::io::{Read, Write};
+
+use wd16::assembler::{assemble, LEAST_SECTION, LINE};
+use wd16::Level;
+
+fn main() -> std::io::Result<()> {
+    let mut input = Vec::new();
+    std::io::stdin().read_to_end(&mut input)?;
+    let level = Level::told(std::env::args().nth(1).as_deref());
+    let text = input.strip_suffix(b"\n").unwrap_or(&input);
+    let mut source = Vec::new();
+    for line in text.split(|&byte| byte == b'\n') {
+        source.extend(line);
+        source.resize(source.len().next_multiple_of(LINE), b' ');
+        if line.is_empty() && !text.is_empty() {
+            source.extend([b' '; LINE]);
+        }
+    }
+    let mut section = [0; LEAST_SECTION];
+    match assemble(level, &source, &mut section) {
+        Ok(length) => std::io::stdout().write_all(&section[..length]),
+        Err(refused) => {
+            eprintln!("REFUSED {refused:?}");
+            std::process::exit(1)
+        }
+    }
+}
