@@ -1,6 +1,8 @@
-/* The WD16 processor for C: power-up, one step, and a run over line words, on buffers that the caller lends.
+/* The WD16 processor for C: power-up, one step, and a run over line words; and the check of another shop's trace of a job.
+   All on buffers that the caller lends.
 
-   Link libfirmware.a, which `rt staticlib firmware` proves and writes. It needs nothing else, no C library either.
+   Link libfirmware.a, which `rt staticlib firmware` proves and writes. It needs nothing else, no C library either. For the
+   check link libtracecall.a, of `rt staticlib tracecall`; it needs memset and nothing else.
 
    Each buffer comes as a pointer and a length, in elements. The pointer is not null and points at that many elements, also
    where the length is wrong; a buffer that is written overlaps no other. Nothing else is asked of the caller: whatever the
@@ -97,6 +99,21 @@ enum {
     WD16_FIRST_ADDRESS = 4,
 };
 
+/* A verdict's bytes: what a trace is found to be, then the step, from 0, then the field, from 0 for R0 to 9 for the mode; two
+   each, low byte first, 0 where there is none. */
+enum {
+    WD16_FOUND = 0,
+    WD16_WRONG_STEP = 2,
+    WD16_WRONG_FIELD = 4,
+    WD16_VERDICT = 6, /* bytes of a verdict */
+};
+
+enum { /* what a trace is found to be */
+    WD16_ACCEPTED = 0,
+    WD16_BY_FIELD = 1,  /* the first wrong step has a wrong field */
+    WD16_BY_LENGTH = 2, /* the step is missing, or one too many */
+};
+
 /* A line word's bits. The others are 0. */
 enum {
     WD16_LINE_I0 = 0x0001,
@@ -109,15 +126,30 @@ enum {
 /* Refusals, in the order in which they are looked for. */
 enum {
     WD16_DONE = 0,
-    WD16_BAD_BUFFER = 21,    /* the state is not 24 bytes, the tally not 6 or the settings not 4; the settings' first
-                                byte is over 1; or, where the state is read, indicators over 15, I2 over 1, a mode over 5,
-                                a cause over 9, or byte 20 or 21 over 1 */
+    WD16_BAD_BUFFER = 21,    /* the state is not 24 bytes, the tally not 6, the settings not 4 or the verdict not 6; the
+                                settings' first byte is over 1; or, where the state is read, indicators over 15, I2 over 1,
+                                a mode over 5, a cause over 9, or byte 20 or 21 over 1 */
     WD16_BAD_IMAGE = 1,      /* not 65,536 bytes */
     WD16_BAD_MAP = 2,        /* not 256 bytes */
     WD16_BAD_MAP_BYTE = 3,   /* over 2 */
     WD16_BAD_SETUP = 35,     /* a jumper number is over 3, or the External Address Register over 63 */
     WD16_TOO_MANY_LINES = 4, /* over 4,096 */
     WD16_BAD_LINE = 5,       /* an unused bit of a line word is set */
+
+    /* a job: */
+    WD16_JOB_ENDS = 11,           /* inside a count or an entry */
+    WD16_TOO_MANY_PAGES = 12,     /* over 256 */
+    WD16_PAGE_NOT_RISING = 13,
+    WD16_TOO_MANY_WORDS = 14,     /* over 4,096 */
+    WD16_ADDRESS_ODD = 15,
+    WD16_ADDRESS_NOT_RISING = 16,
+    WD16_ADDRESS_UNFITTED = 17,
+    WD16_TOO_MANY_JOB_LINES = 18, /* over 4,096 */
+    WD16_BAD_JOB_LINE = 19,       /* an unused bit of a line word is set */
+    WD16_READ_ONLY_PAGE = 22,     /* not rising, or not fitted */
+    WD16_JOB_BYTES_LEFT = 20,
+
+    WD16_TRACE_CUT = 29, /* inside its count or a state, or bytes are left over */
 };
 
 /* Writes the state after power-up, with cause 0. The state's bytes are not read; the image is written where the power-up
@@ -135,6 +167,15 @@ uint8_t wd16_step(uint8_t *state, size_t state_length, uint8_t *image, size_t im
 uint8_t wd16_run(uint8_t *state, size_t state_length, uint8_t *tally, size_t tally_length, uint8_t *image,
                  size_t image_length, const uint8_t *map, size_t map_length, const uint8_t *settings,
                  size_t settings_length, const uint16_t *lines, size_t lines_length);
+
+/* Holds another shop's trace of a job against the processor, on a board with the third microm and the jumpers 11 and 11. A job
+   has three sections, each after its count of two bytes, low byte first: fitted pages, a byte each; words, an address and a
+   value, two bytes each; line words; and perhaps a fourth of read-only pages. A trace is a count and, after each step from
+   power-up, R0 to R5, SP, PC, PS with bits 15 and 14 clear, and the mode, all two bytes, low byte first. The verdict is
+   written. Nothing is compared before refusals: 21 for the verdict's length, the job's own in its reading order, 29. The image
+   is the call's own: it takes 80 KB of stack. */
+uint8_t wd16_check_trace(const uint8_t *job, size_t job_length, const uint8_t *trace, size_t trace_length,
+                         uint8_t *verdict, size_t verdict_length);
 
 #ifdef __cplusplus
 }

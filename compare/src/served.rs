@@ -107,12 +107,13 @@ impl Served {
 }
 
 /// The calls that the library has; the others wait for their wish.
-const LIBRARY: [Call; 5] = [
+const LIBRARY: [Call; 6] = [
     Call::PowerUp,
     Call::Step,
     Call::Run,
     Call::WriteText,
     Call::ReadText,
+    Call::CheckTrace,
 ];
 
 impl Interface for Served {
