@@ -1,9 +1,10 @@
 /* The WD16 for C, on buffers that the caller lends: the processor, with power-up, one step, and a run over line words; the text of
-   one op code, written and read; the assembler for patches; and the plug recorder: one scan, and the report of a channel.
+   one op code, written and read; the assembler for patches; the check of another shop's trace; and the
+   plug recorder: one scan, and the report of a channel.
 
    Each is a library of its own, which `rt staticlib NAME` proves and writes: the processor libfirmware.a, the text libtextc.a, the
-   assembler libassembler_c.a, the recorder liblentrecorder.a. A program links what it calls. None needs anything else, no C library
-   either.
+   assembler libassembler_c.a, the check of traces libtracecall.a, the recorder liblentrecorder.a. A program links what it calls. None
+   needs anything else, no C library either, but for memset in the check of traces.
 
    Each buffer comes as a pointer and a length, in elements. The pointer is not null and points at that many elements, also
    where the length is wrong; a buffer that is written overlaps no other. Nothing else is asked of the caller: whatever the
@@ -219,6 +220,52 @@ enum {
    answer's length, 10, 36, 24, 25, 26, 28, 27. */
 uint8_t wd16_assemble(const uint8_t *source, size_t source_length, uint8_t *section, size_t section_length,
                       uint8_t *answer, size_t answer_length);
+
+/* ---- the check of a trace */
+
+enum {
+    WD16_VERDICT = 6, /* bytes of a verdict */
+};
+
+/* A verdict's bytes: what a trace is found to be, then the step, from 0, then the field, from 0 for R0 to 9 for the mode; two
+   each, low byte first, 0 where there is none. */
+enum {
+    WD16_FOUND = 0,
+    WD16_WRONG_STEP = 2,
+    WD16_WRONG_FIELD = 4,
+};
+
+enum { /* what a trace is found to be */
+    WD16_ACCEPTED = 0,
+    WD16_BY_FIELD = 1,  /* the first wrong step has a wrong field */
+    WD16_BY_LENGTH = 2, /* the step is missing, or one too many */
+};
+
+/* Refusals, in the order in which they are looked for: 21 (the verdict is not 6 bytes), then the job's, entry by entry, then 29. */
+enum {
+    WD16_JOB_ENDS = 11,           /* inside a count or an entry */
+    WD16_TOO_MANY_PAGES = 12,     /* over 256 */
+    WD16_PAGE_NOT_RISING = 13,
+    WD16_TOO_MANY_WORDS = 14,     /* over 4,096 */
+    WD16_ADDRESS_ODD = 15,
+    WD16_ADDRESS_NOT_RISING = 16,
+    WD16_ADDRESS_UNFITTED = 17,
+    WD16_TOO_MANY_JOB_LINES = 18, /* over 4,096 */
+    WD16_BAD_JOB_LINE = 19,       /* an unused bit of a line word is set */
+    WD16_READ_ONLY_PAGE = 22,     /* not rising, or not fitted */
+    WD16_JOB_BYTES_LEFT = 20,
+
+    WD16_TRACE_CUT = 29, /* inside its count or a state, or bytes are left over */
+};
+
+/* Holds another shop's trace of a job against the processor, on a board with the third microm and the jumpers 11 and 11. A job
+   has three sections, each after its count of two bytes, low byte first: fitted pages, a byte each; words, an address and a
+   value, two bytes each; line words; and perhaps a fourth of read-only pages. A trace is a count and, after each step from
+   power-up, R0 to R5, SP, PC, PS with bits 15 and 14 clear, and the mode, all two bytes, low byte first. The verdict is
+   written. Nothing is compared before refusals: 21 for the verdict's length, the job's own in its reading order, 29. The image
+   is the call's own: it takes 80 KB of stack. */
+uint8_t wd16_check_trace(const uint8_t *job, size_t job_length, const uint8_t *trace, size_t trace_length,
+                         uint8_t *verdict, size_t verdict_length);
 
 /* ---- the plug recorder */
 

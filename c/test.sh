@@ -26,13 +26,14 @@ compared() { # KIND NAME SEED CASES COMMAND
     fi
 }
 
-# The processor's calls, the text's with every byte that is lent, and cases of texts, patches and scans.
+# The processor's calls, the text's with every byte that is lent, and cases of texts, patches, scans and traces.
 all_compared() { # NAME SEED COMMAND
     compared served "$1" "$2" "$cases" "$3"
     compared calls "$1" "$2" "$cases" "$3"
     compared text "$1" "$2" "$((cases / 10))" "$3"
     compared asm "$1" "$2" "$((cases / 10))" "$3"
     compared scans "$1" "$2" "$((cases / 40))" "$3"
+    compared trace "$1" "$2" "$((cases / 20))" "$3"
 }
 
 # The cases of compare/vectors that hold with all that has landed, answered through the library and the programs.

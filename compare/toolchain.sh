@@ -35,10 +35,11 @@ module() ( # REPOSITORY PROGRAM MODULE
     [ -f "$3" ] || { cat "$made/log" >&2; exit 1; }
 )
 
-# A program for x86-64, linked as rt links it, of that object. Nothing is proved by it.
+# A program for x86-64, linked as rt links it, of that object, with the C code of the kit's os. Nothing is proved by it.
 unproved_program() ( # REPOSITORY PROGRAM OUT
     module "$1" "$2" "$3.bc" &&
-        "$kit/on/$(uname -m)/bin/rattle-link" --target x86_64-unknown-linux-gnu --toolchain "$tools" -o "$3" "$3.bc.o" >/dev/null
+        "$kit/on/$(uname -m)/bin/rattle-link" --target x86_64-unknown-linux-gnu --toolchain "$tools" -o "$3" "$3.bc.o" \
+            "$kit/lib/libos_c.a" >/dev/null
 )
 
 # A module's text.

@@ -204,5 +204,48 @@ ends 1 '' "$asm"$'\nNOPE\nunknown text (refusal 24 at line 0, from 0)' bench --a
 ends 2 '' "hitch: --asm, and a source's file; $more" bench jobs/sob.txt --asm
 ends 2 '' "hitch: there is no file 'no.asm'; $more" bench --asm no.asm jobs/sob.txt
 
+# Traces: made, and checked.
+checked='hitch: check_trace is compiled without proof'
+making='hitch: make_trace is compiled without proof'
+check() { ./hitch check-trace --unproved "$@"; }
+made_as() { ./hitch make-trace --unproved "$2" | cmp - "$1" && echo same; }
+patched() { # FILE BYTE VALUE: the sample's trace with one byte changed
+    cp jobs/example.trace "$1"
+    printf "$3" | dd of="$1" bs=1 seek="$2" conv=notrunc status=none
+}
+for job in jobs/example.txt "$made/example.job"; do
+    ends 0 'accepted: 3 steps' "$checked" check "$job" jobs/example.trace
+    ends 0 same "$making" made_as jobs/example.trace "$job"
+done
+ends 0 'accepted: 3 steps' "$checked" check - jobs/example.trace <jobs/example.txt
+ends 1 'wrong at step 1: PS is 8F00, right is 0F00' "$checked" check jobs/example.txt jobs/example-wrong.trace
+patched "$made/high.trace" 3 '\022'
+ends 1 'wrong at step 0: R0 is 1200, right is 0000' "$checked" check jobs/example.txt "$made/high.trace"
+patched "$made/mode.trace" 60 '\004'
+ends 1 'wrong at step 2: the mode is 0004, right is 0000' "$checked" check jobs/example.txt "$made/mode.trace"
+{ printf '\2\0'; tail -c +3 jobs/example.trace | head -c 40; } >"$made/short.trace"
+ends 1 'wrong at step 2: the trace ends before it' "$checked" check jobs/example.txt "$made/short.trace"
+{ printf '\4\0'; tail -c +3 jobs/example.trace; head -c 20 /dev/zero; } >"$made/long.trace"
+ends 1 'wrong at step 3: the job ends before it' "$checked" check jobs/example.txt "$made/long.trace"
+{ printf '\4\0'; tail -c +3 jobs/example-wrong.trace; head -c 20 /dev/zero; } >"$made/both.trace"
+ends 1 'wrong at step 1: PS is 8F00, right is 0F00' "$checked" check jobs/example.txt "$made/both.trace"
+head -c 41 jobs/example-wrong.trace >"$made/cut.trace"
+ends 1 'REFUSED 29' "$checked" check jobs/example.txt "$made/cut.trace"
+ends 1 'REFUSED 29' "$checked" check jobs/example.txt "$made/empty"
+{ cat jobs/example.trace; printf '\0'; } >"$made/left.trace"
+ends 1 'REFUSED 29' "$checked" check jobs/example.txt "$made/left.trace"
+# The longest trace there can be, and one byte more.
+{ printf '\377\377'; tail -c +3 jobs/example.trace; head -c $((65532 * 20)) /dev/zero; } >"$made/longest.trace"
+ends 1 'wrong at step 3: the job ends before it' "$checked" check jobs/example.txt "$made/longest.trace"
+printf '\0' >>"$made/longest.trace"
+ends 1 'REFUSED 29' "$checked" check jobs/example.txt "$made/longest.trace"
+ends 1 'REFUSED 17' "$checked" check jobs/refused.txt "$made/cut.trace"
+ends 1 '' "$making"$'\nREFUSED 17' ./hitch make-trace --unproved jobs/refused.txt
+ends 1 '' "$falling" check "$made/falling.txt" jobs/example.trace
+ends 2 '' "hitch: a job and a trace are needed; $more" check jobs/example.txt
+ends 2 '' "hitch: one job and one trace at a time; $more" check jobs/example.txt jobs/example.trace jobs/example.trace
+ends 2 '' "hitch: there is no file 'no such.trace'; $more" check jobs/example.txt 'no such.trace'
+ends 2 '' "hitch: one file at a time; $more" ./hitch make-trace jobs/example.txt jobs/refused.txt
+
 [ "$wrong" = 0 ] || exit 1
 echo "hitch: $cases cases ok"

@@ -1,8 +1,14 @@
 #!/usr/bin/env bash
-# Holds each sample's stored line, and each stored listing, to what the plain interpreter prints for its job. Build that first:
-# cargo build --release in compare.
+# Holds each sample's stored line, its trace where it has one, and each stored listing, to what the plain interpreter makes of its
+# job. Build that first: cargo build --release in compare.
 set -euo pipefail
 cd "$(dirname "$0")/.."
+hex() { od -An -v -tx1 | tr -d ' \n' | tr a-f A-F; }
+accepted() { # NAME
+    local found
+    found=$(echo "trace 14 $(python3 jobs/make_job.py "jobs/$1.txt" | hex) $(hex <"jobs/$1.trace")" | compare/target/release/answer plain)
+    [ "$found" = ACCEPTED ] || { echo "$1.trace: the plain interpreter says $found"; exit 1; }
+}
 for text in jobs/*.txt; do
     name=$(basename "$text" .txt)
     got=$(jobs/sample_job.sh "$name" | compare/target/release/bench)
@@ -10,6 +16,7 @@ for text in jobs/*.txt; do
         echo "$name: the plain interpreter prints $got"
         exit 1
     fi
+    [ ! -f "jobs/$name.trace" ] || accepted "$name"
     echo "$name ok"
 done
 # NAME.FIRST-LAST.list

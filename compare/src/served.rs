@@ -107,7 +107,7 @@ impl Served {
 }
 
 /// The calls that the library has; the others wait for their wish.
-const LIBRARY: [Call; 8] = [
+const LIBRARY: [Call; 9] = [
     Call::PowerUp,
     Call::Step,
     Call::Run,
@@ -116,6 +116,7 @@ const LIBRARY: [Call; 8] = [
     Call::Assemble,
     Call::Scan,
     Call::Report,
+    Call::CheckTrace,
 ];
 
 impl Interface for Served {

@@ -1,0 +1,141 @@
+// Checks another shop's trace of a job and says in words what it is found to be: check_trace JOB TRACE, two files by name.
+use letters::hex;
+ghost use mathlib.Core.Path.{_≡_};
+ghost use lib.ListN.{length};
+use libc::STDERR_FILENO;
+use libc::STDOUT_FILENO;
+use trace::Checked;
+use trace::Verdict;
+use words::word_at;
+
+fn put(text: &[u8]) {
+    io::write_all(STDOUT_FILENO, text);
+}
+
+fn put_decimal(n: u16) {
+    io::print_decimal(STDOUT_FILENO, n as u64);
+}
+
+fn put_word(w: u16) {
+    let digits = [
+        hex(w / 4096),
+        hex(w / 256 % 16),
+        hex(w / 16 % 16),
+        hex(w % 16),
+    ];
+    put(&digits);
+}
+
+// A field's name in the bench line's order.
+fn put_name(field: u16) {
+    match field {
+        0 => put(b"R0"),
+        1 => put(b"R1"),
+        2 => put(b"R2"),
+        3 => put(b"R3"),
+        4 => put(b"R4"),
+        5 => put(b"R5"),
+        6 => put(b"SP"),
+        7 => put(b"PC"),
+        8 => put(b"PS"),
+        _ => put(b"the mode"),
+    }
+}
+
+fn put_step(step: u16) {
+    put(b"wrong at step ");
+    put_decimal(step);
+    put(b": ");
+}
+
+// What stands in a field of the trace.
+fn told(trace: &[u8], step: u16, field: u16) -> u16 {
+    word_at(trace, 2 + step as usize * 20 + field as usize * 2)
+}
+
+fn put_field(trace: &[u8], step: u16, field: u16, right: u16) {
+    put_step(step);
+    put_name(field);
+    put(b" is ");
+    put_word(told(trace, step, field));
+    put(b", right is ");
+    put_word(right);
+    put(b"\n");
+}
+
+fn put_accepted(steps: u16) {
+    put(b"accepted: ");
+    put_decimal(steps);
+    put(b" steps\n");
+}
+
+fn put_missing(step: u16) {
+    put_step(step);
+    put(b"the trace ends before it\n");
+}
+
+fn put_extra(step: u16) {
+    put_step(step);
+    put(b"the job ends before it\n");
+}
+
+fn put_verdict(found: Verdict, trace: &[u8]) {
+    match found {
+        Verdict::Accepted => put_accepted(word_at(trace, 0)),
+        Verdict::Wrong(step, field, right) => put_field(trace, step, field, right),
+        Verdict::Missing(step) => put_missing(step),
+        Verdict::Extra(step) => put_extra(step),
+    }
+}
+
+fn put_refused(why: u8) {
+    put(b"REFUSED ");
+    put_decimal(why as u16);
+    put(b"\n");
+}
+
+fn answer(job: &[u8], trace: &[u8]) {
+    let mut image = io::large_buffer();
+    let mut map = [0u8; 256];
+    let mut lines = [0u16; 4096];
+    match trace::check(job, trace, &mut image, &mut map, &mut lines) {
+        Checked::Done(found) => put_verdict(found, trace),
+        Checked::Refused(why) => put_refused(why),
+    }
+}
+
+// Opens the file that an argument names, or says why it can't and answers -1.
+fn opened(which: usize) -> i32 {
+    let mut path = io::buffer();
+    let n = os::arg(which, &mut path);
+    if os::errno() != 0 {
+        io::write_all(STDERR_FILENO, b"check_trace JOB TRACE\n");
+        return -1;
+    }
+    let file = os::open_read(&path[..n]);
+    if file < 0 {
+        os::fail(&path[..n]);
+    }
+    file
+}
+
+// The longest trace has 1,310,702 bytes; one byte more shows that there are bytes left over.
+fn trace_buffer() -> [u8; 1310703]
+    ensures { λ r. ⌜ 1310703 ≡ length r ⌝ }
+{
+    [0; 1310703]
+}
+
+// The longest job has 25,096 bytes, and again one more is read.
+fn main() {
+    let job_file = opened(1);
+    let trace_file = opened(2);
+    if (job_file < 0) | (trace_file < 0) {
+        return;
+    }
+    let mut job = [0u8; 25097];
+    let job_length = io::read_full(job_file, &mut job);
+    let mut trace = trace_buffer();
+    let trace_length = io::read_full(trace_file, &mut trace);
+    answer(&job[..job_length], &trace[..trace_length]);
+}
