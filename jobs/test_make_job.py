@@ -62,7 +62,7 @@ class Bytes(unittest.TestCase):
         section = make_job.entries_in(bytes.fromhex("0200 80000100 82000200"))
         self.assertEqual(section, [(0x80, 1), (0x82, 2)])
         self.assertEqual(make_job.entries_in(bytes(2)), [])
-        self.assertEqual(job_of("pages 0\n90 = 3", section), job_of("pages 0\n80 = 1 2\n90 = 3"))
+        self.assertEqual(job_of("pages 0\n90 = 3", entries=section), job_of("pages 0\n80 = 1 2\n90 = 3"))
 
     def test_as_many_as_a_count_can_say(self):
         self.assertEqual(job_of("lines 0000 x4096")[4:], bytes.fromhex("0010") + bytes(2 * 4096))
