@@ -9,7 +9,7 @@ use native.Mathlib.Omega.{arith}
 use lib.ListN.{length, take, drop, getD, set, length-take, length-drop}
 use lib.Seq.{getD-set-same, getD-set-other}
 use Rattle.assembler.specs.Source.{lineAt, saidAt, originAt, endAt, nextFrom, endFrom}
-use Rattle.patchline.specs.declared.line.Said.{Said}
+use Rattle.patchline.specs.declared.oneline.Said.{Said}
 use Rattle.patchline.specs.Search.{eq-cases}
 
 pub line-le : (s : List ℕ) (i : ℕ) → length (lineAt s i) ≤ 32

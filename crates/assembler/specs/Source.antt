@@ -10,9 +10,9 @@ use Rattle.optext.specs.declared.Op.{Op}
 use Rattle.optext.specs.First.{firstFrom}
 use Rattle.patchline.specs.Text.{gives, labelOf, restOf}
 use Rattle.patchline.specs.Line.{firstIn, secondIn, labelIn, saidOf, reaches, withLabel}
-use Rattle.patchline.specs.declared.line.How.{How}
-use Rattle.patchline.specs.declared.line.How.the-variants.{Unknown, Origin, Plain, Branch, Sob, Relative}
-use Rattle.patchline.specs.declared.line.Said.{Said}
+use Rattle.patchline.specs.declared.oneline.How.{How}
+use Rattle.patchline.specs.declared.oneline.How.the-variants.{Unknown, Origin, Plain, Branch, Sob, Relative}
+use Rattle.patchline.specs.declared.oneline.Said.{Said}
 use Rattle.assembler.specs.declared.source.Fault.{Fault}
 use Rattle.assembler.specs.declared.source.Fault.the-variants.{Text, Given, Missing, Place, Far}
 

@@ -15,7 +15,7 @@ use Rattle.optext.specs.Digits.{unHex, unHex4}
 use Rattle.optext.specs.Line.{textOf}
 use Rattle.optext.specs.Read.{same-refl, readOf, opOf}
 use Rattle.patchline.specs.Search.{eq-cases}
-use Rattle.patchline.specs.declared.line.How.the-variants.{Origin, Plain}
+use Rattle.patchline.specs.declared.oneline.How.the-variants.{Origin, Plain}
 use Rattle.patchline.specs.Line.{opIn, op, says, isNumber, isDirective, saidOf}
 use Rattle.assembler.specs.Source.{textAt, hereOf, put, wordsIn}
 use Rattle.assembler.specs.Section.{entered, placed}

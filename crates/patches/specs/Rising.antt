@@ -13,9 +13,9 @@ use Rattle.word.specs.Address.{plus}
 use Rattle.optext.specs.declared.Op.{Op}
 use Rattle.optext.specs.First.{firstFrom}
 use Rattle.patchline.specs.Search.{first-none}
-use Rattle.patchline.specs.declared.line.How.{How}
-use Rattle.patchline.specs.declared.line.How.the-variants.{Unknown, Origin, Plain, Branch, Sob, Relative}
-use Rattle.patchline.specs.declared.line.Said.{Said}
+use Rattle.patchline.specs.declared.oneline.How.{How}
+use Rattle.patchline.specs.declared.oneline.How.the-variants.{Unknown, Origin, Plain, Branch, Sob, Relative}
+use Rattle.patchline.specs.declared.oneline.Said.{Said}
 use Rattle.patchline.specs.Line.{labelIn, firstIn, secondIn, saidOf, withLabel, withOffset}
 use Rattle.assembler.specs.Source.{countOf, textAt, saidAt, isOrigin, originAt, endAt, hereOf, overlaps, isOdd, misplaced, valueOf, put, wordsIn}
 use Rattle.assembler.specs.Section.{lowerOf, higherOf, inserted, entryOf, entered, placed}

@@ -18,8 +18,8 @@ use Rattle.optext.specs.Read.{same}
 use Rattle.patchline.specs.Search.{lt-cases, first-le}
 use Rattle.patchline.specs.Text.{partOf, endFrom, gives, isName, pastOf, placeOf, isAt, nameIn, labelOf, shown, restOf}
 use Rattle.patchline.specs.Line.{operandsAt, commaAt, firstIn, secondIn, bare, atOf, labelIn, filledIn, aliasOf, tailOf, filled, isDirective, opIn, says, op, saidOf, saidWith, isBranch, isSob}
-use Rattle.patchline.specs.declared.line.How.the-variants.{Origin, Plain}
-use Rattle.patchline.specs.declared.line.Said.{Said}
+use Rattle.patchline.specs.declared.oneline.How.the-variants.{Origin, Plain}
+use Rattle.patchline.specs.declared.oneline.Said.{Said}
 
 pub bool-cases : (b : Bool) → (b ≡ false) ⊎ (b ≡ true)
 bool-cases true = inr refl

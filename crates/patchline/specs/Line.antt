@@ -12,9 +12,9 @@ use Rattle.optext.specs.Digits.{unHex4}
 use Rattle.optext.specs.Read.{same, readOf, opOf}
 use Rattle.word.specs.Address.{plus, minus}
 use Rattle.patchline.specs.Text.{partOf, placeOf, isName}
-use Rattle.patchline.specs.declared.line.How.{How}
-use Rattle.patchline.specs.declared.line.How.the-variants.{Unknown, Origin, Plain, Branch, Sob, Relative}
-use Rattle.patchline.specs.declared.line.Said.{Said}
+use Rattle.patchline.specs.declared.oneline.How.{How}
+use Rattle.patchline.specs.declared.oneline.How.the-variants.{Unknown, Origin, Plain, Branch, Sob, Relative}
+use Rattle.patchline.specs.declared.oneline.Said.{Said}
 
 -- mnemonic with its space, first operand, second operand after the comma
 unfoldable pub operandsAt : List ℕ → ℕ

@@ -1,3 +1,3 @@
 // One line of a patch: its label, what the rest of it says, and what a label comes to in its words.
-pub mod line;
+pub mod oneline;
 pub mod text;

@@ -1,7 +1,7 @@
 use mathlib.Core.Path.{refl, ap, sym, _∙_}
 use borrow.Author.Needs.{needs}
 use Rattle.assembler.specs.Source.{hasLabels, lacks}
-use Rattle.patchline.specs.declared.line.Said.{Said}
+use Rattle.patchline.specs.declared.oneline.Said.{Said}
 use Rattle.assembler.proofs.source.lack.Statement.{statement}
 use Rattle.assembler.proofs.source.lack.Tie as tie
 

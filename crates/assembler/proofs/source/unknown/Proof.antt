@@ -1,7 +1,7 @@
 use mathlib.Core.Path.{ap, _∙_}
 use borrow.Author.Needs.{needs}
 use Rattle.assembler.specs.Source.{isUnknown}
-use Rattle.patchline.specs.declared.line.Said.{Said}
+use Rattle.patchline.specs.declared.oneline.Said.{Said}
 use Rattle.assembler.proofs.source.unknown.Statement.{statement}
 use Rattle.assembler.proofs.source.unknown.Tie as tie
 
