@@ -52,6 +52,7 @@ fn so_does_the_interface() {
         bench: String::new(),
         list: String::new(),
     };
+    answered(&mut through, "w08-trace.txt");
     answered(&mut through, "w13-recorder.txt");
     answered(&mut through, "w09-columns.txt");
 }

@@ -34,7 +34,7 @@ unfolding compared
 compared-self step [] = refl
 compared-self step (e ∷ es) = rw (differ-self step 0 e) (compared-self (step + 1) es)
 
-differ-same : (step k : ℕ) (xs ys : List ℕ) → length xs ≡ length ys → differ step k xs ys ≡ Accepted → xs ≡ ys
+pub differ-same : (step k : ℕ) (xs ys : List ℕ) → length xs ≡ length ys → differ step k xs ys ≡ Accepted → xs ≡ ys
 unfolding differ
 differ-same step k [] [] l e = refl
 differ-same step k [] (y ∷ ys) l e = absurd (omega arith)
