@@ -12,8 +12,10 @@ use lib.ListN.{length, drop}
 use Rattle.letters.specs.Digits.{letters, digits, hexOf, hex4}
 use Rattle.optext.specs.declared.Op.{Op}
 use Rattle.optext.specs.Digits.{unHex, unHex4}
-use Rattle.optext.specs.Line.{textOf}
+use Rattle.optext.specs.Line.{wordText, taken, textOf}
+use Rattle.optext.specs.Column.{Whole}
 use Rattle.optext.specs.Read.{same-refl, readOf, opOf}
+use Rattle.optext.specs.Reader.{read-of-text, read-word, read-origin, read-nothing, any-word-text}
 use Rattle.patchline.specs.Search.{eq-cases}
 use Rattle.patchline.specs.declared.oneline.How.the-variants.{Origin, Plain}
 use Rattle.patchline.specs.Line.{opIn, op, says, isNumber, isDirective, saidOf}
@@ -55,13 +57,32 @@ any-word s t h l e f g = plain-words s t h _ (rw (ne-eqb (length t) 0 (some t l)
 
 -- ---- the lines of a listing
 
--- the text of an op code that the reader gives back, which is every whole one: `read-of-text` of optext
-pub listed-again : (s vs : List ℕ) (h : ℕ) → readOf (textOf vs) ≡ vs → 0 < length (textOf vs) → 0 < length vs → wordsIn s h (textOf vs) ≡ opOf vs
-listed-again s vs h e l p = reader-words s (textOf vs) h l (rw e p) ∙ ap opOf e
+-- an op code has words, and its text characters: no text reads as nothing
+whole-some : (vs : List ℕ) → Whole vs → 0 < length vs
+unfolding taken
+whole-some vs h = omega (arith, h .count)
+
+text-some : (vs : List ℕ) → Whole vs → 0 < length (textOf vs)
+text-some vs h = go (textOf vs) (read-of-text vs h)
+  where
+    go : (t : List ℕ) → readOf t ≡ vs → 0 < length t
+    go [] e = let z : length vs ≡ 0 = ap length (sym e ∙ read-nothing) in absurd (omega (arith, whole-some vs h))
+    go (x ∷ t) e = omega arith
+
+-- the text of a whole op code gives its words back
+pub listed-again : (s vs : List ℕ) (h : ℕ) → Whole vs → wordsIn s h (textOf vs) ≡ opOf vs
+listed-again s vs h w =
+    let e = read-of-text vs w in
+    reader-words s (textOf vs) h (text-some vs w) (rw e (whole-some vs w)) ∙ ap opOf e
 
 -- .WORD and .ORG with the four digits of a word
 unfoldable pub wordLine : ℕ → List ℕ
 wordLine w = letters ".WORD " ++ hex4 w
+
+-- the writer's .WORD is that line
+word-line : (w : ℕ) → wordText w ≡ wordLine w
+unfolding wordLine
+word-line w = any-word-text w
 
 unfoldable pub originLine : ℕ → List ℕ
 originLine a = letters ".ORG " ++ hex4 a
@@ -93,13 +114,16 @@ is-number w h = rw (four-back w h) (same-refl (hex4 w))
 
 module _ (s : List ℕ) (w h : ℕ) (l : w < 65536) where
   -- any word after .WORD comes back, whether the reader takes the line or not
-  pub word-again : (readOf (wordLine w) ≡ []) ⊎ (readOf (wordLine w) ≡ w ∷ []) → wordsIn s h (wordLine w) ≡ opOf (w ∷ [])
+  word-line-again : wordsIn s h (wordLine w) ≡ opOf (w ∷ [])
   unfolding wordLine isDirective
-  word-again u =
+  word-line-again =
       ⊎-elim (λ e. any-word s (wordLine w) h (omega arith) e refl (is-number w l) ∙ ap (λ (x : ℕ). op 1 x) (four-back w l))
-      (λ e. reader-words s (wordLine w) h (omega arith) (rw e (omega arith)) ∙ ap opOf e) u
+      (λ e. reader-words s (wordLine w) h (omega arith) (rw e (omega arith)) ∙ ap opOf e) (read-word w l)
+
+  pub word-again : wordsIn s h (wordText w) ≡ opOf (w ∷ [])
+  word-again = ap (wordsIn s h) (word-line w) ∙ word-line-again
 
   -- .ORG is the origin that its digits are
-  pub origin-again : readOf (originLine w) ≡ [] → saidOf (originLine w) ≡ says Origin (op 0 w)
+  pub origin-again : saidOf (originLine w) ≡ says Origin (op 0 w)
   unfolding originLine saidOf opIn isDirective hex4
-  origin-again e = rw (e, is-number w l, four-back w l) refl
+  origin-again = rw (read-origin w, is-number w l, four-back w l) refl

@@ -5,7 +5,7 @@ use lib.ListN.{length-set}
 use Rattle.letters.specs.Laid.{wrote-sets}
 use Rattle.optext.specs.Rows.{firstOf, secondOf}
 use Rattle.optext.specs.Line.{takes, rowOf, taken}
-use Rattle.optext.proofs.Meets.{words-3, words-a, words-b, words-1}
+use Rattle.optext.specs.Meets.{words-3, words-a, words-b, words-1}
 use borrow.Author.Needs.{needs}
 use Rattle.optext.proofs.store.Statement.{statement}
 use Rattle.optext.proofs.store.Tie as tie

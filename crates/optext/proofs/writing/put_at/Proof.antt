@@ -3,7 +3,7 @@ use native.Mathlib.Omega.{arith}
 use lib.ListN.{length}
 use Rattle.letters.specs.Laid.{at-part}
 use Rattle.optext.specs.Line.{sepText}
-use Rattle.optext.proofs.Forms.{sep-le}
+use Rattle.optext.specs.Forms.{sep-le}
 use borrow.Author.Needs.{needs}
 use Rattle.optext.proofs.writing.put_at.Statement.{statement}
 use Rattle.optext.proofs.writing.put_at.Tie as tie

@@ -1,8 +1,8 @@
 use mathlib.Core.Path.{_≡_}
 use native.Mathlib.Omega.{arith}
 use lib.ListN.{length}
-use Rattle.optext.proofs.Table.{name-le}
-use Rattle.optext.proofs.Forms.{sep-le}
+use Rattle.optext.specs.Table.{name-le}
+use Rattle.optext.specs.Forms.{sep-le}
 use Rattle.letters.specs.Laid.{then}
 use borrow.Author.Needs.{needs}
 use Rattle.optext.proofs.writing.put_line.Statement.{statement}

@@ -5,7 +5,7 @@ use native.Mathlib.Omega.{arith}
 use lib.ListN.{set, length-set, length-take, length-drop}
 use Rattle.letters.specs.Laid.{over-sets, part-back, part-length}
 use Rattle.optext.specs.Line.{plainText, taken}
-use Rattle.optext.proofs.Forms.{mode-plain, mode-at, plain-le}
+use Rattle.optext.specs.Forms.{mode-plain, mode-at, plain-le}
 use native.Mathlib.Numerals.{add-one}
 use borrow.Author.Needs.{needs}
 use Rattle.optext.proofs.writing.put_mode.Statement.{statement}

@@ -6,7 +6,7 @@ use lib.ListN.{length, take, length-set}
 use Rattle.letters.specs.Laid.{copy-none, copy-more}
 use Rattle.letters.specs.Over.{over}
 use Rattle.optext.specs.Rows.{nameOf}
-use Rattle.optext.proofs.Table.{name-letter}
+use Rattle.optext.specs.Table.{name-letter}
 use lib.Seq.{take-length}
 use Rattle.optext.proofs.writing.put_name.Statement.{statement}
 use Rattle.optext.proofs.writing.put_name.Tie as tie

@@ -12,19 +12,19 @@ use lib.ListN.{length, take, drop, getD, length-append, List·getD-append}
 use Rattle.letters.specs.Digits.{letters, hex4}
 use Rattle.optext.specs.Digits.{unHex4}
 use Rattle.optext.specs.Rows.{wordRow, rowCount, rows, theRow, nameOf, firstOf, secondOf}
-use Rattle.optext.specs.Line.{rowOf, takes, taken, sepText, lineText, textOf}
-use Rattle.optext.specs.Guess.{guessOf}
+use Rattle.optext.specs.Line.{rowOf, takes, taken, sepText, lineText, textOf, wordText}
+use Rattle.optext.specs.Guess.{rowAt, guessA, guessB, guessOf}
 use Rattle.optext.specs.Answer.{found}
 use Rattle.optext.specs.Column.{Whole, IsText}
 use Rattle.optext.specs.Words.{Reads, wordsOf}
 use Rattle.optext.specs.Read.{same, readFrom, readOf, same-refl, same-eq}
-use Rattle.optext.proofs.Choose.{at}
-use Rattle.optext.proofs.Back.{hex4-back}
-use Rattle.optext.proofs.Trip.{row-lt}
-use Rattle.optext.proofs.Furthest.{lt-w, lt-x, lt-y}
-use Rattle.optext.proofs.Meets.{text-words, whole-words}
-use Rattle.optext.proofs.Columns.{guessLine, own-line}
-use Rattle.optext.proofs.Theorems.{wordsIn, guess-words}
+use Rattle.optext.specs.Choose.{at}
+use Rattle.optext.specs.Back.{hex4-back}
+use Rattle.optext.specs.Trip.{row-lt}
+use Rattle.optext.specs.Furthest.{lt-w, lt-x, lt-y}
+use Rattle.optext.specs.Meets.{text-words, whole-words}
+use Rattle.optext.specs.Columns.{guessLine, own-line}
+use Rattle.optext.specs.Theorems.{wordsIn, guess-words}
 
 -- THE TEXT OF AN OP CODE GIVES ITS WORDS
 pub read-of-text : (vs : List ℕ) → Whole vs → readOf (textOf vs) ≡ vs
@@ -143,3 +143,13 @@ read-origin a = read-refuses t (λ i. no-letter (other i))
 
     no-letter : _≡_ {A = ℕ} 87 79 → ⊥
     no-letter e = omega (arith, e)
+
+-- no characters are no text
+pub read-nothing : readOf [] ≡ []
+unfolding readOf readFrom lineText theRow rows rowOf guessOf rowAt guessA guessB
+read-nothing = refl
+
+-- the writer's .WORD of any word is the name and four digits
+pub any-word-text : (w : ℕ) → wordText w ≡ letters ".WORD " ++ hex4 w
+unfolding wordText sepText theRow rows hex4
+any-word-text w = refl

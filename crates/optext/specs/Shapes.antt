@@ -7,8 +7,8 @@ use lib.Dec.{T, eqb, eqb→eq}
 use Rattle.optext.specs.declared.rows.Kind.{Kind}
 use Rattle.optext.specs.declared.rows.Kind.the-variants.{None, Mask, Disp, Reg, Arg4, Arg6, Count, High, Mid, Dst, Addr, Src, Word}
 use Rattle.optext.specs.Rows.{rowCount, rows, theRow, baseOf, firstOf, secondOf, letterOf, kindAs}
-use Rattle.optext.proofs.Choose.{at, both, both-left, both-right, either, either-elim}
-use Rattle.optext.proofs.Table.{kind-back}
+use Rattle.optext.specs.Choose.{at, both, both-left, both-right, either, either-elim}
+use Rattle.optext.specs.Table.{kind-back}
 
 abbrev pub isKind : Kind → Kind → Bool
 isKind z k = eqb (letterOf k) (letterOf z)

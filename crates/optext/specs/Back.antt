@@ -17,8 +17,8 @@ use Rattle.letters.specs.Digits.{digits, hexOf, hex4, hex2}
 use Rattle.optext.specs.Digits.{unHex, unHex4, unHex2}
 use Rattle.optext.specs.Line.{reservedFrom, registers, regA, regB, regText, upText, literalText, downText, offsetText, plainText, modeText, modeTakes, operandText, takes, fieldOf}
 use Rattle.optext.specs.Guess.{unCount, unReg, notPc, op, high, unPlain, unMode, unOp}
-use Rattle.optext.proofs.Choose.{eq-cases, at}
-use Rattle.optext.proofs.Forms.{mode-plain, mode-at}
+use Rattle.optext.specs.Choose.{eq-cases, at}
+use Rattle.optext.specs.Forms.{mode-plain, mode-at}
 
 -- digits
 pub hex-back : (d : ℕ) → d < 16 → unHex (hexOf d) ≡ d

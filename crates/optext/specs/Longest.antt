@@ -9,10 +9,10 @@ use lib.ListN.{length, length-append}
 use Rattle.letters.specs.Digits.{digits, hexOf, hex4}
 use Rattle.optext.specs.Rows.{rows, theRow, firstOf, secondOf}
 use Rattle.optext.specs.Line.{registers, regA, regB, offsetText, plainText, modeText, modeTakes, addressed, rowOf, isShown, sepText, lineText, textOf}
-use Rattle.optext.proofs.Choose.{bool-cases}
-use Rattle.optext.proofs.Table.{name-le, two-le}
-use Rattle.optext.proofs.Forms.{sep-none, sep-le}
-use Rattle.optext.proofs.Trip.{row-lt}
+use Rattle.optext.specs.Choose.{bool-cases}
+use Rattle.optext.specs.Table.{name-le, two-le}
+use Rattle.optext.specs.Forms.{sep-none, sep-le}
+use Rattle.optext.specs.Trip.{row-lt}
 
 pub line-le : (w x y : ℕ) → length (lineText w x y) ≤ 24
 unfolding lineText

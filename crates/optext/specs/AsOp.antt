@@ -17,9 +17,9 @@ use Rattle.optext.specs.Line.{rowOf, takes, lineText}
 use Rattle.optext.specs.Guess.{guessOf}
 use Rattle.optext.specs.Words.{own, wordsOf}
 use Rattle.optext.specs.Read.{same, readFrom, readOf, opOf, same-is}
-use Rattle.optext.proofs.Choose.{no}
-use Rattle.optext.proofs.Near.{agree-self}
-use Rattle.optext.proofs.Columns.{same-text}
+use Rattle.optext.specs.Choose.{no}
+use Rattle.optext.specs.Near.{agree-self}
+use Rattle.optext.specs.Columns.{same-text}
 
 -- texts that agree to the end of both
 both-true : (a b : Bool) → (a && b) ≡ true → (a ≡ true) × (b ≡ true)
