@@ -1,15 +1,17 @@
-/* The WD16 for C, on buffers that the caller lends: the processor, with power-up, one step, and a run over line words; the text of
-   one op code, written and read; the assembler for patches; the check of another shop's trace; and the
-   plug recorder: one scan, and the report of a channel.
+/* The WD16 for C, on buffers that the caller lends: the processor, with power-up, one step, and a run over line words; the
+   text of one op code, written and read; the assembler for patches; the check of another shop's trace; and the plug
+   recorder: one scan, and the report of a channel.
 
-   Each is a library of its own, which `rt staticlib NAME` proves and writes: the processor libfirmware.a, the text libtextc.a, the
-   assembler libassembler_c.a, the check of traces libtracecall.a, the recorder liblentrecorder.a. A program links what it calls. None
-   needs anything else, no C library either, but for memset in the check of traces.
+   Each is a library of its own, which `rt staticlib NAME` proves and writes: the processor libfirmware.a, the text
+   libtextc.a, the assembler libassembler_c.a, the check of traces libtracecall.a, the recorder liblentrecorder.a. A program
+   links what it calls. The processor and the text need nothing else, no C library either; the other three call its memset or
+   memcpy.
 
    Each buffer comes as a pointer and a length, in elements. The pointer is not null and points at that many elements, also
    where the length is wrong; a buffer that is written overlaps no other. Nothing else is asked of the caller: whatever the
    buffers hold, and whatever their lengths are, a call comes back with 0 or with the number of its refusal. A refused call
-   leaves every buffer as it was, but for the answer where a text is refused with its column or a source with its line. Nothing is kept between calls. */
+   leaves every buffer as it was, but for the answer where a text is refused with its column or a source with its line.
+   Nothing is kept between calls. */
 #ifndef HITCHBRIAR_H
 #define HITCHBRIAR_H
 
@@ -110,7 +112,7 @@ enum {
     WD16_LINE_DEVICE = 0x0100, /* times the device code, 0 to 15 */
 };
 
-/* Refusals, in the order in which they are looked for. */
+/* The processor's refusals, in the order in which they are looked for. */
 enum {
     WD16_DONE = 0,
     WD16_BAD_BUFFER = 21,    /* the state is not 24 bytes, the tally not 6 or the settings not 4; the settings' first
@@ -144,7 +146,8 @@ uint8_t wd16_run(uint8_t *state, size_t state_length, uint8_t *tally, size_t tal
                  size_t image_length, const uint8_t *map, size_t map_length, const uint8_t *settings,
                  size_t settings_length, const uint16_t *lines, size_t lines_length);
 
-/* ---- answers: what a call tells beside its number, in three words, two bytes each, low byte first. What it doesn't tell is 0 */
+/* ---- answers: what a call of the text or of the assembler tells beside its number, in three words, two bytes each, low byte
+   first. What it doesn't tell is 0 */
 
 enum {
     WD16_ANSWER = 6, /* bytes of an answer */
@@ -153,30 +156,30 @@ enum {
 /* ---- the text of one op code */
 
 enum {
-    WD16_TEXT = 32,   /* bytes of a text's buffer, at least, where a text is written. The longest line has 24 characters */
-    WD16_WORDS = 6,   /* bytes of the words' buffer, at least, where a text is read: three words, the most of an op code */
+    WD16_TEXT = 32, /* bytes of a text's buffer, at least, where a text is written. The longest line has 24 characters */
+    WD16_WORDS = 6, /* bytes of the words' buffer, at least, where a text is read: three words, the most of an op code */
 };
 
-/* An answer's bytes. */
+/* The bytes of a text's answer. */
 enum {
     WD16_LENGTH = 0, /* writing: the line's length */
     WD16_TAKEN = 2,  /* writing: the number of words that the op code has */
     WD16_COUNT = 0,  /* reading: the number of words read */
-    WD16_COLUMN = 4, /* reading, where the refusal is 9, 30, 31 or 32: the column, from 0, of the first character that no text
-                        has there after the same beginning; the line's length where it ends too early */
+    WD16_COLUMN = 4, /* reading, where the refusal is 32, 31, 9 or 30: the column, from 0, of the first character that no
+                        text has there after the same beginning; the line's length where it ends too early */
 };
 
 /* Refusals, in the order in which they are looked for: 21 (the answer is not 6 bytes), then these. */
 enum {
-    WD16_ODD_WORDS = 38,     /* the words' buffer has an odd number of bytes */
-    WD16_TEXT_SHORT = 8,     /* writing: the text's buffer is under 32 bytes */
-    WD16_NO_WORDS = 6,       /* writing: no words */
-    WD16_WORD_MISSING = 7,   /* writing: a needed next word is missing */
-    WD16_WORDS_SHORT = 10,   /* reading: the words' buffer is under 6 bytes */
-    WD16_EARLY_END = 32,     /* reading, each with its column: the line ends too early, the empty line too; */
-    WD16_AFTER_TEXT = 31,    /* a character after a whole text; */
-    WD16_UNKNOWN_NAME = 9,   /* an unknown mnemonic; */
-    WD16_BAD_OPERAND = 30,   /* a bad operand */
+    WD16_ODD_WORDS = 38,   /* the words' buffer has an odd number of bytes */
+    WD16_TEXT_SHORT = 8,   /* writing: the text's buffer is under 32 bytes */
+    WD16_NO_WORDS = 6,     /* writing: no words */
+    WD16_WORD_MISSING = 7, /* writing: a needed next word is missing */
+    WD16_WORDS_SHORT = 10, /* reading: the words' buffer is under 6 bytes */
+    WD16_EARLY_END = 32,   /* reading, each with its column: the line ends too early, the empty line too; */
+    WD16_AFTER_TEXT = 31,  /* a character after a whole text; */
+    WD16_UNKNOWN_NAME = 9, /* an unknown mnemonic; */
+    WD16_BAD_OPERAND = 30, /* a bad operand */
 };
 
 /* Writes the text of the op code that begins the words, which are two bytes each, low byte first. Bytes of the text's buffer
@@ -184,8 +187,8 @@ enum {
 uint8_t wd16_write_text(const uint8_t *words, size_t words_length, uint8_t *text, size_t text_length, uint8_t *answer,
                         size_t answer_length);
 
-/* Reads a text, the whole buffer, into words. Bytes of the words' buffer after the words read stay. Refusals: 21, 38, 10, and 32,
-   31, 9 or 30, which alone among refusals write: the answer, with the column. */
+/* Reads a text, the whole buffer, into words. Bytes of the words' buffer after the words read stay. Refusals: 21, 38, 10, and
+   32, 31, 9 or 30; of these the last four alone write: the answer, with the column. */
 uint8_t wd16_read_text(const uint8_t *text, size_t text_length, uint8_t *words, size_t words_length, uint8_t *answer,
                        size_t answer_length);
 
@@ -197,13 +200,14 @@ enum {
     WD16_SECTION = 12290,          /* bytes of the output, at least */
 };
 
-/* An answer's bytes. */
+/* The bytes of the assembler's answer. */
 enum {
     WD16_SECTION_LENGTH = 0, /* the length of the section */
     WD16_REFUSED_LINE = 4,   /* the line of a refusal from 24 to 28, from 0 */
 };
 
-/* Refusals, in the order in which they are looked for: 21 (the answer is not 6 bytes), then these. Those from 24 to 28 tell the lowest line that has them. */
+/* Refusals, in the order in which they are looked for: 21 (the answer is not 6 bytes), then these. Those from 24 to 28 tell
+   the lowest line that has them. */
 enum {
     WD16_SECTION_SHORT = 10, /* the section is under 12,290 bytes */
     WD16_SOURCE_LINES = 36,  /* the source is not whole lines of 32 bytes, or over 1,024 of them */
@@ -217,7 +221,7 @@ enum {
 /* Assembles a source, whole lines of 32 bytes padded with spaces, into the word section of a job at the front of the
    section's buffer: a count, then as many addresses and words, addresses rising. The bytes after it stay as they were. A
    refused call leaves the section as it was, and the answer too unless the refusal tells a line. Refusals: 21 for the
-   answer's length, 10, 36, 24, 25, 26, 28, 27. */
+   answer's length, 10, 36, 24, 25, 26, 28, 27. The tables are the call's own: they take 21 KB of stack. */
 uint8_t wd16_assemble(const uint8_t *source, size_t source_length, uint8_t *section, size_t section_length,
                       uint8_t *answer, size_t answer_length);
 
@@ -241,12 +245,12 @@ enum { /* what a trace is found to be */
     WD16_BY_LENGTH = 2, /* the step is missing, or one too many */
 };
 
-/* Refusals, in the order in which they are looked for: 21 (the verdict is not 6 bytes), then the job's, entry by entry, then 29. */
+/* Refusals: 21 (the verdict is not 6 bytes), then the job's, the first that its reader meets, entry by entry, then 29. */
 enum {
-    WD16_JOB_ENDS = 11,           /* inside a count or an entry */
-    WD16_TOO_MANY_PAGES = 12,     /* over 256 */
+    WD16_JOB_ENDS = 11,       /* inside a count or an entry */
+    WD16_TOO_MANY_PAGES = 12, /* over 256 */
     WD16_PAGE_NOT_RISING = 13,
-    WD16_TOO_MANY_WORDS = 14,     /* over 4,096 */
+    WD16_TOO_MANY_WORDS = 14, /* over 4,096 */
     WD16_ADDRESS_ODD = 15,
     WD16_ADDRESS_NOT_RISING = 16,
     WD16_ADDRESS_UNFITTED = 17,
@@ -254,16 +258,15 @@ enum {
     WD16_BAD_JOB_LINE = 19,       /* an unused bit of a line word is set */
     WD16_READ_ONLY_PAGE = 22,     /* not rising, or not fitted */
     WD16_JOB_BYTES_LEFT = 20,
-
     WD16_TRACE_CUT = 29, /* inside its count or a state, or bytes are left over */
 };
 
-/* Holds another shop's trace of a job against the processor, on a board with the third microm and the jumpers 11 and 11. A job
-   has three sections, each after its count of two bytes, low byte first: fitted pages, a byte each; words, an address and a
-   value, two bytes each; line words; and perhaps a fourth of read-only pages. A trace is a count and, after each step from
-   power-up, R0 to R5, SP, PC, PS with bits 15 and 14 clear, and the mode, all two bytes, low byte first. The verdict is
-   written. Nothing is compared before refusals: 21 for the verdict's length, the job's own in its reading order, 29. The image
-   is the call's own: it takes 80 KB of stack. */
+/* Holds another shop's trace of a job against the processor, on a board with the third microm and the jumpers 11 and 11. A
+   job has three sections, each after its count of two bytes, low byte first: fitted pages, a byte each; words, an address
+   and a value, two bytes each; line words; and perhaps a fourth of read-only pages. A trace is a count and, after each step
+   from power-up, R0 to R5, SP, PC, PS with bits 15 and 14 clear, and the mode, all two bytes, low byte first. The verdict is
+   written. Nothing is compared before refusals: 21 for the verdict's length, the job's own in its reading order, 29. The
+   image is the call's own: it takes 80 KB of stack. */
 uint8_t wd16_check_trace(const uint8_t *job, size_t job_length, const uint8_t *trace, size_t trace_length,
                          uint8_t *verdict, size_t verdict_length);
 
@@ -279,8 +282,8 @@ enum {
 /* The cards' bytes: 1 where a channel has its card, else 0. The readings' words: tenths of a degree from -500 to 500, two's
    complement; what stands there for a channel without its card is not read. */
 
-/* A report's bytes, two each, low byte first, but four for the sum. Signed ones are two's complement: take them as int16_t and
-   int32_t. The average is the sum and the number of readings. Lowest, highest and sum are 0 where there is no reading. */
+/* A report's bytes, two each, low byte first, but four for the sum. Signed ones are two's complement: take them as int16_t
+   and int32_t. The average is the sum and the number of readings. Lowest, highest and sum are 0 where there is no reading. */
 enum {
     WD16_READINGS = 0,
     WD16_CARD_BLANKS = 2, /* the scans in which the channel had no card */
@@ -289,25 +292,25 @@ enum {
     WD16_SUM = 8,
 };
 
-/* A recorder's bytes: the number of its scans, two bytes, low byte first, then the reports of channels 0 to 15. A recorder before
-   its first scan is all 0. */
+/* A recorder's bytes: the number of its scans, two bytes, low byte first, then the reports of channels 0 to 15. A recorder
+   before its first scan is all 0. */
 enum {
     WD16_SCANS = 0,
     WD16_REPORTS = 2,
 };
 
-/* Refusals, in the order in which they are looked for: 21 (the cards or the readings are not 16, the recorder not 194 bytes, the
-   channel not 1 or the report not 12; a card's byte is over 1; or as of a run), then a run's, then these. */
+/* Refusals, in the order in which they are looked for: 21 (the cards or the readings are not 16, the recorder not 194 bytes,
+   the channel not 1 or the report not 12; a card's byte is over 1; or as of a run), then a run's, then these. */
 enum {
     WD16_BAD_READING = 33, /* a reading of a channel that has its card is not from -500 to 500 */
     WD16_SCANS_FULL = 37,  /* a scan past the 4,096th */
     WD16_NO_CHANNEL = 34,  /* a report on a channel over 15 */
 };
 
-/* One scan: where all sixteen channels have their cards, page FE is fitted and writable, and the readings stand at FE00 on, low byte
-   first; else page FE is unfitted and stays as lent; whatever the map says, which is not changed. Then a run over the line words,
-   from the state where the last scan ended: the state, the tally and the image as after wd16_run, and the recorder with one scan
-   more. Refusals: 21, 1, 2, 3, 35, 4, 5, 33, 37. */
+/* One scan: where all sixteen channels have their cards, page FE is fitted and writable, and the readings stand at FE00 on,
+   low byte first; else page FE is unfitted and stays as lent; whatever the map says, which is not changed. Then a run over
+   the line words, from the state where the last scan ended: the state, the tally and the image as after wd16_run, and the
+   recorder with one scan more. Refusals: 21, 1, 2, 3, 35, 4, 5, 33, 37. */
 uint8_t wd16_scan(uint8_t *state, size_t state_length, uint8_t *tally, size_t tally_length, uint8_t *image,
                   size_t image_length, const uint8_t *map, size_t map_length, const uint16_t *lines, size_t lines_length,
                   const uint8_t *settings, size_t settings_length, const uint8_t *cards, size_t cards_length,
