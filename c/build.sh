@@ -1,11 +1,11 @@
 #!/usr/bin/env bash
 # Builds the C examples, the server of calls, bench and list in target/c, for tests that run before the proof:
-#   example, text, serve, bench, list
-#   example-asan, text-asan, serve-asan       under the address sanitizer
+#   example, text, shop, serve, bench, list
+#   example-asan, text-asan, shop-asan, serve-asan       under the address sanitizer
 # The library's code is the module that the toolchain makes of a program that calls the exported functions (rt try, which
-# proves nothing), compiled for this machine. With arguments the libraries are those instead, for x86-64, such as
-# target/staticlib/libfirmware.a and libtextc.a, which rt staticlib firmware textc proves and writes; then the sanitizer is left
-# out where this machine is not x86-64.
+# proves nothing), compiled for this machine. With arguments the libraries are those instead, for x86-64: those in
+# target/staticlib that rt staticlib firmware textc assembler_c tracecall lentrecorder proves and writes, all five; then the
+# sanitizer is left out where this machine is not x86-64.
 #   c/build.sh [LIBRARY ..]
 set -euo pipefail
 cd "$(dirname "$0")/.."
@@ -42,7 +42,7 @@ sanitized_module() {
 
 sanitized() { # FILES
     local name
-    for name in example text serve; do
+    for name in example text shop serve; do
         cc $flags -Ic -I"$out" -fsanitize=address -fno-sanitize-recover "c/$name.c" "$@" -o "$out/$name-asan"
     done
 }
@@ -52,9 +52,9 @@ if [ $# -eq 0 ]; then
     unproved_library
     sanitized_module
     sanitized "$out/exports.c" "$out/sanitized.o"
-    for name in example text serve; do cc $flags -Ic -I"$out" "c/$name.c" "$out/libfirmware.a" -o "$out/$name"; done
+    for name in example text shop serve; do cc $flags -Ic -I"$out" "c/$name.c" "$out/libfirmware.a" -o "$out/$name"; done
 else
-    for name in example text serve; do x86_64_cc $flags -Ic -I"$out" "c/$name.c" "$@" -o "$out/$name"; done
+    for name in example text shop serve; do x86_64_cc $flags -Ic -I"$out" "c/$name.c" "$@" -o "$out/$name"; done
     [ "$(uname -m)" != x86_64 ] || sanitized "$@"
 fi
 for name in bench list; do

@@ -32,7 +32,7 @@ all_compared() { # NAME SEED COMMAND
     compared calls "$1" "$2" "$cases" "$3"
     compared text "$1" "$2" "$((cases / 10))" "$3"
     compared asm "$1" "$2" "$((cases / 10))" "$3"
-    compared scans "$1" "$2" "$((cases / 40))" "$3"
+    compared scans "$1" "$2" "$((cases / 20))" "$3"
     compared trace "$1" "$2" "$((cases / 20))" "$3"
 }
 
@@ -43,14 +43,14 @@ vectors() { # NAME
     echo "$1 ok"
 }
 
-for name in example text; do example "$name" '' $emulator; done
+for name in example text shop; do example "$name" '' $emulator; done
 for name in w05-read-only w06-listing-and-c w07-assembler w08-trace w09-columns w10-no-cause-7 w13-recorder w14-jumpers; do
     vectors "$name"
 done
 all_compared serve "$seed" "$emulator target/c/serve" &
 plain=$!
 if [ -x target/c/serve-asan ]; then
-    for name in example text; do example "$name" -asan; done
+    for name in example text shop; do example "$name" -asan; done
     all_compared serve-asan "$((seed + 1))" target/c/serve-asan
 fi
 wait "$plain"

@@ -145,7 +145,7 @@ ends 1 'REFUSED 17' "$told" listed jobs/refused.txt 0082 0080
 ends 1 'REFUSED 11' "$told" listed "$made/short" 0 0
 ends 1 '' "$falling" listed "$made/falling.txt" 0 0
 ends 2 '' "hitch: list takes a job, a first and a last address; $more" listed jobs/example.txt 0080
-ends 2 '' "hitch: one file at a time; $more" listed jobs/example.txt 0080 0082 0084
+ends 2 '' "hitch: one job, a first and a last address; $more" listed jobs/example.txt 0080 0082 0084
 ends 2 '' "hitch: '00G0' is no address: one to four hex digits; $more" listed jobs/example.txt 00G0 0082
 ends 2 '' "hitch: '10000' is no address: one to four hex digits; $more" listed jobs/example.txt 0 10000
 ends 2 '' "hitch: '' is no address: one to four hex digits; $more" listed jobs/example.txt '' 0

@@ -28,7 +28,7 @@ impl Level {
     pub const BASE: Level = Level(0);
     /// All wishes.
     pub const ALL: Level = Level(14);
-    /// What the proved processor has: bench, speed and difftest are held to this one.
+    /// What the proved code has: bench, speed and difftest are held to this one.
     pub const LANDED: Level = Level(14);
 
     /// The level that a program is told, or the landed one.

@@ -1,11 +1,13 @@
 // Reads the text of an op code, a line of standard input, and prints its words; a line of words in hex is written as text. A line that is refused is printed with a mark under its column and the reason in words.
 ghost use Prim.Native.Nat.{_≤_, _<_};
 ghost use lib.ListN.{length};
-use letters::hex;
+use letters::put_hex4;
 use libc::STDIN_FILENO;
 use libc::STDOUT_FILENO;
 use optext::ReadBack;
 use optext::Written;
+use optext::reading::after;
+use optext::reading::un_hex4;
 
 fn put(text: &[u8]) {
     io::write_all(STDOUT_FILENO, text);
@@ -54,16 +56,6 @@ fn is_digit(c: u8) -> bool {
     ((48 <= c) & (c < 58)) | ((65 <= c) & (c < 71))
 }
 
-// The number of a digit.
-fn digit(c: u8) -> u16
-    ensures { λ r. ⌜ r < 16 ⌝ }
-{
-    if c < 58 {
-        return (c % 16) as u16;
-    }
-    ((c % 16 + 9) % 16) as u16
-}
-
 // Do four digits stand at a place?
 fn is_word(line: &[u8], at: usize) -> bool
     requires { ⌜ at < 11 ⌝ }
@@ -89,14 +81,8 @@ fn is_words(line: &[u8]) -> bool {
 }
 
 // The word whose digits begin at a place.
-fn word_at(line: &[u8], at: usize) -> u16
-    requires { ⌜ at < 11 ⌝ }
-{
-    let a = digit(byte(line, at));
-    let b = digit(byte(line, at + 1));
-    let c = digit(byte(line, at + 2));
-    let d = digit(byte(line, at + 3));
-    a * 4096 + b * 256 + c * 16 + d
+fn word_at(line: &[u8], at: usize) -> u16 {
+    un_hex4(after(line, at))
 }
 
 // Prints the text of the op code that begins at a place, and answers the place after its words.
@@ -141,12 +127,8 @@ fn write_words(line: &[u8]) {
 }
 
 fn put_word(w: u16) {
-    let digits = [
-        hex(w / 4096),
-        hex(w / 256 % 16),
-        hex(w / 16 % 16),
-        hex(w % 16),
-    ];
+    let mut digits = [0u8; 4];
+    put_hex4(&mut digits, w);
     put(&digits);
 }
 
