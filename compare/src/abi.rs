@@ -99,11 +99,6 @@ pub fn ended(
 
 /// What takes the calls.
 pub trait Interface {
-    /// Whether there is such a call.
-    fn has(&self, _call: Call) -> bool {
-        true
-    }
-
     /// Makes a call; answers 0 or its refusal, and leaves the buffers as they are after it.
     fn call(&mut self, call: Call, buffers: &mut [Vec<u8>]) -> u8;
 }

@@ -106,24 +106,7 @@ impl Served {
     }
 }
 
-/// The calls that the library has; the others wait for their wish.
-const LIBRARY: [Call; 9] = [
-    Call::PowerUp,
-    Call::Step,
-    Call::Run,
-    Call::WriteText,
-    Call::ReadText,
-    Call::Assemble,
-    Call::Scan,
-    Call::Report,
-    Call::CheckTrace,
-];
-
 impl Interface for Served {
-    fn has(&self, call: Call) -> bool {
-        LIBRARY.contains(&call)
-    }
-
     fn call(&mut self, call: Call, buffers: &mut [Vec<u8>]) -> u8 {
         self.exchange(call, buffers)
             .expect("the server answers each call")

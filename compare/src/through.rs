@@ -114,17 +114,11 @@ impl<I: Interface> Answers for Through<I> {
     }
 
     fn assemble(&mut self, _: Level, source: &[u8], section: &mut [u8]) -> Answer<usize> {
-        if !self.interface.has(Call::Assemble) {
-            return None;
-        }
         let answer = self.answered(Call::Assemble, source, section);
         Some(answer.map(|[length, ..]| length))
     }
 
     fn trace(&mut self, _: Level, job: &[u8], trace: &[u8]) -> Answer<Verdict> {
-        if !self.interface.has(Call::CheckTrace) {
-            return None;
-        }
         match self.answered(Call::CheckTrace, job, &mut trace.to_vec()) {
             Ok(words) => Some(Ok(abi::verdict_of(words)?)),
             Err(refusal) => Some(Err(refusal)),
@@ -140,9 +134,6 @@ impl<I: Interface> Answers for Through<I> {
         channels: &[Channel; CHANNELS],
         lines: &[u16],
     ) -> Answer<Ran> {
-        if !self.interface.has(Call::Scan) {
-            return None;
-        }
         let mut list = self.lent(setup, &s, m, lines).into_list(self.level);
         list.extend(abi::channels_bytes(channels)?);
         list.push(abi::tallies_bytes(tallies));
