@@ -195,6 +195,22 @@ place="an odd origin, or words on an earlier line's or past FFFF (refusal 28 at 
 refused $'.ORG 0081\n'"$place 1, from 0)" 'NOP\n.ORG 0081\n'
 refused $'NOP\n'"$place 2, from 0)" 'NOP\n.ORG 0000\nNOP\n'
 refused 'line 1, from 0, is longer than 32 bytes' "NOP\\n$(printf '%033d' 0)\\nNOP\\n"
+# A listing's texts, each after .ORG with its address, are assembled to the words that the listing shows.
+python3 - jobs/card-pulled.0080-0092.list "$made/again.asm" "$made/again.words" <<'END'
+import struct, sys
+lines = [line.split() for line in open(sys.argv[1])]
+addresses = [int(line[0], 16) for line in lines]
+source, words = [], []
+for line, address, end in zip(lines, addresses, addresses[1:] + [0x0092 + 2]):
+    shown = line[1 : 1 + (end - address) // 2]
+    if shown != ["----"]:
+        source += [".ORG " + line[0], " ".join(line[1 + len(shown) :])]
+        words += [(address + 2 * k, int(word, 16)) for k, word in enumerate(shown)]
+open(sys.argv[2], "w").write("\n".join(source) + "\n")
+open(sys.argv[3], "wb").write(struct.pack("<H", len(words)) + b"".join(struct.pack("<HH", *word) for word in words))
+END
+ends 0 "$(od -An -v -tx1 "$made/again.words")" "$asm" assembled "$made/again.asm"
+
 for _ in $(seq 1025); do echo; done >"$made/many.asm"
 ends 1 '' "$asm"$'\nmore than 1024 lines (refusal 36)' ./hitch asm --unproved "$made/many.asm"
 sed 1d "$made/many.asm" >"$made/most.asm"

@@ -20,11 +20,11 @@ use Rattle.listing.specs.Listing.{stands, allStand, wordsAt, foundAt, li
 use Rattle.listing.specs.Calls.{Left, left, told, lineWhy, nextOf, lineCall}
 use Rattle.listing.specs.Joined.{good}
 
-and-true : (p q : Bool) → (p && q) ≡ true → (p ≡ true) × (q ≡ true)
+pub and-true : (p q : Bool) → (p && q) ≡ true → (p ≡ true) × (q ≡ true)
 and-true true q e = (refl, e)
 and-true false q e = let z : _≡_ {A = ℕ} 0 1 = ap (λ (b : Bool). cond b 1 0) e in absurd (omega arith)
 
-or-right : (p q : Bool) → p ≡ false → (p || q) ≡ true → q ≡ true
+pub or-right : (p q : Bool) → p ≡ false → (p || q) ≡ true → q ≡ true
 or-right true q n e = let z : _≡_ {A = ℕ} 1 0 = ap (λ (b : Bool). cond b 1 0) n in absurd (omega arith)
 or-right false q n e = e
 

@@ -22,7 +22,7 @@ ghost use Rattle.listing.specs.Calls as Call;
 const TEXT_SHORT: u8 = 8;
 
 // What stands at an address: nothing is fitted there; an op code that is cut; or a whole op code, with the number of its words.
-enum Found {
+pub enum Found {
     Nothing,
     Cut,
     Whole(usize),
