@@ -2,21 +2,21 @@
 -- Assumes nothing.
 use mathlib.Core.Path.{_≡_, refl, ap, sym, _∙_}
 use mathlib.Core.Bool.{Bool, true, false, cond}
-use mathlib.Core.List.{List, [], _∷_, _++_}
+use mathlib.Core.List.{List, [], _∷_, _++_, append-nil}
 use mathlib.Core.Logic.{_⊎_, ⊎-elim}
-use Prim.Native.Nat.{ℕ, zero, suc, _+_, _*_, _/_, _%_, _≤_, _<_}
+use Prim.Native.Nat.{ℕ, suc, _+_, _<_}
 use native.Mathlib.Omega.{arith}
-use lib.Dec.{ltb, eqb}
-use borrow.Author.Tests.{ne-eqb, eqb-true, lt-ltb}
+use lib.Dec.{eqb}
+use borrow.Author.Tests.{ne-eqb, lt-ltb}
 use lib.ListN.{length, drop}
-use Rattle.letters.specs.Digits.{letters, digits, hexOf, hex4}
+use Rattle.letters.specs.Digits.{letters, hex4}
 use Rattle.optext.specs.declared.Op.{Op}
-use Rattle.optext.specs.Digits.{unHex, unHex4}
+use Rattle.optext.specs.Digits.{unHex4}
 use Rattle.optext.specs.Line.{wordText, taken, textOf}
+use Rattle.optext.specs.Back.{hex4-back}
 use Rattle.optext.specs.Column.{Whole}
 use Rattle.optext.specs.Read.{same-refl, readOf, opOf}
 use Rattle.optext.specs.Reader.{read-of-text, read-word, read-origin, read-nothing, any-word-text}
-use Rattle.patchline.specs.Search.{eq-cases}
 use Rattle.patchline.specs.declared.oneline.How.{How}
 use Rattle.patchline.specs.declared.oneline.How.the-variants.{Origin, Plain}
 use Rattle.patchline.specs.Line.{secondIn, labelIn, opIn, op, says, isNumber, isDirective, saidOf, withLabel}
@@ -103,26 +103,8 @@ word-line w = any-word-text w
 unfoldable pub originLine : ℕ → List ℕ
 originLine a = letters ".ORG " ++ hex4 a
 
--- a test at all numbers below one, in one computation
-abbrev allBelow : (ℕ → Bool) → ℕ → Bool
-allBelow f zero = true
-allBelow f (suc n) = cond (f n) (allBelow f n) false
-
-below : (f : ℕ → Bool) (n : ℕ) → allBelow f n ≡ true → (k : ℕ) → k < n → f k ≡ true
-below f zero e k h = absurd (omega arith)
-below f (suc n) e k h = go (f n) refl e (λ q. below f n q k)
-  where
-    go : (b : Bool) → f n ≡ b → cond b (allBelow f n) false ≡ true → (allBelow f n ≡ true → k < n → f k ≡ true) → f k ≡ true
-    go true p q r = ⊎-elim (λ z. ap f z ∙ p) (λ z. r q (omega arith)) (eq-cases k n)
-    go false p q r = cc
-
-digit-back : (d : ℕ) → d < 16 → unHex (hexOf d) ≡ d
-unfolding unHex hexOf digits
-digit-back d h = eqb-true _ _ (below (λ (d : ℕ). eqb (unHex (hexOf d)) d) 16 refl d h)
-
 four-back : (w : ℕ) → w < 65536 → unHex4 (hex4 w) ≡ w
-unfolding unHex4 hex4
-four-back w h = rw (digit-back (w / 4096) (omega arith), digit-back (w / 256 % 16) (omega arith), digit-back (w / 16 % 16) (omega arith), digit-back (w % 16) (omega arith)) (omega arith)
+four-back w h = ap unHex4 (sym (append-nil (hex4 w))) ∙ hex4-back w [] h
 
 is-number : (w : ℕ) → w < 65536 → isNumber (hex4 w) ≡ true
 unfolding isNumber

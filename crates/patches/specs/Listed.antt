@@ -1,9 +1,9 @@
 -- A LISTING, ASSEMBLED AGAIN, GIVES THE IMAGE'S WORDS BACK: the texts of its lines, each after .ORG with its address, are a source whose section has the
 -- fitted words of the stretch, no other and no fewer.
 -- Assumes nothing.
-use mathlib.Core.Path.{_≡_, refl, ap, sym, _∙_, subst}
+use mathlib.Core.Path.{_≡_, refl, ap, sym, _∙_}
 use mathlib.Core.Bool.{Bool, true, false, cond, _&&_, _||_}
-use mathlib.Core.List.{List, [], _∷_, _++_, append-assoc}
+use mathlib.Core.List.{List, [], _∷_, _++_}
 use Prim.Native.Nat.{ℕ, zero, suc, _+_, _*_, _%_, _≤_, _<_}
 use native.Mathlib.Omega.{arith}
 use lib.Dec.{leb, ltb}
@@ -25,7 +25,7 @@ use Rattle.assembler.specs.Section.{entryOf, sectionOf}
 use Rattle.assembler.specs.Answer.{section, after, asmOf}
 use Rattle.patches.specs.Again.{text-said, word-said}
 use Rattle.patches.specs.Padded.{sourceOf}
-use Rattle.patches.specs.Pieces.{Piece, endOf, linesOf, entriesFrom, entriesOf, Good, Rise, pieces-again}
+use Rattle.patches.specs.Pieces.{Piece, linesOf, entriesFrom, entriesOf, Good, Rise, pieces-again}
 
 -- ---- the pieces of a listing
 

@@ -1,13 +1,13 @@
 -- A SOURCE OF PIECES, .ORG and a text each, at rising addresses: it is assembled, and its section has exactly the pieces' words.
 -- Assumes nothing.
-use mathlib.Core.Path.{_≡_, refl, ap, sym, _∙_, subst}
-use mathlib.Core.Bool.{Bool, true, false, cond, not, _&&_, _||_}
+use mathlib.Core.Path.{_≡_, refl, ap, sym, _∙_}
+use mathlib.Core.Bool.{Bool, true, false, cond, _&&_}
 use mathlib.Core.List.{List, [], _∷_, _++_, append-nil, append-assoc}
 use mathlib.Core.Logic.{_⊎_, inl, inr, ⊎-elim}
-use Prim.Native.Nat.{ℕ, zero, suc, _+_, _-_, _*_, _/_, _%_, _≤_, _<_}
+use Prim.Native.Nat.{ℕ, zero, suc, _+_, _-_, _*_, _%_, _≤_, _<_}
 use native.Mathlib.Omega.{arith}
 use lib.Dec.{ltb, eqb}
-use borrow.Author.Tests.{le-ltb, ltb-false, eq-eqb}
+use borrow.Author.Tests.{le-ltb}
 use lib.ListN.{length, take, getD}
 use lib.Seq.{take-length}
 use Rattle.letters.specs.Digits.{letters}
@@ -15,15 +15,11 @@ use Rattle.letters.specs.Over.{over}
 use Rattle.word.specs.Address.{plus}
 use Rattle.optext.specs.declared.Op.{Op}
 use Rattle.optext.specs.Read.{opOf}
-use Rattle.optext.specs.First.{firstFrom}
 use Rattle.optext.specs.Shown.{Stands, number-stands}
-use Rattle.patchline.specs.Search.{lt-cases, first-hit}
 use Rattle.patchline.specs.declared.oneline.How.{How}
-use Rattle.patchline.specs.declared.oneline.How.the-variants.{Unknown, Origin, Plain, Branch, Sob, Relative}
-use Rattle.patchline.specs.declared.oneline.Said.{Said}
-use Rattle.patchline.specs.Text.{labelOf}
-use Rattle.patchline.specs.Line.{firstIn, secondIn, labelIn, op, says, saidOf, reaches}
-use Rattle.assembler.specs.Source.{countOf, lineAt, textAt, saidAt, isOrigin, originAt, endAt, hereOf, isUnknown, isGiven, hasLabels, lacks, overlaps, isOdd, misplaced, isFar, far, fails, lowest, valueOf, wordsIn}
+use Rattle.patchline.specs.declared.oneline.How.the-variants.{Origin, Plain}
+use Rattle.patchline.specs.Line.{op, says, saidOf, reaches}
+use Rattle.assembler.specs.Source.{countOf, textAt, saidAt, originAt, endAt, hereOf, isUnknown, isGiven, hasLabels, lacks, overlaps, isOdd, misplaced, isFar, far, valueOf}
 use Rattle.assembler.specs.Section.{inserted, entryOf, entered, placed, sectionOf}
 use Rattle.assembler.specs.Answer.{section, after, assembled, asmOf}
 use Rattle.assembler.specs.Good.{Right, no-first, nothing-wrong}
