@@ -3,18 +3,14 @@
 use mathlib.Core.Path.{_≡_, refl, _∙_}
 use mathlib.Core.Logic.{_⊎_, ⊎-elim}
 use mathlib.Core.List.{List}
-use Prim.Native.Nat.{ℕ, _+_, _-_, _*_, _≤_, _<_}
+use Prim.Native.Nat.{ℕ, _+_, _-_, _*_, _<_}
 use native.Mathlib.Numerals.{add-one}
 use native.Mathlib.Omega.{arith}
-use lib.ListN.{length, take, drop, getD, set, length-take, length-drop}
+use lib.ListN.{length, take, drop, getD, set}
 use lib.Seq.{getD-set-same, getD-set-other}
 use Rattle.assembler.specs.Source.{lineAt, saidAt, originAt, endAt, nextFrom, endFrom}
 use Rattle.patchline.specs.declared.oneline.Said.{Said}
 use Rattle.patchline.specs.Search.{eq-cases}
-
-pub line-le : (s : List ℕ) (i : ℕ) → length (lineAt s i) ≤ 32
-unfolding lineAt
-line-le s i = simp (length-take, length-drop) (omega arith)
 
 pub line-is : (s : List ℕ) (i : ℕ) → take (32 * i + 32 - 32 * i) (drop (32 * i) s) ≡ lineAt s i
 unfolding lineAt

@@ -52,7 +52,7 @@ fn line_at(source: &[u8], i: usize) -> &[u8]
 // What stands in a line after its label.
 pub(crate) fn text_at(source: &[u8], i: usize) -> &[u8]
     requires { ⌜ i < countOf (now source) ⌝ }
-    ensures { λ r. ⌜ (now r ≡ textAt (now (source .entry)) i) × (length (now r) ≤ 32) ⌝ }
+    ensures { λ r. ⌜ now r ≡ textAt (now (source .entry)) i ⌝ }
 {
     rest(line_at(source, i))
 }
@@ -222,7 +222,6 @@ fn is_missing(source: &[u8], u: &[u8]) -> bool
 }
 
 fn lack(source: &[u8], t: &[u8]) -> bool
-    requires { ⌜ length (now t) ≤ 32 ⌝ }
     ensures { λ r. ⌜ r ≡ lacks (now (source .entry)) (now (t .entry)) ⌝ }
 {
     let s = meaning(t);
@@ -289,7 +288,7 @@ fn is_far(source: &[u8], starts: &[u32; 1025], how: How, h: u16, u: &[u8]) -> bo
 }
 
 fn too_far(source: &[u8], starts: &[u32; 1025], h: u16, t: &[u8]) -> bool
-    requires { ⌜ Starts (now source) (now starts) × (length (now t) ≤ 32) ⌝ }
+    requires { ⌜ Starts (now source) (now starts) ⌝ }
     ensures { λ r. ⌜ r ≡ far (now (source .entry)) h (now (t .entry)) ⌝ }
 {
     let s = meaning(t);
@@ -354,7 +353,7 @@ fn put_label(
 
 // The words of a line, with its labels in them.
 pub(crate) fn words_in(source: &[u8], starts: &[u32; 1025], h: u16, t: &[u8]) -> Op
-    requires { ⌜ Starts (now source) (now starts) × (length (now t) ≤ 32) ⌝ }
+    requires { ⌜ Starts (now source) (now starts) ⌝ }
     ensures { λ r. ⌜ r ≡ wordsIn (now (source .entry)) h (now (t .entry)) ⌝ }
 {
     let s = meaning(t);

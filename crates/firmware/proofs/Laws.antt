@@ -6,7 +6,7 @@ use mathlib.Core.Path.{_≡_, refl, sym, ap, _∙_}
 use native.Mathlib.Omega.{arith}
 use lib.ListN.{length, take, drop}
 use lib.Seq.{take-length, drop-length}
-use borrow.Author.Tests.{eqb-true, not-false}
+use borrow.Author.Tests.{eqb-true, ne-eqb, not-false}
 use Rattle.state.specs.declared.State.{State}
 use Rattle.state.specs.declared.Settings.{Settings}
 use Rattle.step.specs.declared.Turn.{Turn}
@@ -22,12 +22,17 @@ use Rattle.machine.specs.declared.Finished.the-variants as Finished
 use Rattle.refusal.specs.Numbers.{noState}
 use Rattle.machine.specs.Numbers.{statePage, nowhere, toldOf, placeOf}
 use Rattle.machine.specs.Entry.{left, poweredPage, steppedPage, finishedPage, powerUpPage, stepPage, runPage}
-use Rattle.firmware.specs.Layout.{bytesOf, tallyBytes, stateFrom, settingsFrom, over, notState, notTally, refusedState, refusedSettings, refusedUp, refusedStep, refusedRun}
+use Rattle.firmware.specs.Layout.{bytesOf, tallyBytes, stateFrom, settingsFrom, over, notState, notTally, refusedState, refusedSettings, refusedUp, refusedStep, refusedRun, laid}
+use Rattle.firmware.specs.Laid.{laid-all, laid-state, laid-tally}
 use Rattle.firmware.specs.Calls.{powerUpCall, went, stepCall, ended, runCall}
 
--- a buffer that is as long as what is copied into it is what was copied
-pub copied : (from b b′ : List ℕ) → length b ≡ length from → b′ ≡ take (length from) from ++ drop (length from) b → b′ ≡ from
-copied from b b′ l e = e ∙ rw (take-length from, ← l, drop-length b, append-nil)
+-- bytes are copied over a buffer of as many, and another is left as lent
+pub laid-copy : (bytes from b b′ : List ℕ) → from ≡ bytes → length b ≡ length bytes → b′ ≡ take (length from) from ++ drop (length from) b → b′ ≡ laid bytes b
+laid-copy bytes from b b′ q l e = e ∙ rw (q, take-length bytes, ← l, drop-length b, append-nil, laid-all bytes b l)
+
+pub laid-none : (bytes b : List ℕ) → (length b ≡ length bytes → ⊥) → b ≡ laid bytes b
+unfolding laid
+laid-none bytes b n = rw (ne-eqb (length b) (length bytes) n) refl
 
 -- ---- what is not refused has its length
 
@@ -66,9 +71,9 @@ module _ (b image map w : List ℕ) where
   up-bad e = rw e
 
   pub up-done : (b′ m : List ℕ) (g : Settings) (s : State) (r : Powered) → refusedUp b w ≡ false → g ≡ settingsFrom w → left (poweredPage r) m ≡ powerUpPage g image map
-      → r ≡ Powered.Up s → b′ ≡ bytesOf (statePage s) 0 nowhere → went 0 b′ m ≡ powerUpCall b image map w
+      → r ≡ Powered.Up s → b′ ≡ laid (bytesOf (statePage s) 0 nowhere) b → went 0 b′ m ≡ powerUpCall b image map w
   unfolding powerUpCall
-  up-done b′ m g s r e j f h d = rw (e, ← j, ← f, h, d)
+  up-done b′ m g s r e j f h d = rw (e, ← j, ← f, h, d, laid-state b s 0 nowhere (up-length b w e))
 
   pub up-refused : (m : List ℕ) (g : Settings) (why : ℕ) (r : Powered) → refusedUp b w ≡ false → g ≡ settingsFrom w → left (poweredPage r) m ≡ powerUpPage g image map
       → r ≡ Powered.Refused why → went why b m ≡ powerUpCall b image map w
@@ -84,9 +89,10 @@ module _ (b image map w : List ℕ) (line : ℕ) where
 
   pub went-done : (b′ m : List ℕ) (s : State) (g : Settings) (t : Turn) (r : Stepped) (k : ℕ) (told : Told) → refusedStep b w ≡ false → s ≡ stateFrom b → g ≡ settingsFrom w
       → left (steppedPage r) m ≡ stepPage g image map line s → r ≡ Stepped.Done t → k ≡ causeNumber (t .cause) → told ≡ addressOf (t .cause)
-      → b′ ≡ bytesOf (statePage (t .state)) k (toldOf told) → went 0 b′ m ≡ stepCall b image map w line
+      → b′ ≡ laid (bytesOf (statePage (t .state)) k (toldOf told)) b → went 0 b′ m ≡ stepCall b image map w line
   unfolding stepCall
-  went-done b′ m s g t r k told e f j p h c a d = rw (e, ← f, ← j, ← p, h, d, c, a)
+  went-done b′ m s g t r k told e f j p h c a d =
+      rw (e, ← f, ← j, ← p, h, d, laid-state b (t .state) k (toldOf told) (step-length b w e), c, a)
 
   pub went-refused : (m : List ℕ) (s : State) (g : Settings) (why : ℕ) (r : Stepped) → refusedStep b w ≡ false → s ≡ stateFrom b → g ≡ settingsFrom w
       → left (steppedPage r) m ≡ stepPage g image map line s → r ≡ Stepped.Refused why → went why b m ≡ stepCall b image map w line
@@ -102,10 +108,11 @@ module _ (b t image map w lines : List ℕ) where
 
   pub ended-done : (b′ t′ m : List ℕ) (s : State) (g : Settings) (ran : Ran) (r : Finished) → refusedRun b t w ≡ false → s ≡ stateFrom b → g ≡ settingsFrom w
       → left (finishedPage r) m ≡ runPage g image map lines s → r ≡ Finished.Done ran
-      → b′ ≡ bytesOf (statePage (ran .state)) 0 nowhere → t′ ≡ tallyBytes (ran .tally .blanks) (placeOf (ran .tally .first))
+      → b′ ≡ laid (bytesOf (statePage (ran .state)) 0 nowhere) b → t′ ≡ laid (tallyBytes (ran .tally .blanks) (placeOf (ran .tally .first))) t
       → ended 0 b′ t′ m ≡ runCall b t image map w lines
   unfolding runCall
-  ended-done b′ t′ m s g ran r e f j p h d q = rw (e, ← f, ← j, ← p, h, d, q)
+  ended-done b′ t′ m s g ran r e f j p h d q =
+      rw (e, ← f, ← j, ← p, h, d, laid-state b (ran .state) 0 nowhere (run-length b t w e), q, laid-tally t (ran .tally .blanks) (placeOf (ran .tally .first)) (tally-length b t w e))
 
   pub ended-refused : (m : List ℕ) (s : State) (g : Settings) (why : ℕ) (r : Finished) → refusedRun b t w ≡ false → s ≡ stateFrom b → g ≡ settingsFrom w
       → left (finishedPage r) m ≡ runPage g image map lines s → r ≡ Finished.Refused why → ended why b t m ≡ runCall b t image map w lines

@@ -1,6 +1,6 @@
 -- The lent bytes of a state, of a tally and of the settings.
 use Prim.Native.Nat.{ℕ}
-use mathlib.Core.Bool.{Bool, not, _||_}
+use mathlib.Core.Bool.{Bool, not, _||_, cond}
 use mathlib.Core.List.{List, [], _∷_, _++_}
 use lib.ListN.{length}
 use lib.Dec.{eqb, ltb}
@@ -80,3 +80,8 @@ refusedStep b w = refusedState b || refusedSettings w
 
 unfoldable pub refusedRun : List ℕ → List ℕ → List ℕ → Bool
 refusedRun b t w = refusedStep b w || notTally t
+
+-- ---- bytes over a lent buffer of as many; another is left as lent
+
+unfoldable pub laid : List ℕ → List ℕ → List ℕ
+laid bytes b = cond (eqb (length b) (length bytes)) bytes b

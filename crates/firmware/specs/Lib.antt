@@ -1,4 +1,5 @@
 pub mod Layout
+pub mod Laid
 pub mod Calls
 pub mod Again
 pub mod Next

@@ -11,8 +11,7 @@ use words::high;
 use words::low;
 use words::word_at;
 ghost use mathlib.Core.Path.{_≡_};
-ghost use Prim.Native.Nat.{_+_, _≤_, _<_, _*_};
-ghost use lib.ListN.{length};
+ghost use Prim.Native.Nat.{_≤_};
 ghost use Rattle.word.specs.Number.{digit};
 ghost use Rattle.machine.specs.Numbers as Page;
 ghost use Rattle.machine.specs.Back as Back;
@@ -185,10 +184,13 @@ fn state_bytes(s: State, cause: u8, told: Told) -> [u8; 24]
     ]
 }
 
+// The same over a lent buffer of 24 bytes; another is left as lent.
 pub fn put_state(b: &mut [u8], s: State, cause: u8, told: Told)
-    requires { ⌜ length (now b) ≡ 24 ⌝ }
-    ensures { λ _. ⌜ now (b .exit) ≡ Spec.bytesOf (Page.statePage s) cause (Page.toldOf told) ⌝ }
+    ensures { λ _. ⌜ now (b .exit) ≡ Spec.laid (Spec.bytesOf (Page.statePage s) cause (Page.toldOf told)) (now (b .entry)) ⌝ }
 {
+    if b.len() != 24 {
+        return;
+    }
     let from = state_bytes(s, cause, told);
     bytes::copy(&from, b);
 }
@@ -230,10 +232,13 @@ fn tally_bytes(t: Tally) -> [u8; 6]
     ]
 }
 
+// The same over a lent buffer of 6 bytes; another is left as lent.
 pub fn put_tally(b: &mut [u8], t: Tally)
-    requires { ⌜ length (now b) ≡ 6 ⌝ }
-    ensures { λ _. ⌜ now (b .exit) ≡ Spec.tallyBytes (t .blanks) (Page.placeOf (t .first)) ⌝ }
+    ensures { λ _. ⌜ now (b .exit) ≡ Spec.laid (Spec.tallyBytes (t .blanks) (Page.placeOf (t .first))) (now (b .entry)) ⌝ }
 {
+    if b.len() != 6 {
+        return;
+    }
     let from = tally_bytes(t);
     bytes::copy(&from, b);
 }

@@ -1,7 +1,7 @@
 -- Laws of one line: parts of a text, labels, aliases, texts with digits for their labels, and what a line says.
 -- Assumes nothing.
 use mathlib.Core.Path.{_≡_, refl, ap, sym, _∙_}
-use mathlib.Core.Bool.{Bool, true, false, cond, _&&_}
+use mathlib.Core.Bool.{Bool, true, false, cond, _&&_, true≢false}
 use mathlib.Core.List.{List, [], _∷_, _++_}
 use mathlib.Core.Logic.{_⊎_, inl, inr, ⊎-elim}
 use Prim.Native.Nat.{ℕ, zero, suc, _+_, _-_, _≤_, _<_}
@@ -16,7 +16,7 @@ use Rattle.optext.specs.declared.Op.{Op}
 use Rattle.optext.specs.Digits.{unHex4}
 use Rattle.optext.specs.Read.{same}
 use Rattle.patchline.specs.Search.{lt-cases, first-le}
-use Rattle.patchline.specs.Text.{partOf, endFrom, gives, isName, pastOf, placeOf, isAt, nameIn, labelOf, shown, restOf}
+use Rattle.patchline.specs.Text.{partOf, endFrom, gives, isName, pastOf, placeOf, isAt, nameIn, labelOf}
 use Rattle.patchline.specs.Line.{operandsAt, commaAt, firstIn, secondIn, bare, atOf, labelIn, filledIn, aliasOf, tailOf, filled, isDirective, opIn, says, op, saidOf, saidWith, isBranch, isSob}
 use Rattle.patchline.specs.declared.oneline.How.the-variants.{Origin, Plain}
 use Rattle.patchline.specs.declared.oneline.Said.{Said}
@@ -72,20 +72,18 @@ module _ (l : List ℕ) (n : ℕ) (e : n ≡ pastOf 90 l) where
   unfolding labelOf nameIn
   label-none p = rw (← e, p) refl
 
-cond-le : (b : Bool) (u l : List ℕ) → length u ≤ length l → length (cond b u []) ≤ length l
-cond-le true u l h = h
-cond-le false u l h = omega arith
+-- a name has six letters at most, and so has a label
+pub name-six : (u : List ℕ) → isName u ≡ true → length u ≤ 6
+unfolding isName
+name-six u e = ⊎-elim (λ h. absurd (true≢false (sym (rw (lt-ltb 6 (length u) h) at e)))) (λ h. h) (lt-cases 6 (length u))
 
-take-le : (n : ℕ) (l : List ℕ) → length (take n l) ≤ length l
-take-le n l = simp length-take (omega arith)
-
-pub label-le : (l : List ℕ) → length (labelOf l) ≤ length l
-unfolding labelOf nameIn
-label-le l = cond-le (isName (take (pastOf 90 l) l)) _ l (cond-le (gives (take (pastOf 90 l) l) l) _ l (take-le (pastOf 90 l) l))
-
-pub rest-le : (l : List ℕ) → length (restOf l) ≤ length l
-unfolding restOf shown
-rest-le l = simp (length-take, length-drop) (omega arith)
+pub label-six : (l : List ℕ) → length (labelOf l) ≤ 6
+unfolding labelOf
+label-six l = ⊎-elim (λ p. rw p (omega arith)) (λ p. rw p (go (gives (nameIn l) l) (name-six (nameIn l) p))) (bool-cases (isName (nameIn l)))
+  where
+    go : (b : Bool) → length (nameIn l) ≤ 6 → length (cond b (nameIn l) []) ≤ 6
+    go true h = h
+    go false h = omega arith
 
 -- where operands begin
 pub place-le : (c : ℕ) (t : List ℕ) (i : ℕ) → placeOf c t i ≤ i + (length t - i)
@@ -206,7 +204,7 @@ pub first-in-le : (t : List ℕ) → length (firstIn t) ≤ length t
 unfolding firstIn
 first-in-le t = part-le (operandsAt t) (commaAt t) t
 
-pub filled-le : (d t : List ℕ) → length t ≤ 32 → length d ≤ 8 → length (filled d t) ≤ 120
+pub filled-le : (d t : List ℕ) → length t ≤ 33 → length d ≤ 8 → length (filled d t) ≤ 123
 unfolding filled
 filled-le d t h k =
     let a = alias-le (partOf 0 (operandsAt t) t) in

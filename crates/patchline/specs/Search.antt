@@ -39,6 +39,14 @@ first-le f (suc n) i = go (f i) (first-le f n (suc i))
     go true h = omega arith
     go false h = omega arith
 
+pub first-ge : (f : ℕ → Bool) (n i : ℕ) → i ≤ firstFrom f n i
+first-ge f zero i = omega arith
+first-ge f (suc n) i = go (f i) (first-ge f n (suc i))
+  where
+    go : (b : Bool) → suc i ≤ firstFrom f n (suc i) → i ≤ cond b i (firstFrom f n (suc i))
+    go true h = omega arith
+    go false h = omega arith
+
 pub first-hit : (f : ℕ → Bool) (n i : ℕ) → firstFrom f n i < i + n → f (firstFrom f n i) ≡ true
 first-hit f zero i h = absurd (omega arith)
 first-hit f (suc n) i h = go (f i) refl (λ k. first-hit f n (suc i) k) h

@@ -41,28 +41,26 @@ pub struct Said {
 
 // Where the operands begin.
 fn operands_at(t: &[u8]) -> usize
-    requires { ⌜ length (now t) ≤ 32 ⌝ }
-    ensures { λ r. ⌜ (r ≡ operandsAt (now (t .entry))) × (r ≤ 33) ⌝ }
+    ensures { λ r. ⌜ (r ≡ operandsAt (now (t .entry))) × (r ≤ length (now (t .entry)) + 1) ⌝ }
 {
     place(b' ', t, 0) + 1
 }
 
 fn comma_at(t: &[u8]) -> usize
-    requires { ⌜ length (now t) ≤ 32 ⌝ }
-    ensures { λ r. ⌜ (r ≡ commaAt (now (t .entry))) × (r ≤ 33) ⌝ }
+    ensures { λ r. ⌜ (r ≡ commaAt (now (t .entry))) × (r ≤ length (now (t .entry)) + 1) ⌝ }
 {
     place(b',', t, operands_at(t))
 }
 
 pub fn first(t: &[u8]) -> &[u8]
-    requires { ⌜ length (now t) ≤ 32 ⌝ }
     ensures { λ r. ⌜ now r ≡ firstIn (now (t .entry)) ⌝ }
 {
-    part(t, operands_at(t), comma_at(t))
+    let from = operands_at(t);
+    let to = comma_at(t);
+    part(t, from, to)
 }
 
 pub fn second(t: &[u8]) -> &[u8]
-    requires { ⌜ length (now t) ≤ 32 ⌝ }
     ensures { λ r. ⌜ now r ≡ secondIn (now (t .entry)) ⌝ }
 {
     after(t, comma_at(t) + 1)
@@ -119,7 +117,7 @@ fn put_at(out: &mut [u8], at: usize, s: &[u8]) -> usize
 
 // The mnemonic and its space, of an alias the op code's.
 fn put_alias(out: &mut [u8], h: &[u8]) -> usize
-    requires { ⌜ (33 ≤ length (now out)) × (length (now h) ≤ 32) ⌝ }
+    requires { ⌜ (33 ≤ length (now out)) × (length (now h) ≤ 33) ⌝ }
     ensures { λ n. ⌜ Wrote (aliasOf (now (h .entry))) (now (out .entry)) (now (out .exit)) n ⌝ }
 {
     if same(h, b"BHIS ") {
@@ -139,7 +137,7 @@ fn put_alias(out: &mut [u8], h: &[u8]) -> usize
 
 // An operand with digits where its label stands.
 fn put_operand(out: &mut [u8], o: &[u8], d: &[u8]) -> usize
-    requires { ⌜ (42 ≤ length (now out)) × (length (now o) ≤ 32) × (length (now d) ≤ 8) ⌝ }
+    requires { ⌜ (42 ≤ length (now out)) × (length (now o) ≤ 33) × (length (now d) ≤ 8) ⌝ }
     ensures { λ n. ⌜ Wrote (filledIn (now (d .entry)) (now (o .entry))) (now (out .entry)) (now (out .exit)) n ⌝ }
 {
     if is_name(bare(o)) {
@@ -151,7 +149,7 @@ fn put_operand(out: &mut [u8], o: &[u8], d: &[u8]) -> usize
 }
 
 fn put_operand_at(out: &mut [u8], at: usize, o: &[u8], d: &[u8]) -> usize
-    requires { ⌜ (at + 42 ≤ length (now out)) × (length (now o) ≤ 32) × (length (now d) ≤ 8) ⌝ }
+    requires { ⌜ (at + 42 ≤ length (now out)) × (length (now o) ≤ 33) × (length (now d) ≤ 8) ⌝ }
     ensures { λ n. ⌜ WroteAt at (filledIn (now (d .entry)) (now (o .entry))) (now (out .entry)) (now (out .exit)) n ⌝ }
 {
     let n = put_operand(&mut out[at..], o, d);
@@ -160,7 +158,7 @@ fn put_operand_at(out: &mut [u8], at: usize, o: &[u8], d: &[u8]) -> usize
 
 // The comma and the second operand, if there is one.
 fn put_tail_at(out: &mut [u8], at: usize, t: &[u8], d: &[u8]) -> usize
-    requires { ⌜ (at + 43 ≤ length (now out)) × (length (now t) ≤ 32) × (length (now d) ≤ 8) ⌝ }
+    requires { ⌜ (at + 43 ≤ length (now out)) × (length (now t) ≤ 33) × (length (now d) ≤ 8) ⌝ }
     ensures { λ n. ⌜ WroteAt at (tailOf (now (d .entry)) (now (t .entry))) (now (out .entry)) (now (out .exit)) n ⌝ }
 {
     if comma_at(t) < t.len() {
@@ -172,7 +170,7 @@ fn put_tail_at(out: &mut [u8], at: usize, t: &[u8], d: &[u8]) -> usize
 
 // The text with digits where its labels stand, in front of a lent one.
 fn put_filled(out: &mut [u8], t: &[u8], d: &[u8]) -> usize
-    requires { ⌜ (128 ≤ length (now out)) × (length (now t) ≤ 32) × (length (now d) ≤ 8) ⌝ }
+    requires { ⌜ (128 ≤ length (now out)) × (length (now t) ≤ 33) × (length (now d) ≤ 8) ⌝ }
     ensures { λ n. ⌜ Wrote (filled (now (d .entry)) (now (t .entry))) (now (out .entry)) (now (out .exit)) n ⌝ }
 {
     let n = put_alias(out, part(t, 0, operands_at(t)));
@@ -180,11 +178,15 @@ fn put_filled(out: &mut [u8], t: &[u8], d: &[u8]) -> usize
     put_tail_at(out, m, t, d)
 }
 
-// The op code whose text it then is.
+// The op code whose text it then is. Its text has 24 characters at most, and a text loses nine at most where digits and an
+// op code's name stand for labels and an alias: so a text over 33 is no op code's.
 fn filled_op(t: &[u8], d: &[u8]) -> Op
-    requires { ⌜ (length (now t) ≤ 32) × (length (now d) ≤ 8) ⌝ }
+    requires { ⌜ (2 ≤ length (now d)) × (length (now d) ≤ 8) ⌝ }
     ensures { λ r. ⌜ (r ≡ opIn (filled (now (d .entry)) (now (t .entry)))) × (r .count ≤ 3) ⌝ }
 {
+    if 33 < t.len() {
+        return word_op(0, 0);
+    }
     let mut out = [0u8; 128];
     let n = put_filled(&mut out, t, d);
     optext::op_of(&out[..n])
@@ -260,7 +262,6 @@ fn said_with(field: Op, offset: Op) -> Said
 
 // What the rest of a line says.
 pub fn meaning(t: &[u8]) -> Said
-    requires { ⌜ length (now t) ≤ 32 ⌝ }
     ensures { λ r. ⌜ (r ≡ saidOf (now (t .entry))) × (r .op .count ≤ 3) ⌝ }
 {
     if t.len() == 0 {

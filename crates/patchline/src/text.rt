@@ -145,9 +145,9 @@ fn unpadded(t: &[u8]) -> &[u8]
     &t[..n]
 }
 
-// How far the rest of a line is behind its label.
+// How far the rest of a line is behind its label, which has six letters at most.
 fn skipped(n: usize) -> usize
-    requires { ⌜ n ≤ 32 ⌝ }
+    requires { ⌜ n ≤ 6 ⌝ }
     ensures { λ r. ⌜ r ≡ restFrom n ⌝ }
 {
     if n == 0 {
@@ -158,8 +158,7 @@ fn skipped(n: usize) -> usize
 
 // The rest of a line, after its label.
 pub fn rest(line: &[u8]) -> &[u8]
-    requires { ⌜ length (now line) ≤ 32 ⌝ }
-    ensures { λ r. ⌜ (now r ≡ restOf (now (line .entry))) × (length (now r) ≤ 32) ⌝ }
+    ensures { λ r. ⌜ now r ≡ restOf (now (line .entry)) ⌝ }
 {
     let n = label(line).len();
     unpadded(after(line, skipped(n)))

@@ -1,14 +1,11 @@
 use mathlib.Core.Path.{sym, _∙_}
-use Rattle.firmware.proofs.Laws.{up-length, up-bad, up-done, up-refused}
+use Rattle.firmware.proofs.Laws.{up-bad, up-done, up-refused}
 use borrow.Author.Needs.{needs}
 use Rattle.firmware.proofs.wd16_power_up.Statement.{statement}
 use Rattle.firmware.proofs.wd16_power_up.Tie as tie
 
 returns : tie.Need-returns
 returns c = up-bad _ _ _ _ (sym (c .before .refused-up .ensures) ∙ c .if1 .taken)
-
-put-state-requires : tie.Need-put-state-requires
-put-state-requires c κs = up-length _ _ (sym (c .before .before .before .before .before .before .before .before .before .before .refused-up .ensures) ∙ c .before .before .before .before .before .before .before .before .before .if1 .left)
 
 returns-2 : tie.Need-returns-2
 returns-2 c = up-done _ _ _ _ _ _ _ _ _ (sym (c .before .before .before .before .before .before .before .before .before .before .before .before .before .refused-up .ensures) ∙ c .before .before .before .before .before .before .before .before .before .before .before .before .if1 .left) (c .before .before .before .before .before .before .before .before .before .before .settings-from .ensures) (c .before .before .before .before .before .before .before .before .before .power-up .ensures) (c .before .before .before .before .before .s .given .1) (c .before .before .put-state .ensures)
@@ -26,7 +23,7 @@ wd16-power-up-spec =
     (λ c κs. search needs)
     (λ c κs. search needs)
     (λ c. search needs)
-    put-state-requires
+    (λ c κs. search needs)
     (λ c. search needs)
     (λ c. search needs)
     (λ c. search needs)

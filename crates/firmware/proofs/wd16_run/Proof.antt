@@ -1,17 +1,11 @@
 use mathlib.Core.Path.{sym, _∙_}
-use Rattle.firmware.proofs.Laws.{run-length, tally-length, ended-bad, ended-done, ended-refused}
+use Rattle.firmware.proofs.Laws.{ended-bad, ended-done, ended-refused}
 use borrow.Author.Needs.{needs}
 use Rattle.firmware.proofs.wd16_run.Statement.{statement}
 use Rattle.firmware.proofs.wd16_run.Tie as tie
 
 returns : tie.Need-returns
 returns c = ended-bad _ _ _ _ _ _ (sym (c .before .refused-run .ensures) ∙ c .if1 .taken)
-
-put-state-requires : tie.Need-put-state-requires
-put-state-requires c κs = run-length _ _ _ (sym (c .before .before .before .before .before .before .before .before .before .before .before .before .before .before .refused-run .ensures) ∙ c .before .before .before .before .before .before .before .before .before .before .before .before .before .if1 .left)
-
-put-tally-requires : tie.Need-put-tally-requires
-put-tally-requires c κs = tally-length _ _ _ (sym (c .before .before .before .before .before .before .before .before .before .before .before .before .before .before .before .before .before .before .refused-run .ensures) ∙ c .before .before .before .before .before .before .before .before .before .before .before .before .before .before .before .before .before .if1 .left)
 
 returns-2 : tie.Need-returns-2
 returns-2 c = ended-done _ _ _ _ _ _ _ _ _ _ _ _ _ (sym (c .before .before .before .before .before .before .before .before .before .before .before .before .before .before .before .before .before .before .before .before .before .refused-run .ensures) ∙ c .before .before .before .before .before .before .before .before .before .before .before .before .before .before .before .before .before .before .before .before .if1 .left) (c .before .before .before .before .before .before .before .before .before .before .before .before .before .before .before .before .before .before .state-from .ensures) (c .before .before .before .before .before .before .before .before .before .before .before .before .before .before .before .before .settings-from .ensures) (c .before .before .before .before .before .before .before .before .before .before .before .before .before .before .before .run .ensures) (c .before .before .before .before .before .before .before .before .before .before .before .ran .given .1) (c .before .before .before .before .before .before .put-state .ensures) (c .before .before .put-tally .ensures)
@@ -31,8 +25,8 @@ wd16-run-spec =
     (λ c κs. search needs)
     (λ c κs. search needs)
     (λ c. search needs)
-    put-state-requires
-    put-tally-requires
+    (λ c κs. search needs)
+    (λ c κs. search needs)
     (λ c. search needs)
     (λ c. search needs)
     (λ c. search needs)

@@ -1,14 +1,11 @@
 use mathlib.Core.Path.{sym, _∙_}
-use Rattle.firmware.proofs.Laws.{step-length, went-bad, went-done, went-refused}
+use Rattle.firmware.proofs.Laws.{went-bad, went-done, went-refused}
 use borrow.Author.Needs.{needs}
 use Rattle.firmware.proofs.wd16_step.Statement.{statement}
 use Rattle.firmware.proofs.wd16_step.Tie as tie
 
 returns : tie.Need-returns
 returns c = went-bad _ _ _ _ _ (sym (c .before .refused-step .ensures) ∙ c .if1 .taken)
-
-put-state-requires : tie.Need-put-state-requires
-put-state-requires c κs = step-length _ _ (sym (c .before .before .before .before .before .before .before .before .before .before .before .before .before .before .before .refused-step .ensures) ∙ c .before .before .before .before .before .before .before .before .before .before .before .before .before .before .if1 .left)
 
 returns-2 : tie.Need-returns-2
 returns-2 c = went-done _ _ _ _ _ _ _ _ _ _ _ _ _ (sym (c .before .before .before .before .before .before .before .before .before .before .before .before .before .before .before .before .before .before .refused-step .ensures) ∙ c .before .before .before .before .before .before .before .before .before .before .before .before .before .before .before .before .before .if1 .left) (c .before .before .before .before .before .before .before .before .before .before .before .before .before .before .before .state-from .ensures) (c .before .before .before .before .before .before .before .before .before .before .before .before .before .settings-from .ensures) (c .before .before .before .before .before .before .before .before .before .before .before .before .step .ensures) (c .before .before .before .before .before .before .before .before .t .given .1) (c .before .before .before .before .cause-number .ensures) (c .before .before .before .address-of .ensures) (c .before .before .put-state .ensures)
@@ -29,7 +26,7 @@ wd16-step-spec =
     (λ c. search needs)
     (λ c κs. search needs)
     (λ c κs. search needs)
-    put-state-requires
+    (λ c κs. search needs)
     (λ c. search needs)
     (λ c. search needs)
     (λ c. search needs)

@@ -1,6 +1,4 @@
-use mathlib.Core.Path.{sym, ap, _∙_}
-use lib.ListN.{length}
-use Rattle.firmware.proofs.Laws.{copied}
+use Rattle.firmware.proofs.Laws.{laid-copy, laid-none}
 use Rattle.firmware.specs.Layout.{tallyBytes}
 use borrow.Author.Needs.{needs}
 use Rattle.firmware.proofs.layout.put_tally.Statement.{statement}
@@ -8,9 +6,13 @@ use Rattle.firmware.proofs.layout.put_tally.Tie as tie
 
 returns : tie.Need-returns
 unfolding tallyBytes
-returns c = copied (c .before .before .before .before .before .tally-bytes .result) _ _ (c .before .before .before .before .before .before .before .pre ∙ sym (ap length (c .before .before .before .before .before .tally-bytes .ensures))) (c .before .before .copy .ensures .1) ∙ c .before .before .before .before .before .tally-bytes .ensures
+returns c = laid-none _ _ (c .if1 .taken)
+
+returns-2 : tie.Need-returns-2
+unfolding tallyBytes
+returns-2 c = laid-copy _ _ _ _ (c .before .before .before .before .before .tally-bytes .ensures) (c .before .before .before .before .before .before .if1 .left) (c .before .before .copy .ensures .1)
 
 pub put-tally-spec : {M : Type 1} → statement M
 put-tally-spec =
     tie.close
-    (tie.spec (λ c κs. search needs) (λ c. search needs) (λ c κs. search needs) (λ c. search needs) returns)
+    (tie.spec returns (λ c κs. search needs) (λ c. search needs) (λ c κs. search needs) (λ c. search needs) returns-2)
