@@ -11,7 +11,8 @@ use borrow.Author.Tests.{ltb-false, le-ltb}
 use lib.ListN.{length}
 use Rattle.letters.specs.Over.{over}
 use Rattle.optext.specs.First.{firstFrom}
-use Rattle.patchline.specs.Search.{lt-cases, first-hit, first-none}
+use Rattle.optext.specs.Choose.{lt-cases, first-hit}
+use Rattle.patchline.specs.Search.{first-none}
 use Rattle.patchline.specs.Text.{labelOf}
 use Rattle.assembler.specs.Source.{countOf, lineAt, textAt, saidAt, hereOf, isUnknown, isGiven, lacks, misplaced, far, fails, lowest}
 use Rattle.assembler.specs.Answer.{section, refused, refusedAt, faults, After, after, assembled, checked, asmOf}

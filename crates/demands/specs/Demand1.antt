@@ -38,7 +38,7 @@ use Rattle.runjob.specs.Bench.{told, benchOf}
 use Rattle.demands.specs.Terms.{Answers, Numbered}
 use Rattle.demands.specs.Pages.{answers, lent-where-refused, endAnswer, end-answer}
 use Rattle.demands.specs.Texts.{as-lent}
-use Rattle.demands.specs.Calls.{numbered, went-numbered, ended-numbered}
+use Rattle.demands.specs.Calls.{went-numbered, ended-numbered}
 
 -- POWER-UP: 1, 2, 3, 35
 pub power-up-answers : (settings : Settings) (m map : List ℕ) (r : Powered) (m′ : List ℕ) → left (poweredPage r) m′ ≡ powerUpPage settings m map

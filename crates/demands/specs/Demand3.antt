@@ -21,7 +21,7 @@ use Rattle.machine.specs.Numbers.{TurnPage, RanPage}
 use Rattle.machine.specs.Entry.{poweredPage, powerUpPage, left, steppedPage, stepPage, finishedPage, runPage}
 use Rattle.machine.specs.Back.{powered-one, stepped-one, finished-one}
 use Rattle.machine.specs.Blind.{Blind, blind, power-same, power-kept, step-same, step-kept, run-same, run-kept}
-use Rattle.machine.specs.Trail.{trailOf, blanksIn, firstIn, Least}
+use Rattle.machine.specs.Trail.{trailOf, blanksIn, Least}
 use Rattle.machine.specs.Counted.{first-least}
 use Rattle.machine.specs.Answered.{step-answer, run-answer}
 use Rattle.firmware.specs.Layout.{stateFrom, settingsFrom, refusedUp, refusedStep, refusedRun}

@@ -1,6 +1,5 @@
 -- Demand 1 for the calls that answer by cases: from the pages' definitions.
 use Prim.Native.Nat.{ℕ, zero, suc}
-use mathlib.Core.List.{List}
 use mathlib.Core.Path.{_≡_, refl, sym, ap, _∙_}
 use native.Mathlib.Omega.{arith}
 use Rattle.refusal.specs.Page.{Page, refused, answered, unless, apart}

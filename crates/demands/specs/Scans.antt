@@ -7,9 +7,7 @@ use native.Mathlib.Omega.{arith}
 use lib.ListN.{length}
 use lib.Dec.{ltb}
 use Rattle.board.specs.Alike.{Agree}
-use Rattle.state.specs.declared.State.{State}
 use Rattle.state.specs.declared.Settings.{Settings}
-use Rattle.state.specs.State.{cleared}
 use Rattle.step.specs.Alike.{Untouched}
 use Rattle.words.specs.Words.{byteAt}
 use Rattle.refusal.specs.Numbers.{noState, noChannel}

@@ -1,6 +1,6 @@
 -- Format 9, 7000 to 7FFF: REG and DST. All but SOB preset N1 Z0 V0 C1. REG is read after DST is decoded.
 use Prim.Native.Nat.{ℕ, _*_, _%_, _≤_}
-use mathlib.Core.Bool.{false, cond}
+use mathlib.Core.Bool.{cond}
 use mathlib.Core.List.{List, [], _∷_}
 use mathlib.Core.Path.{_≡_}
 use lib.Dec.{eqb}
@@ -9,7 +9,6 @@ use Rattle.codes.specs.Fields.{destinationMode, destinationRegister, register, 
 use Rattle.shift.specs.Shifted.{ashOf, ashcOf, preset}
 use Rattle.arith.specs.Wide.{mulOf, divOf}
 use Rattle.board.specs.Work.{Work, give, word, byte}
-use Rattle.board.specs.Bind.{_>>=_, _>>_}
 use Rattle.state.specs.declared.State.{State}
 use Rattle.state.specs.declared.Outside.{Outside}
 use Rattle.state.specs.State.{reg, withReg, withPc, withFlags, next}

@@ -2,7 +2,7 @@
 use Prim.Native.Nat.{ℕ, zero, suc, _+_, _*_, _/_, _%_}
 use mathlib.Core.Bool.{Bool, true, false, not, _&&_, _||_, cond}
 use mathlib.Core.List.{List, [], _∷_}
-use mathlib.Core.Path.{_≡_, refl, ap, sym, _∙_}
+use mathlib.Core.Path.{_≡_, refl, ap, _∙_}
 use native.Mathlib.Omega.{arith}
 use borrow.Author.Tests.{le-ltb}
 use lib.Dec.{eqb, leb, ltb}
@@ -17,7 +17,7 @@ use Rattle.optext.specs.Line.{taken}
 use Rattle.listing.specs.declared.Found.{Found}
 use Rattle.listing.specs.declared.Found.the-variants.{Nothing, Cut, Whole}
 use Rattle.listing.specs.Listing.{stands, allStand, wordsAt, foundAt, lineOf, movesOn, lineAt, nextAt, linesFrom, listingOf}
-use Rattle.listing.specs.Calls.{Left, left, told, lineWhy, nextOf, lineCall}
+use Rattle.listing.specs.Calls.{left, told, lineWhy, nextOf, lineCall}
 use Rattle.listing.specs.Joined.{good}
 
 pub and-true : (p q : Bool) → (p && q) ≡ true → (p ≡ true) × (q ≡ true)

@@ -1,11 +1,11 @@
 -- THE TEXT OF AN OP CODE STANDS IN A LINE OF A SOURCE AS IT IS: it fits the line, has no colon, and does not end with a space.
 -- Assumes nothing.
-use mathlib.Core.Path.{_≡_, refl, ap, sym, _∙_, subst}
+use mathlib.Core.Path.{_≡_, refl}
 use mathlib.Core.Bool.{Bool, true, false, cond, not}
 use mathlib.Core.List.{List, [], _∷_, _++_}
 use Prim.Native.Nat.{ℕ, zero, suc, _+_, _-_, _*_, _/_, _%_, _≤_, _<_}
 use native.Mathlib.Omega.{arith}
-use lib.Dec.{T, eqb, ltb}
+use lib.Dec.{T, eqb}
 use lib.ListN.{length, getD, length-append}
 use Rattle.letters.specs.Digits.{letters, digits, hexOf, hex4, hex2}
 use Rattle.optext.specs.declared.rows.Kind.{Kind}

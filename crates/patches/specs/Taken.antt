@@ -18,7 +18,7 @@ use Rattle.job.specs.declared.Section.the-variants as section
 use Rattle.job.specs.Job.{whyAddress, whyEntry, whyEntries, whyCount, next}
 use Rattle.optext.specs.declared.Op.{Op}
 use Rattle.assembler.specs.Source.{countOf, textAt, hereOf, wordsIn}
-use Rattle.assembler.specs.Section.{inserted, entryOf, entered, placed, bytesOf, flat, sectionOf}
+use Rattle.assembler.specs.Section.{inserted, entryOf, entered, placed, bytesOf, flat, sectionOf, flat-length}
 use Rattle.assembler.specs.Answer.{assembled, asmOf}
 use Rattle.assembler.specs.Answer as asm
 use Rattle.assembler.specs.Good.{good}
@@ -114,11 +114,6 @@ placed-few s (suc i) =
     let h = placed-few s i in
     let k = entered-few (wordsIn s (hereOf s i) (textAt s i)) (hereOf s i) (placed s i) in
     omega arith
-
-flat-length : (l : List ℕ) → length (flat l) ≡ 4 * length l
-unfolding flat
-flat-length [] = refl
-flat-length (e ∷ l) = let h = flat-length l in omega arith
 
 module _ (input rest l : List ℕ) (at : ℕ) (few : length l ≤ 4096) (q : drop at input ≡ sectionOf l ++ rest) where
   bytes : drop at input ≡ length l % 256 ∷ length l / 256 % 256 ∷ (flat l ++ rest)

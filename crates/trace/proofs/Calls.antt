@@ -1,6 +1,6 @@
 -- From a job's reading and its steps to what the public calls leave.
 use Prim.Native.Nat.{ℕ, zero, suc, _+_, _*_, _<_, _≤_}
-use mathlib.Core.List.{List, [], _∷_, _++_}
+use mathlib.Core.List.{List, [], _∷_}
 use mathlib.Core.Path.{_≡_, refl, sym, ap, _∙_}
 use native.Mathlib.Nat.{zero-add}
 use native.Mathlib.Omega.{arith}
@@ -14,7 +14,7 @@ use Rattle.refusal.specs.Page.{refused, answered, apart}
 use Rattle.machine.specs.Counted.{trail-length}
 use Rattle.job.specs.declared.Answer.{Answer}
 use Rattle.job.specs.declared.Answer.the-variants as Answer
-use Rattle.job.specs.Job.{after, linesAt, imageOf, mapOf, linesOf, lineWords, whyRead, pageOf, jobOf}
+use Rattle.job.specs.Job.{after, linesAt, mapOf, linesOf, lineWords, whyRead, pageOf, jobOf}
 use Rattle.job.specs.Sound.{lines-length}
 use Rattle.report.specs.Report.{benchBoard}
 use Rattle.runjob.specs.Taken.{Read, read-taken}

@@ -2,7 +2,6 @@ use mathlib.Core.Path.{_≡_, refl, _∙_}
 use Prim.Native.Nat.{_-_, _≤_}
 use native.Mathlib.Omega.{arith}
 use lib.ListN.{length, length-take, length-drop}
-use borrow.Author.Needs.{needs}
 use Rattle.assemble.proofs.pad.Statement.{statement}
 use Rattle.assemble.proofs.pad.Tie as tie
 
