@@ -7,12 +7,12 @@ use mathlib.Core.Path.{_≡_, refl, ap, sym, _∙_}
 use native.Mathlib.Omega.{arith}
 use lib.Dec.{eqb, leb, ltb}
 use lib.ListN.{length}
-use Rattle.refusal.specs.Numbers.{sourceLines, unknownText, outOfPlace}
+use Rattle.refusal.specs.Numbers.{outputShort, sourceLines, unknownText, outOfPlace}
 use Rattle.refusal.specs.Page.{first}
 use Rattle.assembler.specs.declared.source.Fault.{Fault}
 use Rattle.assembler.specs.declared.source.Fault.the-variants.{Text, Given, Missing, Place, Far}
 use Rattle.assembler.specs.Source.{countOf, lowest}
-use Rattle.assembler.specs.Answer.{faults, numberOf, longestSection, outputShort, section, refused, refusedAt, After, after, assembled, checked, asmOf}
+use Rattle.assembler.specs.Answer.{faults, numberOf, longestSection, section, refused, refusedAt, After, after, assembled, checked, asmOf}
 
 -- the number of the first fault that a line has, 0 where none has any
 unfoldable pub faultWhy : List Fault → List ℕ → ℕ

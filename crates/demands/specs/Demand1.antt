@@ -13,7 +13,7 @@ use Rattle.state.specs.declared.State.{State}
 use Rattle.state.specs.declared.Settings.{Settings}
 use Rattle.state.specs.State.{heard}
 use Rattle.step.specs.Step.{stepOf, powerUpOf}
-use Rattle.refusal.specs.Numbers.{noState, wordsOdd}
+use Rattle.refusal.specs.Numbers.{noState, wordsOdd, textShort}
 use Rattle.words.specs.Words.{wordAt}
 use Rattle.refusal.specs.Page.{refused, answered, first, unless}
 use Rattle.machine.specs.declared.Powered.{Powered}
@@ -105,7 +105,7 @@ pub write-answers : (words text : List ℕ) (r : Written) (text′ : List ℕ) �
 write-answers words text r text′ w = numbered (numberOf (writtenAs r)) (ap numberOf (w .answer)) (λ h. w .bytes ∙ h) (writer-numbered words text)
 
 -- .WORD of any word: 8
-pub write-word-answers : (x : ℕ) (text : List ℕ) (r : Written) (text′ : List ℕ) → WritesWord x text r text′ → Numbered (cond (ltb (length text) 32) 8 0) (numberOf (writtenAs r)) (text′ ≡ text)
+pub write-word-answers : (x : ℕ) (text : List ℕ) (r : Written) (text′ : List ℕ) → WritesWord x text r text′ → Numbered (cond (ltb (length text) 32) textShort 0) (numberOf (writtenAs r)) (text′ ≡ text)
 write-word-answers x text r text′ w = numbered (numberOf (writtenAs r)) (ap numberOf (w .answer)) (λ h. w .bytes ∙ h) (word-numbered x text)
 
 -- and read: 10, then 32, 31, 9 or 30 with its column

@@ -14,6 +14,7 @@ use Rattle.state.specs.State.{heard, withMode}
 use Rattle.step.specs.declared.Cause.{Cause}
 use Rattle.step.specs.declared.Cause.the-variants.{LockedAt}
 use Rattle.step.specs.Step.{kindOf, workOf, errorCauseOf, causeNumber, isBlank}
+use Rattle.refusal.specs.Numbers.{textShort, outputShort}
 use Rattle.refusal.specs.Page.{Page, refused, answered, first}
 use Rattle.optext.specs.Answer.{Answer, found, refusal, refusalAt}
 use Rattle.optext.specs.Line.{taken}
@@ -49,13 +50,13 @@ numberOf (refusalAt n c) = n
 -- 8: the text's buffer is under 32; 6: no words; 7: a needed next word is missing
 abbrev pub writeWhy : List ℕ → List ℕ → ℕ
 writeWhy ws b =
-    first (cond (ltb (length b) 32) 8 0)
+    first (cond (ltb (length b) 32) textShort 0)
     (first (cond (ltb (length ws) 1) 6 0)
     (cond (ltb (length ws) (taken (getD ws 0 0))) 7 0))
 
 -- 10: the words' buffer is under 3
 abbrev pub roomWhy : List ℕ → ℕ
-roomWhy ws = cond (ltb (length ws) 3) 10 0
+roomWhy ws = cond (ltb (length ws) 3) outputShort 0
 
 -- the number of a text by itself: 0 where it is an op code's; else 32, 31, 9 or 30, by where it goes wrong
 pub data TextWhy (t : List ℕ) (n : ℕ) : Type 0 where

@@ -8,7 +8,7 @@ use borrow.Author.Tests.{le-ltb, lt-ltb}
 use lib.Dec.{ltb}
 use lib.ListN.{length, take, getD}
 use Rattle.letters.specs.Over.{over}
-use Rattle.refusal.specs.Numbers.{noState, wordsOdd}
+use Rattle.refusal.specs.Numbers.{noState, wordsOdd, textShort}
 use Rattle.refusal.specs.Page.{first, first-some}
 use Rattle.optext.specs.Answer.{Answer, found, refusal, refusalAt, writeAnswer, writeBytes, wordAnswer, wordBytes}
 use Rattle.optext.specs.Line.{taken, textOf, wordText}
@@ -22,7 +22,7 @@ use Rattle.demands.specs.Terms.{Numbered, OrPlace, asLent, placeAlone, n
 -- three refusals in their order: each leaves b
 written-numbered : (x y z : Bool) (vs b written : List ℕ) (a : Answer) (b′ : List ℕ)
     → a ≡ cond x (refusal 8) (cond y (refusal 6) (cond z (refusal 7) (found vs))) → b′ ≡ cond x b (cond y b (cond z b written))
-    → Numbered (first (cond x 8 0) (first (cond y 6 0) (cond z 7 0))) (numberOf a) (b′ ≡ b)
+    → Numbered (first (cond x textShort 0) (first (cond y 6 0) (cond z 7 0))) (numberOf a) (b′ ≡ b)
 written-numbered true y z vs b written a b′ e d = record { numberIs = ap numberOf e; unchanged = λ n. d }
 written-numbered false true z vs b written a b′ e d = record { numberIs = ap numberOf e; unchanged = λ n. d }
 written-numbered false false true vs b written a b′ e d = record { numberIs = ap numberOf e; unchanged = λ n. d }
@@ -32,11 +32,11 @@ pub writer-numbered : (ws b : List ℕ) → Numbered (writeWhy ws b) (numberOf (
 unfolding writeAnswer writeBytes
 writer-numbered ws b = written-numbered (ltb (length b) 32) (ltb (length ws) 1) (ltb (length ws) (taken (getD ws 0 0))) _ b (over (textOf ws) b) (writeAnswer ws b) (writeBytes ws b) refl refl
 
-pub word-numbered : (w : ℕ) (b : List ℕ) → Numbered (cond (ltb (length b) 32) 8 0) (numberOf (wordAnswer w b)) (wordBytes w b ≡ b)
+pub word-numbered : (w : ℕ) (b : List ℕ) → Numbered (cond (ltb (length b) 32) textShort 0) (numberOf (wordAnswer w b)) (wordBytes w b ≡ b)
 unfolding wordAnswer wordBytes
 word-numbered w b = by (ltb (length b) 32)
   where
-    by : (short : Bool) → Numbered (cond short 8 0) (numberOf (cond short (refusal 8) (found (length (wordText w) ∷ 1 ∷ [])))) (cond short b (over (wordText w) b) ≡ b)
+    by : (short : Bool) → Numbered (cond short textShort 0) (numberOf (cond short (refusal 8) (found (length (wordText w) ∷ 1 ∷ [])))) (cond short b (over (wordText w) b) ≡ b)
     by true = record { numberIs = refl; unchanged = λ n. refl }
     by false = record { numberIs = refl; unchanged = λ n. absurd (n refl) }
 

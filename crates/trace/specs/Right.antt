@@ -19,7 +19,7 @@ use Rattle.trace.specs.declared.Checked.{Checked}
 use Rattle.trace.specs.declared.Checked.the-variants as Checked
 use Rattle.trace.specs.declared.Made.{Made}
 use Rattle.trace.specs.declared.Made.the-variants as Made
-use Rattle.trace.specs.Trace.{entryOf, entriesOf, stepsOf, rightTrace, imageAfter, traceBytes, wordsFrom, entriesFrom, toldIn, whyTrace, orElse, differ, compared, verdictOf, Left, left, checkedPage, whyCheck, checkOf, madePage, whyMake, outputShort, longest, Put, put, makeOf}
+use Rattle.trace.specs.Trace.{entryOf, entriesOf, stepsOf, rightTrace, imageAfter, traceBytes, wordsFrom, entriesFrom, toldIn, whyTrace, orElse, differ, compared, verdictOf, Left, left, checkedPage, whyCheck, checkOf, madePage, whyMake, longest, Put, put, makeOf}
 use Rattle.trace.specs.Bytes.{right-ten, words-length, told-again, taken-again, bytes-back}
 
 -- ---- entries that are the same, and only those, are accepted
