@@ -10,7 +10,7 @@ use lib.ListN.{length, take, getD}
 use lib.Seq.{length-take-le}
 use Rattle.letters.specs.Digits.{hex4}
 use Rattle.letters.specs.Over.{over, Wrote}
-use Rattle.refusal.specs.Numbers.{noStretch}
+use Rattle.refusal.specs.Numbers.{noStretch, textShort}
 use Rattle.refusal.specs.Page.{refused, answered, first-some, first-both, unless-some}
 use Rattle.refusal.specs.Refusal.{boardRefusal}
 use Rattle.words.specs.Words.{wordAt}
@@ -24,7 +24,7 @@ use Rattle.listing.specs.declared.Found.{Found}
 use Rattle.listing.specs.declared.Found.the-variants.{Nothing, Cut, Whole}
 use Rattle.listing.specs.declared.Listed.{Listed}
 use Rattle.listing.specs.Listing.{allStand, foundAt, lineOf, movesOn, Fits, lineAt, nextAt}
-use Rattle.listing.specs.Calls.{left, told, listedPage, textShort, badStretch, lineWhy, nextOf, lineCall}
+use Rattle.listing.specs.Calls.{left, told, listedPage, badStretch, lineWhy, nextOf, lineCall}
 use Rattle.listing.specs.Joined.{taken-some, cond-none}
 
 -- ---- what is found

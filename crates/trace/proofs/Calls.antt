@@ -10,6 +10,7 @@ use borrow.Author.Tests.{le-leb, lt-leb}
 use Rattle.words.specs.Words.{wordAt, bytesIn}
 use Rattle.letters.specs.Over.{over}
 use Rattle.step.specs.Step.{After}
+use Rattle.refusal.specs.Numbers.{outputShort}
 use Rattle.refusal.specs.Page.{refused, answered, apart}
 use Rattle.machine.specs.Counted.{trail-length}
 use Rattle.job.specs.declared.Answer.{Answer}
@@ -19,7 +20,7 @@ use Rattle.job.specs.Sound.{lines-length}
 use Rattle.report.specs.Report.{benchBoard}
 use Rattle.runjob.specs.Taken.{Read, read-taken}
 use Rattle.trace.specs.declared.Verdict.{Verdict}
-use Rattle.trace.specs.Trace.{entriesOf, upOf, stepsOf, rightTrace, imageAfter, joined, traceBytes, toldIn, whyTrace, compared, left, checkOf, outputShort, longest, put, makeOf}
+use Rattle.trace.specs.Trace.{entriesOf, upOf, stepsOf, rightTrace, imageAfter, joined, traceBytes, toldIn, whyTrace, compared, left, checkOf, longest, put, makeOf}
 use Rattle.trace.specs.Bytes.{trace-length}
 use Rattle.trace.specs.Walk.{trailUp, imageUp}
 
