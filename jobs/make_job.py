@@ -9,12 +9,14 @@ Lines of the text, all numbers hex but a count after x or cut:
     bytes 00 FF           bytes after the last section, for a job that is to be refused
     cut 3                 leaves out the last 3 bytes, for the same
 A # starts a comment. Sections are written in the order of the format, entries in the order of the text. SECTION is a file
-that hitch asm wrote: its words stand before those of the text, so that a program can be written in mnemonics.
+that hitch asm wrote, a patch in mnemonics: its words go among those of the text by address, and where both have a word at
+an address, the patch's takes the place of the text's.
 Nothing is checked that the job reader checks: a text can say what is to be refused. A repeat is of 4,096 at most, and a
 section has 65,535 entries at most, since its count has two bytes.
 
 Status: 0 made; 1 the text is refused, in words, with its line, and nothing is written; 2 wrong use.
 """
+import heapq
 import os
 import re
 import sys
@@ -109,6 +111,16 @@ def entries_in(section):
     return [(word_at(section, at), word_at(section, at + 2)) for at in range(2, len(section), 4)]
 
 
+def patched(entries, patch):
+    """The entries with those of a patch among them, by address. A word of the patch takes the place of the one at its address, so
+    that entries which don't rise still don't."""
+    words = dict(patch)
+    there = {address for address, _ in entries}
+    kept = [(address, words.get(address, word)) for address, word in entries]
+    added = [(address, word) for address, word in patch if address not in there]
+    return counted(list(heapq.merge(kept, added, key=lambda entry: entry[0])))
+
+
 class Job:
     """What the lines of a text come to."""
 
@@ -171,10 +183,9 @@ def lines_in(text):
     return re.split("\r\n|\r|\n", text)
 
 
-def job_of(text, kind=Job, entries=()):
-    """The bytes that a text comes to; these entries stand before those of the text."""
+def job_of(text, kind=Job, patch=()):
+    """The bytes that a text comes to, with the entries of a patch."""
     job = kind()
-    job.entries.extend(entries)
     for at, line in enumerate(lines_in(text), 1):
         words = re.findall("[^ \t\f\v]+", line.partition("#")[0].replace("=", " = "))
         try:
@@ -182,6 +193,7 @@ def job_of(text, kind=Job, entries=()):
                 job.take(at, words)
         except TextError as why:
             raise TextError(f"line {at}: {why}") from None
+    job.entries = patched(job.entries, patch)
     return job.bytes()
 
 
@@ -222,12 +234,12 @@ class Program:
         """The bytes of the named text, with the words of the named section."""
         at = ""
         try:
-            entries = []
+            patch = []
             if section is not None:
                 at = f"{section}, "
-                entries = entries_in(read(section))
+                patch = entries_in(read(section))
             at = "" if name == "-" else f"{name}, "
-            return job_of(text_of(read(name)), self.kind, entries)
+            return job_of(text_of(read(name)), self.kind, patch)
         except OSError as why:
             return self.stop(2, why)
         except TextError as why:

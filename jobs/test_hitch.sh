@@ -181,6 +181,14 @@ source '.ORG 0080\nMOV #0005,R0'
 ends 0 "$section" "$asm" assembled "$made/patch.asm"
 ends 0 ' 00 00' "$asm" assembled </dev/null
 ends 0 "$(cat jobs/sob.line)" "$asm"$'\n'"$unproved" bench --asm jobs/sob.asm jobs/sob.txt
+# A patch goes into a job by address: at 0016 and from 0080 on the example's words give way to it.
+ends 0 '0005 0005 0001 0000 0000 0000 0000 0088 0F00 0 0000 ---- ----' "$asm"$'\n'"$unproved" \
+    bench --asm jobs/sob.asm jobs/example.txt
+printf 'pages 00\n0016 = 0080\n0090 = 0000\nlines 0000\n' >"$made/vector.txt"
+source '.ORG 0080\nMOV #0005,R0\n'
+ends 0 '0005 0000 0000 0000 0000 0000 0000 0084 0F00 0 0000 ---- ----' "$asm"$'\n'"$unproved" \
+    bench --asm "$made/patch.asm" "$made/vector.txt"
+ends 2 '' "hitch: with --asm the job must be text; $more" bench --asm jobs/sob.asm "$made/example.job"
 refused() { # REASON SOURCE
     source "$2"
     ends 1 '' "$asm"$'\n'"$1" ./hitch asm --unproved "$made/patch.asm"
