@@ -40,7 +40,7 @@ class Bytes(unittest.TestCase):
     def test_entries_stay_in_the_order_of_the_text(self):
         self.assertEqual(job_of("pages 2 1"), bytes.fromhex("0200 0201 0000 0000"))
 
-    def test_read_only_pages(self):
+    def test_read_only_ranges(self):
         self.assertEqual(job_of("pages 0-2\nread-only 1-2"), bytes.fromhex("0300 000102 0000 0000 0200 0102"))
         self.assertEqual(job_of("read-only"), bytes.fromhex("0000 0000 0000 0000"))
 
