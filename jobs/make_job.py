@@ -29,9 +29,14 @@ class TextError(Exception):
     """A text that is no job's text."""
 
 
+def is_hex(word):
+    """Whether a word is a hex number."""
+    return re.fullmatch("[0-9A-Fa-f]+", word) is not None
+
+
 def number(word, most):
     """A hex number of at most `most`."""
-    if not re.fullmatch("[0-9A-Fa-f]+", word):
+    if not is_hex(word):
         raise TextError(f"{word!r} is not a hex number")
     value = int(word, 16)
     if value > most:
@@ -88,8 +93,8 @@ def lines_of(words):
 
 def entries_of(words):
     """Addresses and words of a line ADDRESS = WORD WORD .."""
-    if words[1] != "=" or len(words) < 3:
-        raise TextError("one address, =, and words")
+    if words[1:2] != ["="] or len(words) < 3:
+        raise TextError("an address, =, and words")
     start = number(words[0], 0xFFFF)
     return [((start + 2 * k) % 0x10000, number(word, 0xFFFF)) for k, word in enumerate(words[2:])]
 
@@ -142,7 +147,7 @@ class Job:
             if len(words) != 2:
                 raise TextError("cut, and one count")
             self.cuts.append((at, count(words[1])))
-        elif "=" in words[1:]:
+        elif "=" in words[1:] or is_hex(words[0]):
             self.entries = counted(self.entries + entries_of(words))
         else:
             raise TextError(f"no line begins {words[0]!r}")

@@ -105,8 +105,8 @@ class Refused(unittest.TestCase):
     def test_no_line_of_a_job(self):
         self.refused("page 00", "line 1: no line begins 'page'")
         self.refused("# a comment\n\npages 00 # more\n\tpage 00", "line 4: no line begins 'page'")
-        for text in ("0080 =", "1 2 = 3", "1 2 = 3 = 4"):
-            self.refused(text, "line 1: one address, =, and words")
+        for text in ("0080 =", "1 2 = 3", "1 2 = 3 = 4", "0016 0080", "0016", "page 0 = 1"):
+            self.refused(text, "line 1: an address, =, and words")
         self.refused("= 1", "line 1: no line begins '='")
 
     def test_numbers(self):
