@@ -8,6 +8,7 @@ use lib.Dec.{ltb}
 use lib.ListN.{getD, List·getD-eq-default}
 use Rattle.board.specs.Work.{Work, give, load}
 use Rattle.board.specs.Work as Work
+use Rattle.board.specs.Bind.{_>>=_, _>>_}
 use Rattle.state.specs.declared.State.{State}
 use Rattle.state.specs.declared.Outside.{Outside}
 use Rattle.state.specs.declared.Mode.the-variants.{Waiting, PowerHalt, SwitchHalt}

@@ -6,6 +6,7 @@ use mathlib.Core.Path.{_≡_, ap, _∙_}
 use lib.Dec.{eqb}
 use lib.ListN.{getD}
 use Rattle.board.specs.Work.{Work, give, readAt, write, Size, word, byte}
+use Rattle.board.specs.Bind.{_>>=_, _>>_}
 use Rattle.board.specs.Exec.{Store, gone, keptAs}
 use Rattle.board.specs.Laws.{kept-none}
 use Rattle.board.specs.declared.Word.{Word}

@@ -9,6 +9,7 @@ use Rattle.codes.specs.Fields.{destinationMode, destinationRegister, register, 
 use Rattle.shift.specs.Shifted.{ashOf, ashcOf, preset}
 use Rattle.arith.specs.Wide.{mulOf, divOf}
 use Rattle.board.specs.Work.{Work, give, word, byte}
+use Rattle.board.specs.Bind.{_>>=_, _>>_}
 use Rattle.state.specs.declared.State.{State}
 use Rattle.state.specs.declared.Outside.{Outside}
 use Rattle.state.specs.State.{reg, withReg, withPc, withFlags, next}

@@ -4,6 +4,7 @@ use mathlib.Core.List.{List}
 use mathlib.Core.Path.{_≡_, refl, ap, _∙_}
 use Rattle.codes.specs.Fields.{destinationMode, destinationRegister}
 use Rattle.board.specs.Work.{Work, give, Size}
+use Rattle.board.specs.Bind.{_>>=_, _>>_}
 use Rattle.board.specs.Exec.{Store, beside, Now, good, gone, Got, Saw}
 use Rattle.board.specs.Laws.{got-then, got-gone, got-give}
 use Rattle.state.specs.declared.State.{State}

@@ -9,6 +9,7 @@ use borrow.Author.Tests.{lt-ltb}
 use lib.Dec.{eqb, ltb}
 use lib.ListN.{List·getD-eq-default}
 use Rattle.board.specs.Work.{Work, give, load}
+use Rattle.board.specs.Bind.{_>>=_}
 use Rattle.word.specs.Address.{plus, minus}
 use Rattle.operand.specs.declared.Place.{Place}
 use Rattle.operand.specs.declared.Place.the-variants.{Mem}

@@ -8,6 +8,7 @@ use lib.ListN.{getD}
 use Rattle.arith.specs.Ops.{withLow}
 use Rattle.board.specs.Work.{Work, give, readAt, load, Size, word, byte}
 use Rattle.board.specs.Work as Work
+use Rattle.board.specs.Bind.{_>>=_, _>>_}
 use native.Mathlib.Omega.{arith}
 use Rattle.board.specs.Exec.{Store, beside, Now, good, gone, exec, Got, Saw}
 use Rattle.board.specs.Laws.{got-then, got-gone, got-give, unread-at, unwritten-at}

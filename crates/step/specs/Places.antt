@@ -4,6 +4,7 @@ use mathlib.Core.Bool.{false}
 use mathlib.Core.Path.{_≡_, ap, _∙_}
 use Rattle.board.specs.Work.{Work, give, load}
 use Rattle.board.specs.Work as Work
+use Rattle.board.specs.Bind.{_>>=_, _>>_}
 use Rattle.board.specs.Exec.{Store, gone}
 use Rattle.board.specs.declared.Word.{Word}
 use Rattle.board.specs.declared.Word.the-variants as Word

@@ -5,6 +5,7 @@ use mathlib.Core.List.{List, [], _∷_}
 use mathlib.Core.Path.{_≡_}
 use lib.ListN.{getD}
 use Rattle.board.specs.Work.{Work, give, Came, value, blank, run}
+use Rattle.board.specs.Bind.{_>>=_, _>>_}
 use Rattle.board.specs.Exec.{Store, Lent, Board}
 use Rattle.state.specs.declared.State.{State}
 use Rattle.state.specs.declared.Outside.{Outside}
