@@ -318,9 +318,10 @@ enum {
    the line words, from the state where the last scan ended: the state, the tally and the image as after wd16_run, and the
    recorder with one scan more. Refusals: 21, 1, 2, 3, 35, 4, 5, 33, 37. */
 uint8_t wd16_scan(uint8_t *state, size_t state_length, uint8_t *tally, size_t tally_length, uint8_t *image,
-                  size_t image_length, const uint8_t *map, size_t map_length, const uint16_t *lines, size_t lines_length,
-                  const uint8_t *settings, size_t settings_length, const uint8_t *cards, size_t cards_length,
-                  const uint16_t *readings, size_t readings_length, uint8_t *recorder, size_t recorder_length);
+                  size_t image_length, const uint8_t *map, size_t map_length, const uint8_t *settings,
+                  size_t settings_length, const uint16_t *lines, size_t lines_length, const uint8_t *cards,
+                  size_t cards_length, const uint16_t *readings, size_t readings_length, uint8_t *recorder,
+                  size_t recorder_length);
 
 /* Writes the report of the channel whose number is the one byte at `channel`. Refusals: 21, 34. */
 uint8_t wd16_report(const uint8_t *recorder, size_t recorder_length, const uint8_t *channel, size_t channel_length,

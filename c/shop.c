@@ -123,8 +123,8 @@ static uint8_t scan(int reading, int pulled)
         cards[n] = n != pulled;
         readings[n] = (uint16_t)reading;
     }
-    return wd16_scan(state, sizeof state, tally, sizeof tally, image, sizeof image, map, sizeof map, &line, 1, settings,
-                     sizeof settings, cards, sizeof cards, readings, WD16_CHANNELS, recorder, sizeof recorder);
+    return wd16_scan(state, sizeof state, tally, sizeof tally, image, sizeof image, map, sizeof map, settings,
+                     sizeof settings, &line, 1, cards, sizeof cards, readings, WD16_CHANNELS, recorder, sizeof recorder);
 }
 
 static void report(uint8_t channel)
