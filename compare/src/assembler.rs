@@ -41,6 +41,16 @@ struct Line<'a> {
     said: Said<'a>,
 }
 
+/// The source that has these lines, each as long as it must be.
+pub fn source_of<T: AsRef<[u8]>>(lines: &[T]) -> Vec<u8> {
+    let padded = |line: &T| {
+        let mut padded = line.as_ref().to_vec();
+        padded.resize(LINE, b' ');
+        padded
+    };
+    lines.iter().flat_map(padded).collect()
+}
+
 // ---- one line ----
 
 /// One to six capitals that read neither as a hex number nor as a register.

@@ -100,6 +100,43 @@ fn check(line: &str) {
     }
 }
 
+/// Lines that are no text.
+const NO_TEXTS: [&str; 33] = [
+    "",
+    "NOPE",
+    "NOP ",
+    " NOP",
+    "nop",
+    "SAVS #1234",
+    "BHIS 00",
+    "BLO 00",
+    "CALL @R1",
+    "JMP @R1",
+    "INC (PC)+",
+    "INC @(PC)+",
+    "ADDI 00,R0",
+    "ADDI 11,R0",
+    "ADDI R0,01",
+    "SSRA 01,R0",
+    "SOB R1,40",
+    "SVCA 40",
+    "LCC 0A",
+    "JSR PC,R1",
+    ".WORD 0000",
+    ".WORD 7240 ",
+    "ADD R0, R1",
+    "ADD R0",
+    "ADD R0,R1,R2",
+    "TST #12af",
+    "CLRB #FF",
+    "INC 0(R1)",
+    "INC @@R1",
+    "MOV R6,R7",
+    "BR FE\n",
+    "INC -(R1)+",
+    "\u{e9}",
+];
+
 #[test]
 fn refusals() {
     assert_eq!(write_text(BASE, &[], &mut [0; 31]), Err(Refusal(8)));
@@ -109,42 +146,7 @@ fn refusals() {
         read_text(BASE, b"NOPE", &mut [0; 2]),
         Err(Refusal(10).into())
     );
-    let lines = [
-        "",
-        "NOPE",
-        "NOP ",
-        " NOP",
-        "nop",
-        "SAVS #1234",
-        "BHIS 00",
-        "BLO 00",
-        "CALL @R1",
-        "JMP @R1",
-        "INC (PC)+",
-        "INC @(PC)+",
-        "ADDI 00,R0",
-        "ADDI 11,R0",
-        "ADDI R0,01",
-        "SSRA 01,R0",
-        "SOB R1,40",
-        "SVCA 40",
-        "LCC 0A",
-        "JSR PC,R1",
-        ".WORD 0000",
-        ".WORD 7240 ",
-        "ADD R0, R1",
-        "ADD R0",
-        "ADD R0,R1,R2",
-        "TST #12af",
-        "CLRB #FF",
-        "INC 0(R1)",
-        "INC @@R1",
-        "MOV R6,R7",
-        "BR FE\n",
-        "INC -(R1)+",
-        "\u{e9}",
-    ];
-    for line in lines {
+    for line in NO_TEXTS {
         assert_eq!(words_of(line), Err(Refusal(9).into()), "{line}");
     }
     assert_eq!(

@@ -756,8 +756,8 @@ fn compare_lines(
     }
     println!("{reached:?}");
     println!("0 differences");
-    let wanted = kind.wanted().iter().map(|what| what.to_string());
-    let missing: Vec<String> = wanted.filter(|what| !reached.contains_key(what)).collect();
+    let mut missing = kind.wanted();
+    missing.retain(|what| !reached.contains_key(what));
     all_reached(&missing)
 }
 
