@@ -43,6 +43,10 @@ fn kind_name(kind: usize) -> &'static str {
     ROWS.get(kind).map_or("format 11", |row| row.name)
 }
 
+fn is_block_move(op: &u16) -> bool {
+    op >> 9 == 0x0E00 >> 9
+}
+
 // ---- what a step was ----
 
 /// What is known before a step.
@@ -100,9 +104,16 @@ impl Seen<'_> {
 
     /// An element of a block move that was made, by itself.
     fn element(&self) -> Option<u16> {
-        let op = self.a.op.filter(|&op| op >> 9 == 0x0E00 >> 9)?;
+        let op = self.a.op.filter(is_block_move)?;
         let made = self.a.before.mode == Mode::Running && self.cause(Cause::OpCode);
         (made && self.a.setup.settings.microm).then_some(op)
+    }
+
+    /// An element that was made under XCT.
+    fn traced_element(&self) -> bool {
+        self.a.traced.as_ref().is_some_and(is_block_move)
+            && self.cause(Cause::OpCode)
+            && self.a.setup.settings.microm
     }
 
     /// An element with one of these registers as source or destination.
@@ -173,20 +184,14 @@ const CORNERS: [Corner; 47] = [
         s.element().is_some_and(|op| op >> 3 & 7 == op & 7)
     }),
     (BlockMoves, "a block move without its microm", |s| {
-        let reserved = s.a.op.is_some_and(|op| op >> 9 == 0x0E00 >> 9);
+        let reserved = s.a.op.as_ref().is_some_and(is_block_move);
         reserved && s.from(Mode::Running) && s.cause(Cause::OpCode) && s.element().is_none()
     }),
     (BlockMoves, "a traced element that is not the last", |s| {
-        s.a.traced.is_some_and(|op| op >> 9 == 0x0E00 >> 9)
-            && s.cause(Cause::OpCode)
-            && s.a.setup.settings.microm
-            && !s.last()
+        s.traced_element() && !s.last()
     }),
     (BlockMoves, "a traced last element", |s| {
-        s.a.traced.is_some_and(|op| op >> 9 == 0x0E00 >> 9)
-            && s.cause(Cause::OpCode)
-            && s.a.setup.settings.microm
-            && s.last()
+        s.traced_element() && s.last()
     }),
     (LateIen, "IEN that marks", |s| {
         s.did(IEN) && s.a.traced.is_none() && !s.a.before.i2 && s.after.state.mark
@@ -246,7 +251,7 @@ const CORNERS: [Corner; 47] = [
         |s| s.cause(Cause::BlankInOpCode) && s.read_only(),
     ),
     (ReadOnlyPages, "a block move to a read-only page", |s| {
-        let block = s.a.op.is_some_and(|op| op >> 9 == 0x0E00 >> 9);
+        let block = s.a.op.as_ref().is_some_and(is_block_move);
         s.cause(Cause::BlankInOpCode) && s.read_only() && block
     }),
     (ReadOnlyPages, "a stack on a read-only page", |s| {
@@ -377,6 +382,30 @@ pub fn cut_kinds(place: usize, length: usize, first: &Ran, second: &Ran) -> Vec<
     kinds
 }
 
+/// A run that meets no blank and doesn't end locked: more cards change nothing in it.
+pub fn is_sound(ran: &Ran) -> bool {
+    ran.blanks == 0 && ran.state.mode != Mode::Locked
+}
+
+/// What a run that is not sound shows when it is made again with more cards.
+pub fn changed_kinds(ran: &Ran, again: &Ran) -> Vec<RunKind> {
+    let spared = again.state.mode != Mode::Locked;
+    match ran.blanks {
+        0 if spared => vec![RunKind::Spared],
+        blanks if again.blanks < blanks => vec![RunKind::Healed],
+        _ => Vec::new(),
+    }
+}
+
+/// What a sound run of this length shows with more cards of a kind.
+pub fn plugged_kinds(kind: RunKind, length: usize, moves_on: bool) -> Vec<RunKind> {
+    let mut kinds = vec![kind];
+    if length >= 4 && moves_on {
+        kinds.push(RunKind::PluggedLong);
+    }
+    kinds
+}
+
 // ---- all counts ----
 
 /// A count, and what it counts.
@@ -491,8 +520,10 @@ impl Coverage {
         self.power_ups[usize::from(pair.0)][usize::from(pair.1)][locked] += 1;
     }
 
-    pub fn count_run(&mut self, kind: RunKind) {
-        self.runs[kind as usize] += 1;
+    pub fn count_run(&mut self, shown: &[RunKind]) {
+        for &kind in shown {
+            self.runs[kind as usize] += 1;
+        }
     }
 
     /// Counts a damaged call by its answer, 0 where the damage was none.
