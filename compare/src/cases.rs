@@ -308,7 +308,8 @@ fn ran_text(ran: &Ran, image: &[u8]) -> String {
     format!("{state} {:04X} {first} {address} {image}", ran.blanks)
 }
 
-fn hex_text(bytes: &[u8]) -> String {
+/// Bytes as two digits each.
+pub fn hex_text(bytes: &[u8]) -> String {
     bytes.iter().map(|byte| format!("{byte:02X}")).collect()
 }
 
@@ -373,28 +374,16 @@ fn run_case(by: &mut dyn Answers, start: Start, lines: &[u16]) -> Option<String>
     Some(format!("OK {} {causes}", ran_text(&ran, &m.image)))
 }
 
-fn written(answer: Answer<(usize, usize)>, text: &[u8]) -> Option<String> {
+fn write_case(
+    length: usize,
+    write: impl FnOnce(&mut [u8]) -> Answer<(usize, usize)>,
+) -> Option<String> {
+    let mut text = vec![0; length];
+    let answer = write(&mut text);
     answered(answer, |(length, count)| {
         let line = String::from_utf8_lossy(&text[..length]);
         format!("{length} {count} {line}")
     })
-}
-
-fn write_case(by: &mut dyn Answers, level: Level, length: usize, words: &[u16]) -> Option<String> {
-    let mut text = vec![0; length];
-    let answer = by.write(level, words, &mut text);
-    written(answer, &text)
-}
-
-fn write_bytes_case(
-    by: &mut dyn Answers,
-    level: Level,
-    length: usize,
-    words: &[u8],
-) -> Option<String> {
-    let mut text = vec![0; length];
-    let answer = by.write_bytes(level, words, &mut text);
-    written(answer, &text)
 }
 
 fn read_case(by: &mut dyn Answers, level: Level, length: usize, text: &[u8]) -> Option<String> {
@@ -499,8 +488,14 @@ fn answer_to(by: &mut dyn Answers, case: &str) -> Option<String> {
         ("scans", &[set, s, map, image, ref scans @ ..]) => {
             scans_case(by, start(level, [set, s, map, image])?, scans)
         }
-        ("write", &[length, words]) => write_case(by, level, hex(length)?, &list(words, word)?),
-        ("cwrite", &[length, words]) => write_bytes_case(by, level, hex(length)?, &bytes(words)?),
+        ("write", &[length, words]) => {
+            let words = list(words, word)?;
+            write_case(hex(length)?, |text| by.write(level, &words, text))
+        }
+        ("cwrite", &[length, words]) => {
+            let words = bytes(words)?;
+            write_case(hex(length)?, |text| by.write_bytes(level, &words, text))
+        }
         ("read", &[length, text]) => read_case(by, level, hex(length)?, &bytes(text)?),
         ("cread", &[length, text]) => read_bytes_case(by, level, hex(length)?, &bytes(text)?),
         ("asm", &[length, source]) => assemble_case(by, level, hex(length)?, &bytes(source)?),

@@ -153,9 +153,12 @@ pub fn op_code(random: &mut Random) -> u16 {
     }
 }
 
-fn put(image: &mut [u8], at: u16, word: u16) {
-    let at = usize::from(at & 0xFFFE);
-    image[at..at + 2].copy_from_slice(&word.to_le_bytes());
+/// Puts each word at its address.
+pub fn put(image: &mut [u8], words: &[(u16, u16)]) {
+    for &(at, word) in words {
+        let at = usize::from(at & 0xFFFE);
+        image[at..at + 2].copy_from_slice(&word.to_le_bytes());
+    }
 }
 
 /// The fixed locations, from 12 to 2E.
@@ -182,9 +185,7 @@ fn random_image(random: &mut Random, map: &[u8; PAGES]) -> Vec<u8> {
 pub fn board(random: &mut Random, level: Level) -> RandomBoard {
     let map = random_map(random, level);
     let mut image = random_image(random, &map);
-    for (at, word) in vectors(random, &map) {
-        put(&mut image, at, word);
-    }
+    put(&mut image, &vectors(random, &map));
     RandomBoard { image, map }
 }
 

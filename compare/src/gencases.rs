@@ -4,7 +4,7 @@
 use crate::abi::{self, Call};
 use crate::assembler::{source_of, LEAST_SECTION};
 use crate::board::PAGES;
-use crate::cases::{setup_text, state_text};
+use crate::cases::{hex_text, setup_text, state_text};
 use crate::gen::{self, Random};
 use crate::level::Level;
 use crate::recorder::CHANNELS;
@@ -144,7 +144,7 @@ fn hex(bytes: &[u8]) -> String {
     if bytes.is_empty() {
         return "-".to_string();
     }
-    bytes.iter().map(|byte| format!("{byte:02X}")).collect()
+    hex_text(bytes)
 }
 
 fn joined(words: &[u16]) -> String {
@@ -198,7 +198,7 @@ fn text_case(random: &mut Random, level: Level) -> String {
     match random.below(4) {
         0 => format!("write {level} {length:X} {}", joined(&words)),
         1 => {
-            let mut bytes: Vec<u8> = words.iter().flat_map(|word| word.to_le_bytes()).collect();
+            let mut bytes = abi::bytes_of_words(&words);
             if random.percent(20) {
                 bytes.pop();
             }
@@ -409,12 +409,8 @@ fn trace_case(random: &mut Random, level: Level) -> String {
         2 => entries.push([random.word(); FIELDS]),
         _ => {}
     }
-    let words = entries
-        .iter()
-        .flatten()
-        .flat_map(|field| field.to_le_bytes());
     let mut trace = (entries.len() as u16).to_le_bytes().to_vec();
-    trace.extend(words);
+    trace.extend(abi::bytes_of_words(&entries.concat()));
     match random.below(10) {
         0 => trace.truncate(random.below(trace.len())),
         1 => trace.push(0),

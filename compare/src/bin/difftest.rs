@@ -23,7 +23,7 @@ use wd16::abi::{self, Buffers, Call, Interface};
 use wd16::bench::bench;
 use wd16::board::{IMAGE, PAGES, READ_ONLY, WRITABLE};
 use wd16::calls::Plain;
-use wd16::cases::{self, Answers};
+use wd16::cases::{self, hex_text, Answers};
 use wd16::coverage::{changed_kinds, cut_kinds, is_sound, plugged_kinds, Ahead, Coverage, RunKind};
 use wd16::gen::{self, Random, RandomBoard};
 use wd16::gencases::{shown, text_call, Kind, TEXT_ANSWERS};
@@ -36,10 +36,6 @@ use wd16::{step, Cause, Level, Mode, Ran, Refusal, Settings, Setup, State, Stepp
 
 /// What differs, told to a person.
 type Difference = String;
-
-fn hex(bytes: &[u8]) -> String {
-    bytes.iter().map(|byte| format!("{byte:02X}")).collect()
-}
 
 // ---- one board, two processors ----
 
@@ -102,13 +98,6 @@ impl Pair<'_> {
         }
     }
 
-    fn put(&mut self, words: &[(u16, u16)]) {
-        for &(at, word) in words {
-            let at = usize::from(at & 0xFFFE);
-            self.lent.image[at..at + 2].copy_from_slice(&word.to_le_bytes());
-        }
-    }
-
     fn lend_state(&mut self, state: &State) {
         self.lent.state = abi::bytes_of(self.level, state);
     }
@@ -124,8 +113,8 @@ impl Pair<'_> {
         self.call(Call::Step, |lent| {
             let state = abi::state_of(level, &lent.state).expect("a good state");
             let text = op_code_text(level, &state, &lent.image);
-            let settings = hex(&lent.settings);
-            let state = hex(&lent.state);
+            let settings = hex_text(&lent.settings);
+            let state = hex_text(&lent.state);
             format!("step from {state} on line {line:04X}, settings {settings}, {text}")
         })?;
         Ok(abi::stepped_of(level, &self.lent.state).expect("a good answer"))
@@ -134,10 +123,10 @@ impl Pair<'_> {
     fn run(&mut self, lines: &[u16]) -> Result<Ran, Difference> {
         self.lent.lines = lines.to_vec();
         self.call(Call::Run, |lent| {
-            let (state, lines) = (hex(&lent.state), lent.lines.len());
+            let (state, lines) = (hex_text(&lent.state), lent.lines.len());
             format!(
                 "run from {state} over {lines} lines, settings {}",
-                hex(&lent.settings)
+                hex_text(&lent.settings)
             )
         })?;
         let Buffers { state, tally, .. } = &self.lent;
@@ -150,7 +139,7 @@ fn difference(ours: (u8, &Buffers), theirs: (u8, &Buffers)) -> Difference {
     if ours.0 != theirs.0 {
         return format!("ours answers {}, theirs {}", ours.0, theirs.0);
     }
-    let told = |b: &Buffers| format!("{} {}", hex(&b.state), hex(&b.tally));
+    let told = |b: &Buffers| format!("{} {}", hex_text(&b.state), hex_text(&b.tally));
     let images = (&ours.1.image, &theirs.1.image);
     match images.0.iter().zip(images.1).position(|(a, b)| a != b) {
         _ if told(ours.1) != told(theirs.1) => {
@@ -524,7 +513,7 @@ fn one_case(pair: &mut Pair) -> Result<(), Difference> {
     let case = gen::case(pair.random, &pair.map, pair.level);
     let settings = pair.some_settings();
     let setup = pair.lend_settings(&settings);
-    pair.put(&case.words);
+    gen::put(&mut pair.lent.image, &case.words);
     pair.lend_state(&case.state);
     for line in case.lines {
         let before = abi::state_of(pair.level, &pair.lent.state).expect("a good state");
@@ -556,7 +545,7 @@ fn power_ups(pair: &mut Pair) -> Result<(), Difference> {
         };
         let setup = pair.lend_settings(&settings);
         pair.call(Call::PowerUp, |lent| {
-            format!("power-up, settings {}", hex(&lent.settings))
+            format!("power-up, settings {}", hex_text(&lent.settings))
         })?;
         let state = abi::state_of(pair.level, &pair.lent.state).expect("a good answer");
         pair.reached.count_power_up(&setup, &state);
@@ -693,7 +682,8 @@ fn compare_calls(level: Level, other: &mut dyn Interface, seed: u64, cases: usiz
         let (call, lent) = text_call(&mut random, level);
         let [ours, theirs] = both(level, other, call, lent.clone());
         if ours != theirs {
-            let told = |buffers: &[Vec<u8>]| buffers.iter().map(|b| hex(b)).collect::<Vec<_>>();
+            let told =
+                |buffers: &[Vec<u8>]| buffers.iter().map(|b| hex_text(b)).collect::<Vec<_>>();
             println!("{call:?} on {:?}", told(&lent));
             println!("  ours   {} {:?}", ours.0, told(&ours.1));
             println!("  theirs {} {:?}", theirs.0, told(&theirs.1));
