@@ -82,9 +82,9 @@ label-six l = ⊎-elim (λ p. rw p (omega arith)) (λ p. rw p (go (gives (nameIn
     go false h = omega arith
 
 -- where operands begin
-pub place-le : (c : ℕ) (t : List ℕ) (i : ℕ) → placeOf c t i ≤ i + (length t - i)
+pub place-le : (c : ℕ) (t : List ℕ) (i r : ℕ) → r ≡ placeOf c t i → r ≤ i + (length t - i)
 unfolding placeOf
-place-le c t i = first-le (isAt c t) (length t - i) i
+place-le c t i r e = rw e (first-le (isAt c t) (length t - i) i)
 
 pub part-le : (a e : ℕ) (t : List ℕ) → length (partOf a e t) ≤ length t
 part-le a e t = simp (length-take, length-drop) (omega arith)

@@ -10,7 +10,7 @@ use Rattle.patchline.proofs.oneline.comma_at.Tie as tie
 
 returns : tie.Need-returns
 unfolding commaAt
-returns c = (c .place .ensures ∙ ap (λ (n : ℕ). placeOf 44 (c .before .before .before .args .t .now) n) (c .before .operands-at .ensures .0), omega (arith, c .place .ensures, place-le 44 (c .before .before .before .args .t .now) (c .before .operands-at .result)))
+returns c = (c .place .ensures ∙ ap (λ (n : ℕ). placeOf 44 (c .before .before .before .args .t .now) n) (c .before .operands-at .ensures .0), omega (arith, place-le _ _ _ _ (c .place .ensures)))
 
 pub comma-at-spec : {M : Type 1} → statement M
 comma-at-spec = tie.close (tie.spec (λ c κs. search needs) (λ c κs. search needs) returns)

@@ -1,9 +1,11 @@
-use mathlib.Core.Path.{refl, ap, _∙_}
+use mathlib.Core.Path.{ap, _∙_}
+use mathlib.Core.List.{List}
+use Prim.Native.Nat.{ℕ}
 use native.Mathlib.Omega.{arith}
 use borrow.Author.Needs.{needs}
 use Rattle.patchline.proofs.Laws.{label-six}
-use Rattle.patchline.specs.Text.{shown, restOf}
-use lib.ListN.{length}
+use Rattle.patchline.specs.Text.{shown, restFrom, restOf}
+use lib.ListN.{length, drop}
 use Rattle.patchline.proofs.text.rest.Statement.{statement}
 use Rattle.patchline.proofs.text.rest.Tie as tie
 
@@ -12,7 +14,9 @@ skipped-requires c κs = let h = label-six (c .before .before .args .line .now) 
 
 returns : tie.Need-returns
 unfolding restOf
-returns c = c .unpadded .ensures ∙ ap shown (c .before .after .ensures ∙ rw (c .before .before .skipped .ensures, c .before .before .before .label .ensures) refl)
+returns c =
+    let from = c .before .before .skipped .ensures ∙ ap (λ (l : List ℕ). restFrom (length l)) (c .before .before .before .label .ensures) in
+    c .unpadded .ensures ∙ ap shown (c .before .after .ensures ∙ ap (λ (n : ℕ). drop n (c .before .before .before .before .before .args .line .now)) from)
 
 pub rest-spec : {M : Type 1} → statement M
 rest-spec =
