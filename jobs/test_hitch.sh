@@ -162,6 +162,13 @@ ends 1 "$(cat jobs/refused.table)" "$recorded" record <jobs/refused.scans
 head -c -1 "$made/pulled.record" >"$made/cut.record"
 cut=$(record "$made/cut.record" 2>/dev/null | head -1) || true
 [ "$cut" = 'scan 12: the input ends in it' ] || { echo "a scan that is cut off WRONG: $cut"; wrong=1; }
+# As many line words as can be counted, and the next scan.
+sixteen=$(printf ' 7%.0s' 1 2 3 4 5 6 7 8 9 10 11 12 13 14 15 16)
+most=$(printf ' 0000 x4096%.0s' 1 2 3 4 5 6 7 8 9 10 11 12 13 14 15)
+printf 'pages 00\nscan%s lines%s 0000 x4095\nscan%s\n' "$sixteen" "$most" "$sixteen" >"$made/most.scans"
+printf 'pages 00\nscan%s\n' "$sixteen" >"$made/next.scans"
+after="scan 1: there are over 4,096 line words (refusal 4)"$'\n'$(record "$made/next.scans" 2>/dev/null)
+ends 1 "$after" "$recorded" record "$made/most.scans"
 printf 'pages 10\npages 10\n' >"$made/pages.scans"
 ends 1 'the job is refused (refusal 13)' "$recorded" record "$made/pages.scans"
 printf 'pages 00\nscan 1 2 3\n' >"$made/three.scans"
