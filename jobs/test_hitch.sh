@@ -186,14 +186,19 @@ ends 0 "$section" "$asm" assembled "$made/patch.asm"
 ends 0 "$section" "$asm" assembled <"$made/patch.asm"
 source '.ORG 0080\nMOV #0005,R0'
 ends 0 "$section" "$asm" assembled "$made/patch.asm"
+source '.ORG 0080\r\n\r\nMOV #0005,R0\r\n'
+ends 0 "$section" "$asm" assembled "$made/patch.asm"
 ends 0 ' 00 00' "$asm" assembled </dev/null
 ends 0 "$(cat jobs/sob.line)" "$asm"$'\n'"$unproved" bench --asm jobs/sob.asm jobs/sob.txt
 refused() { # REASON SOURCE
     source "$2"
     ends 1 '' "$asm"$'\n'"$1" ./hitch asm --unproved "$made/patch.asm"
 }
-refused $'LOOP: NOPE\nunknown text (refusal 24 at line 1, from 0)' 'NOP\nLOOP: NOPE\n'
-refused $'A: NOP\nunknown text (refusal 24 at line 0, from 0)' 'A: NOP\n'
+unknown='unknown text; a label is one to six capitals, no hex number, not SP or PC (refusal 24 at line'
+refused $'LOOP: NOPE\n'"$unknown 1, from 0)" 'NOP\nLOOP: NOPE\n'
+refused $'A: NOP\n'"$unknown 0, from 0)" 'A: NOP\n'
+refused $'NOP\r\n'"$unknown 1, from 0)" 'NOP\r\nNOP\r\r\n'
+refused $'NOP\r\n'"$unknown 1, from 0)" 'NOP\r\nNOP\r'
 refused $'X:\nits label is already given (refusal 25 at line 2, from 0)' 'X: NOP\n\nX:\n'
 refused $'JMP @X\nno line gives its label (refusal 26 at line 0, from 0)' 'JMP @X\n'
 far='its label is out of reach: a branch goes 128 words back to 127 ahead, SOB 0 to 63 back (refusal 27 at line 0, from 0)'
@@ -202,12 +207,13 @@ place="an odd origin, or words on an earlier line's or past FFFF (refusal 28 at 
 refused $'.ORG 0081\n'"$place 1, from 0)" 'NOP\n.ORG 0081\n'
 refused $'NOP\n'"$place 2, from 0)" 'NOP\n.ORG 0000\nNOP\n'
 refused 'line 1, from 0, is longer than 32 bytes' "NOP\\n$(printf '%033d' 0)\\nNOP\\n"
+refused "$(printf '%032d' 0)"$'\n'"$unknown 0, from 0)" "$(printf '%032d' 0)\\r\\n"
 for _ in $(seq 1025); do echo; done >"$made/many.asm"
 ends 1 '' "$asm"$'\nmore than 1024 lines (refusal 36)' ./hitch asm --unproved "$made/many.asm"
 sed 1d "$made/many.asm" >"$made/most.asm"
 ends 0 ' 00 00' "$asm" assembled "$made/most.asm"
 source 'NOPE\n'
-ends 1 '' "$asm"$'\nNOPE\nunknown text (refusal 24 at line 0, from 0)' bench --asm "$made/patch.asm" jobs/sob.txt
+ends 1 '' "$asm"$'\nNOPE\n'"$unknown 0, from 0)" bench --asm "$made/patch.asm" jobs/sob.txt
 ends 2 '' "hitch: --asm, and a source's file; $more" bench jobs/sob.txt --asm
 ends 2 '' "hitch: there is no file 'no.asm'; $more" bench --asm no.asm jobs/sob.txt
 
