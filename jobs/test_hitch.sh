@@ -183,6 +183,13 @@ ends 1 "$(cat jobs/refused.table)" "$recorded" record <jobs/refused.scans
 head -c -1 "$made/pulled.record" >"$made/cut.record"
 cut=$(record "$made/cut.record" 2>/dev/null | head -1) || true
 [ "$cut" = 'scan 12: the input ends in it' ] || { echo "a scan that is cut off WRONG: $cut"; wrong=1; }
+# As many line words as can be counted, and the next scan.
+sixteen=$(printf ' 7%.0s' 1 2 3 4 5 6 7 8 9 10 11 12 13 14 15 16)
+most=$(printf ' 0000 x4096%.0s' 1 2 3 4 5 6 7 8 9 10 11 12 13 14 15)
+printf 'pages 00\nscan%s lines%s 0000 x4095\nscan%s\n' "$sixteen" "$most" "$sixteen" >"$made/most.scans"
+printf 'pages 00\nscan%s\n' "$sixteen" >"$made/next.scans"
+after="scan 1: there are over 4,096 line words (refusal 4)"$'\n'$(record "$made/next.scans" 2>/dev/null)
+ends 1 "$after" "$recorded" record "$made/most.scans"
 printf 'pages 10\npages 10\n' >"$made/pages.scans"
 ends 1 'the job is refused (refusal 13)' "$recorded"$'\nhitch: 13: a page is not above the one before it' \
     record "$made/pages.scans"
@@ -201,6 +208,8 @@ ends 0 "$section" "$asm" assembled "$made/patch.asm"
 ends 0 "$section" "$asm" assembled <"$made/patch.asm"
 source '.ORG 0080\nMOV #0005,R0'
 ends 0 "$section" "$asm" assembled "$made/patch.asm"
+source '.ORG 0080\r\n\r\nMOV #0005,R0\r\n'
+ends 0 "$section" "$asm" assembled "$made/patch.asm"
 ends 0 ' 00 00' "$asm" assembled </dev/null
 ends 0 "$(cat jobs/sob.line)" "$asm"$'\n'"$unproved" bench --asm jobs/sob.asm jobs/sob.txt
 # A patch goes into a job by address: at 0016 and from 0080 on the example's words give way to it.
@@ -215,8 +224,11 @@ refused() { # REASON SOURCE
     source "$2"
     ends 1 '' "$asm"$'\n'"$1" ./hitch asm --unproved "$made/patch.asm"
 }
-refused $'LOOP: NOPE\nunknown text (refusal 24 at line 1, from 0)' 'NOP\nLOOP: NOPE\n'
-refused $'A: NOP\nunknown text (refusal 24 at line 0, from 0)' 'A: NOP\n'
+unknown='unknown text; a label is one to six capitals, no hex number, not SP or PC (refusal 24 at line'
+refused $'LOOP: NOPE\n'"$unknown 1, from 0)" 'NOP\nLOOP: NOPE\n'
+refused $'A: NOP\n'"$unknown 0, from 0)" 'A: NOP\n'
+refused $'NOP\r\n'"$unknown 1, from 0)" 'NOP\r\nNOP\r\r\n'
+refused $'NOP\r\n'"$unknown 1, from 0)" 'NOP\r\nNOP\r'
 refused $'X:\nits label is already given (refusal 25 at line 2, from 0)' 'X: NOP\n\nX:\n'
 refused $'JMP @X\nno line gives its label (refusal 26 at line 0, from 0)' 'JMP @X\n'
 far='its label is out of reach: a branch goes 128 words back to 127 ahead, SOB 0 to 63 back (refusal 27 at line 0, from 0)'
@@ -225,6 +237,7 @@ place="an odd origin, or words on an earlier line's or past FFFF (refusal 28 at 
 refused $'.ORG 0081\n'"$place 1, from 0)" 'NOP\n.ORG 0081\n'
 refused $'NOP\n'"$place 2, from 0)" 'NOP\n.ORG 0000\nNOP\n'
 refused 'line 1, from 0, is longer than 32 bytes' "NOP\\n$(printf '%033d' 0)\\nNOP\\n"
+refused "$(printf '%032d' 0)"$'\n'"$unknown 0, from 0)" "$(printf '%032d' 0)\\r\\n"
 # A listing's texts, each after .ORG with its address, are assembled to the words that the listing shows.
 python3 - jobs/card-pulled.0080-0092.list "$made/again.asm" "$made/again.words" <<'END'
 import struct, sys
@@ -246,7 +259,7 @@ ends 1 '' "$asm"$'\nmore than 1024 lines (refusal 36)' ./hitch asm --unproved "$
 sed 1d "$made/many.asm" >"$made/most.asm"
 ends 0 ' 00 00' "$asm" assembled "$made/most.asm"
 source 'NOPE\n'
-ends 1 '' "$asm"$'\nNOPE\nunknown text (refusal 24 at line 0, from 0)' bench --asm "$made/patch.asm" jobs/sob.txt
+ends 1 '' "$asm"$'\nNOPE\n'"$unknown 0, from 0)" bench --asm "$made/patch.asm" jobs/sob.txt
 ends 2 '' "hitch: --asm, and a source's file; $more" bench jobs/sob.txt --asm
 ends 2 '' "hitch: there is no file 'no.asm'; $more" bench --asm no.asm jobs/sob.txt
 
