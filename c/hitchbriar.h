@@ -2,7 +2,7 @@
    text of one op code, written and read; the assembler for patches; the check of another shop's trace; and the plug
    recorder: one scan, and the report of a channel.
 
-   Each is a library of its own, which `rt staticlib NAME` proves and writes: the processor libfirmware.a, the text
+   Each is a library of its own for x86-64, which `rt staticlib NAME` proves and writes: the processor libfirmware.a, the text
    libtextc.a, the assembler libassembler_c.a, the check of traces libtracecall.a, the recorder liblentrecorder.a. A program
    links what it calls. The processor and the text need nothing else, no C library either; the other three call its memset or
    memcpy.
@@ -112,17 +112,20 @@ enum {
     WD16_LINE_DEVICE = 0x0100, /* times the device code, 0 to 15 */
 };
 
-/* The processor's refusals, in the order in which they are looked for. */
+/* ---- refusals: what a call returns, or 0. Each number has a line with its words below, which hitch says too; 23 is not
+   among them, since the listing has no function here */
+
+/* Refusals of the processor, in the order in which they are looked for. 21: the state is not 24 bytes, the tally not 6 or the
+   settings not 4; the settings' first byte is over 1; or, where the state is read, indicators over 15, I2 over 1, a mode over
+   5, a cause over 9, or byte 20 or 21 over 1. */
 enum {
     WD16_DONE = 0,
-    WD16_BAD_BUFFER = 21,    /* the state is not 24 bytes, the tally not 6 or the settings not 4; the settings' first
-                                byte is over 1; or, where the state is read, indicators over 15, I2 over 1, a mode over 5,
-                                a cause over 9, or byte 20 or 21 over 1 */
-    WD16_BAD_IMAGE = 1,      /* not 65,536 bytes */
-    WD16_BAD_MAP = 2,        /* not 256 bytes */
-    WD16_BAD_MAP_BYTE = 3,   /* over 2 */
+    WD16_BAD_BUFFER = 21,    /* a buffer for C has a wrong length, or a byte over its range */
+    WD16_BAD_IMAGE = 1,      /* the image is not 65,536 bytes */
+    WD16_BAD_MAP = 2,        /* the map is not 256 bytes */
+    WD16_BAD_MAP_BYTE = 3,   /* a byte of the map is over 2 */
     WD16_BAD_SETUP = 35,     /* a jumper number is over 3, or the External Address Register over 63 */
-    WD16_TOO_MANY_LINES = 4, /* over 4,096 */
+    WD16_TOO_MANY_LINES = 4, /* over 4,096 line words */
     WD16_BAD_LINE = 5,       /* an unused bit of a line word is set */
 };
 
@@ -169,16 +172,17 @@ enum {
                         text has there after the same beginning; the line's length where it ends too early */
 };
 
-/* Refusals, in the order in which they are looked for: 21 (the answer is not 6 bytes), then these. */
+/* Refusals of the text, in the order in which they are looked for: 21 (the answer is not 6 bytes), 38, then 8, 6 and 7 where
+   a text is written, and 10 and the others, each with its column, where one is read. */
 enum {
     WD16_ODD_WORDS = 38,   /* the words' buffer has an odd number of bytes */
-    WD16_TEXT_SHORT = 8,   /* writing: the text's buffer is under 32 bytes */
-    WD16_NO_WORDS = 6,     /* writing: no words */
-    WD16_WORD_MISSING = 7, /* writing: a needed next word is missing */
-    WD16_WORDS_SHORT = 10, /* reading: the words' buffer is under 6 bytes */
-    WD16_EARLY_END = 32,   /* reading, each with its column: the line ends too early, the empty line too; */
-    WD16_AFTER_TEXT = 31,  /* a character after a whole text; */
-    WD16_UNKNOWN_NAME = 9, /* an unknown mnemonic; */
+    WD16_TEXT_SHORT = 8,   /* the text's buffer is under 32 bytes */
+    WD16_NO_WORDS = 6,     /* no words */
+    WD16_WORD_MISSING = 7, /* a needed next word is missing */
+    WD16_WORDS_SHORT = 10, /* the words' buffer is under 6 bytes */
+    WD16_EARLY_END = 32,   /* the line ends too early, the empty line too */
+    WD16_AFTER_TEXT = 31,  /* a character stands after a whole text */
+    WD16_UNKNOWN_NAME = 9, /* an unknown mnemonic */
     WD16_BAD_OPERAND = 30, /* a bad operand */
 };
 
@@ -206,14 +210,14 @@ enum {
     WD16_REFUSED_LINE = 4,   /* the line of a refusal from 24 to 28, from 0 */
 };
 
-/* Refusals, in the order in which they are looked for: 21 (the answer is not 6 bytes), then these. Those from 24 to 28 tell
-   the lowest line that has them. */
+/* Refusals of the assembler, in the order in which they are looked for: 21 (the answer is not 6 bytes), then these. Those
+   from 24 to 28 tell the lowest line that has them. */
 enum {
     WD16_SECTION_SHORT = 10, /* the section is under 12,290 bytes */
     WD16_SOURCE_LINES = 36,  /* the source is not whole lines of 32 bytes, or over 1,024 of them */
     WD16_UNKNOWN_TEXT = 24,  /* a line is no text */
-    WD16_LABEL_AGAIN = 25,   /* its label is already given */
-    WD16_LABEL_MISSING = 26, /* no line gives a label that it names */
+    WD16_LABEL_AGAIN = 25,   /* a line's label is already given */
+    WD16_LABEL_MISSING = 26, /* no line gives a label that a line names */
     WD16_OUT_OF_PLACE = 28,  /* an odd origin, or words that overlap an earlier line's or run past FFFF */
     WD16_OUT_OF_REACH = 27,  /* a branch further than -128 to 127 words, or SOB further than 0 to 63 back */
 };
@@ -245,20 +249,21 @@ enum { /* what a trace is found to be */
     WD16_BY_LENGTH = 2, /* the step is missing, or one too many */
 };
 
-/* Refusals: 21 (the verdict is not 6 bytes), then the job's, the first that its reader meets, entry by entry, then 29. */
+/* Refusals of the check: 21 (the verdict is not 6 bytes), then the job's, the first that its reader meets, entry by entry,
+   then 29. */
 enum {
-    WD16_JOB_ENDS = 11,       /* inside a count or an entry */
-    WD16_TOO_MANY_PAGES = 12, /* over 256 */
-    WD16_PAGE_NOT_RISING = 13,
-    WD16_TOO_MANY_WORDS = 14, /* over 4,096 */
-    WD16_ADDRESS_ODD = 15,
-    WD16_ADDRESS_NOT_RISING = 16,
-    WD16_ADDRESS_UNFITTED = 17,
-    WD16_TOO_MANY_JOB_LINES = 18, /* over 4,096 */
+    WD16_JOB_ENDS = 11,           /* the job ends inside a count or an entry */
+    WD16_TOO_MANY_PAGES = 12,     /* over 256 pages */
+    WD16_PAGE_NOT_RISING = 13,    /* a page is not above the one before it */
+    WD16_TOO_MANY_WORDS = 14,     /* over 4,096 words */
+    WD16_ADDRESS_ODD = 15,        /* a word's address is odd */
+    WD16_ADDRESS_NOT_RISING = 16, /* a word's address is not above the one before it */
+    WD16_ADDRESS_UNFITTED = 17,   /* a word's page is not fitted */
+    WD16_TOO_MANY_JOB_LINES = 18, /* over 4,096 line words */
     WD16_BAD_JOB_LINE = 19,       /* an unused bit of a line word is set */
-    WD16_READ_ONLY_PAGE = 22,     /* not rising, or not fitted */
-    WD16_JOB_BYTES_LEFT = 20,
-    WD16_TRACE_CUT = 29, /* inside its count or a state, or bytes are left over */
+    WD16_READ_ONLY_PAGE = 22,     /* a read-only page is not above the one before it, or is not fitted */
+    WD16_JOB_BYTES_LEFT = 20,     /* bytes are left over after the job */
+    WD16_TRACE_CUT = 29,          /* the trace ends inside its count or a state, or has bytes left over */
 };
 
 /* Holds another shop's trace of a job against the processor, on a board with the third microm and the jumpers 11 and 11. A
@@ -299,8 +304,9 @@ enum {
     WD16_REPORTS = 2,
 };
 
-/* Refusals, in the order in which they are looked for: 21 (the cards or the readings are not 16, the recorder not 194 bytes,
-   the channel not 1 or the report not 12; a card's byte is over 1; or as of a run), then a run's, then these. */
+/* Refusals of the recorder, in the order in which they are looked for: 21 (the cards or the readings are not 16, the
+   recorder not 194 bytes, the channel not 1 or the report not 12; a card's byte is over 1; or as of a run), then a run's,
+   then these. */
 enum {
     WD16_BAD_READING = 33, /* a reading of a channel that has its card is not from -500 to 500 */
     WD16_SCANS_FULL = 37,  /* a scan past the 4,096th */
@@ -312,9 +318,10 @@ enum {
    the line words, from the state where the last scan ended: the state, the tally and the image as after wd16_run, and the
    recorder with one scan more. Refusals: 21, 1, 2, 3, 35, 4, 5, 33, 37. */
 uint8_t wd16_scan(uint8_t *state, size_t state_length, uint8_t *tally, size_t tally_length, uint8_t *image,
-                  size_t image_length, const uint8_t *map, size_t map_length, const uint16_t *lines, size_t lines_length,
-                  const uint8_t *settings, size_t settings_length, const uint8_t *cards, size_t cards_length,
-                  const uint16_t *readings, size_t readings_length, uint8_t *recorder, size_t recorder_length);
+                  size_t image_length, const uint8_t *map, size_t map_length, const uint8_t *settings,
+                  size_t settings_length, const uint16_t *lines, size_t lines_length, const uint8_t *cards,
+                  size_t cards_length, const uint16_t *readings, size_t readings_length, uint8_t *recorder,
+                  size_t recorder_length);
 
 /* Writes the report of the channel whose number is the one byte at `channel`. Refusals: 21, 34. */
 uint8_t wd16_report(const uint8_t *recorder, size_t recorder_length, const uint8_t *channel, size_t channel_length,

@@ -66,20 +66,36 @@ static const struct call *named(const char *name)
     exit(1);
 }
 
+/* The function of a request, by its name. */
+static const struct call *take_name(uint8_t length)
+{
+    char name[MOST_NAME + 1] = { 0 };
+    take(name, length);
+    return named(name);
+}
+
+static void take_arguments(const struct call *call)
+{
+    for (int at = 0; at < call->arguments; at++)
+        take_argument(&argument[at], call->element[at]);
+}
+
+static void give_buffers(const struct call *call)
+{
+    for (int at = 0; at < call->arguments; at++)
+        if (call->element[at] != 0)
+            fwrite(argument[at].bytes, call->element[at], argument[at].length, stdout);
+}
+
 int main(void)
 {
     uint8_t length;
     while (fread(&length, 1, 1, stdin) == 1) {
-        char name[MOST_NAME + 1] = { 0 };
-        take(name, length);
-        const struct call *call = named(name);
-        for (int at = 0; at < call->arguments; at++)
-            take_argument(&argument[at], call->element[at]);
+        const struct call *call = take_name(length);
+        take_arguments(call);
         uint8_t answer = call->made(argument);
         fwrite(&answer, 1, 1, stdout);
-        for (int at = 0; at < call->arguments; at++)
-            if (call->element[at] != 0)
-                fwrite(argument[at].bytes, call->element[at], argument[at].length, stdout);
+        give_buffers(call);
         fflush(stdout);
     }
     return 0;

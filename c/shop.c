@@ -15,28 +15,52 @@ static int signed_at(const uint8_t *bytes, size_t at)
     return (int16_t)word_at(bytes, at);
 }
 
+/* Prints a refusal; answers whether there was none. */
+static int done(const char *what, uint8_t why)
+{
+    if (why != WD16_DONE)
+        printf("%s refused %u\n", what, why);
+    return why == WD16_DONE;
+}
+
 /* ---- a patch */
 
 static uint8_t section[WD16_SECTION];
 
-/* Assembles lines, padded with spaces, and answers the section's length, or 0. */
-static size_t assemble(const char *const *lines, size_t count)
+/* Up to 8 lines of up to 32 characters, padded with spaces. */
+static const uint8_t *padded(const char *const *lines, size_t count)
 {
     static uint8_t source[8 * WD16_SOURCE_LINE];
-    uint8_t answer[WD16_ANSWER];
     memset(source, ' ', sizeof source);
     for (size_t n = 0; n < count; n++)
         memcpy(source + n * WD16_SOURCE_LINE, lines[n], strlen(lines[n]));
-    uint8_t why = wd16_assemble(source, count * WD16_SOURCE_LINE, section, sizeof section, answer, sizeof answer);
-    if (why != WD16_DONE) {
-        printf("patch refused %u at line %u\n", why, word_at(answer, WD16_REFUSED_LINE));
-        return 0;
-    }
+    return source;
+}
+
+static void show_section(size_t length)
+{
     printf("patch of %u words:", word_at(section, 0));
-    for (size_t at = 2; at < word_at(answer, WD16_SECTION_LENGTH); at += 4)
+    for (size_t at = 2; at < length; at += 4)
         printf(" %04X %04X", word_at(section, at), word_at(section, at + 2));
     printf("\n");
-    return word_at(answer, WD16_SECTION_LENGTH);
+}
+
+/* Whether a refusal tells a line: those that don't leave the answer as it was. */
+static int tells_line(uint8_t why)
+{
+    return why >= WD16_UNKNOWN_TEXT && why <= WD16_OUT_OF_PLACE;
+}
+
+/* Assembles a source, and answers the section's length, or 0. */
+static size_t assemble(const uint8_t *source, size_t length)
+{
+    uint8_t answer[WD16_ANSWER];
+    uint8_t why = wd16_assemble(source, length, section, sizeof section, answer, sizeof answer);
+    if (tells_line(why))
+        printf("patch refused %u at line %u\n", why, word_at(answer, WD16_REFUSED_LINE));
+    else if (done("patch", why))
+        show_section(word_at(answer, WD16_SECTION_LENGTH));
+    return why == WD16_DONE ? word_at(answer, WD16_SECTION_LENGTH) : 0;
 }
 
 /* ---- a trace */
@@ -45,9 +69,9 @@ static void check(const uint8_t *job, size_t job_length, const uint8_t *trace, s
 {
     uint8_t verdict[WD16_VERDICT];
     uint8_t why = wd16_check_trace(job, job_length, trace, trace_length, verdict, sizeof verdict);
-    if (why != WD16_DONE)
-        printf("trace refused %u\n", why);
-    else if (word_at(verdict, WD16_FOUND) == WD16_ACCEPTED)
+    if (!done("trace", why))
+        return;
+    if (word_at(verdict, WD16_FOUND) == WD16_ACCEPTED)
         printf("trace accepted\n");
     else if (word_at(verdict, WD16_FOUND) == WD16_BY_LENGTH)
         printf("trace wrong at step %u: missing, or one too many\n", word_at(verdict, WD16_WRONG_STEP));
@@ -68,7 +92,7 @@ static size_t job_of(uint8_t *job, size_t length, uint8_t lines)
 
 static void traces(size_t length)
 {
-    static uint8_t job[WD16_SECTION];
+    static uint8_t job[3 + WD16_SECTION + 2 + 2 * 255];
     static const uint8_t none[] = { 0, 0 };
     static const uint8_t zeros[2 + 20] = { 1, 0 };
     check(job, job_of(job, length, 0), none, sizeof none);
@@ -79,47 +103,66 @@ static void traces(size_t length)
 
 /* ---- plugs */
 
-static void report(const uint8_t *recorder, uint8_t channel)
+static uint8_t image[WD16_IMAGE], map[WD16_MAP], state[WD16_STATE], tally[WD16_TALLY], recorder[WD16_RECORDER];
+static const uint8_t settings[WD16_SETTINGS] = {
+    [WD16_BLOCKS] = 1, [WD16_POWER_UP] = WD16_UP_FETCH, [WD16_HALT] = WD16_HALT_FETCH};
+
+static uint8_t power_up(void)
+{
+    return wd16_power_up(state, sizeof state, image, sizeof image, map, sizeof map, settings, sizeof settings);
+}
+
+enum { NO_CHANNEL = -1 };
+
+/* A scan in which every channel has the same reading; the channel `pulled` has no card. */
+static uint8_t scan(int reading, int pulled)
+{
+    uint16_t readings[WD16_CHANNELS], line = 0;
+    uint8_t cards[WD16_CHANNELS];
+    for (int n = 0; n < WD16_CHANNELS; n++) {
+        cards[n] = n != pulled;
+        readings[n] = (uint16_t)reading;
+    }
+    return wd16_scan(state, sizeof state, tally, sizeof tally, image, sizeof image, map, sizeof map, settings,
+                     sizeof settings, &line, 1, cards, sizeof cards, readings, WD16_CHANNELS, recorder, sizeof recorder);
+}
+
+static void report(uint8_t channel)
 {
     uint8_t told[WD16_REPORT];
-    uint8_t why = wd16_report(recorder, WD16_RECORDER, &channel, 1, told, sizeof told);
-    if (why != WD16_DONE)
-        printf("channel %u refused %u\n", channel, why);
-    else
-        printf("channel %u: %u readings, %u blanks, lowest %d, highest %d, average %d/%u\n", channel,
-               word_at(told, WD16_READINGS), word_at(told, WD16_CARD_BLANKS), signed_at(told, WD16_LOWEST),
-               signed_at(told, WD16_HIGHEST), (int)(word_at(told, WD16_SUM) + 65536u * word_at(told, WD16_SUM + 2)),
-               word_at(told, WD16_READINGS));
+    uint8_t why = wd16_report(recorder, sizeof recorder, &channel, 1, told, sizeof told);
+    printf("channel %u: ", channel);
+    if (done("report", why))
+        printf("%u readings, %u blanks, lowest %d, highest %d, average %d/%u\n", word_at(told, WD16_READINGS),
+               word_at(told, WD16_CARD_BLANKS), signed_at(told, WD16_LOWEST), signed_at(told, WD16_HIGHEST),
+               (int)(word_at(told, WD16_SUM) + 65536u * word_at(told, WD16_SUM + 2)), word_at(told, WD16_READINGS));
 }
 
 static void plugs(void)
 {
-    static uint8_t image[WD16_IMAGE], map[WD16_MAP], state[WD16_STATE], tally[WD16_TALLY], recorder[WD16_RECORDER];
-    static const uint8_t settings[WD16_SETTINGS] = { 1, 3, 3, 0 };
-    uint16_t readings[WD16_CHANNELS], line = 0;
-    uint8_t cards[WD16_CHANNELS];
     map[0] = WD16_FITTED;
-    wd16_power_up(state, sizeof state, image, sizeof image, map, sizeof map, settings, sizeof settings);
-    for (int scan = 0; scan < 3; scan++) {
-        for (int n = 0; n < WD16_CHANNELS; n++) {
-            cards[n] = n != 4 || scan != 1; /* the second scan has no card for channel 4 */
-            readings[n] = (uint16_t)(-180 - scan);
-        }
-        wd16_scan(state, sizeof state, tally, sizeof tally, image, sizeof image, map, sizeof map, &line, 1, settings,
-                  sizeof settings, cards, sizeof cards, readings, WD16_CHANNELS, recorder, sizeof recorder);
-    }
-    report(recorder, 3);
-    report(recorder, 4);
-    report(recorder, 16); /* 34 */
+    if (!done("power-up", power_up()))
+        return;
+    done("scan", scan(-180, NO_CHANNEL));
+    done("scan", scan(-181, 4)); /* the card of channel 4 is pulled */
+    done("scan", scan(-182, NO_CHANNEL));
+    done("scan", scan(501, NO_CHANNEL)); /* no reading: 33, and no channel counts it */
+    report(3);
+    report(4);
+    report(16); /* 34 */
 }
 
 int main(void)
 {
     static const char *const patch[] = { ".ORG 0016", ".WORD 0080", ".ORG 0080", "MOV #0003,R0", "LOOP: SOB R0,LOOP", "BR LOOP" };
     static const char *const missing[] = { "NOP", "BR AWAY" };
-    size_t length = assemble(patch, 6);
+    size_t length = assemble(padded(patch, 6), 6 * WD16_SOURCE_LINE);
     traces(length);
-    assemble(missing, 2); /* 26, at line 1 */
+    assemble(padded(missing, 2), 2 * WD16_SOURCE_LINE); /* 26, at line 1 */
+    assemble(padded(missing, 2), WD16_SOURCE_LINE + 7); /* half a line: 36, and no line is told */
+    map[1] = 3;
+    done("power-up", power_up()); /* a map byte over 2: 3 */
+    map[1] = WD16_UNFITTED;
     plugs();
     return 0;
 }

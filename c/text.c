@@ -32,6 +32,12 @@ static void write_text(const uint8_t *words, size_t length)
         printf(": refused %u\n", why);
 }
 
+/* Whether a refusal tells a column: those that don't leave the answer as it was. */
+static int tells_column(uint8_t why)
+{
+    return why == WD16_EARLY_END || why == WD16_AFTER_TEXT || why == WD16_UNKNOWN_NAME || why == WD16_BAD_OPERAND;
+}
+
 static void read_text(const char *text)
 {
     uint8_t words[WD16_WORDS];
@@ -40,7 +46,9 @@ static void read_text(const char *text)
     if (why == WD16_DONE)
         show_words(words, word_at(answer, WD16_COUNT));
     else
-        printf(" refused %u at column %u", why, word_at(answer, WD16_COLUMN));
+        printf(" refused %u", why);
+    if (tells_column(why))
+        printf(" at column %u", word_at(answer, WD16_COLUMN));
     printf("\n");
 }
 

@@ -1,11 +1,15 @@
 #!/usr/bin/env python3
-"""Every name in docs/PROOFS.md exists, and its table of mnemonics has the rows of the text's table. Run by .ci/run."""
+"""Every name that the papers quote exists, so does every file that they name, and the table of mnemonics in docs/PROOFS.md has
+the rows of the text's table. Run by .ci/run."""
 import os
 import re
 import sys
 
 ROOT = os.path.join(os.path.dirname(os.path.abspath(__file__)), "..")
-WORDS = {"requires", "ensures", "match", "let"}
+PAPERS = ["README.md"] + [f"docs/{name}.md" for name in "PROOFS CONTRACTS ARCHITECTURE DECISIONS LANDINGS SPEED".split()]
+PROOFS = "docs/PROOFS.md"
+# Quoted words that are no names of ours: the language's, commands, the C library's, and texts and words of op codes.
+NO_NAMES = set("requires ensures match let  rt cargo python3  memset memcpy  ADD ADDX BRX NOPX B001".split())
 NAME = r"[A-Za-z_][\w'′₀-₉-]*"
 
 
@@ -31,8 +35,8 @@ def functions(text):
 
 
 def other_items(text):
-    """Types, their cases and fields, constants, modules and labels of a source file."""
-    found = set(re.findall(r"\b(?:struct|enum|const|mod|impl) (\w+)", text))
+    """Types, their cases and fields, parameters, constants, modules and labels of a source file."""
+    found = set(re.findall(r"\b(?:struct|enum|const|mod|impl) (\w+)", text)) | set(re.findall(r"[(,] ?(\w+): ", text))
     return found | set(re.findall(r"^\s+(?:pub )?([A-Za-z]\w*)(?:\(|:|,|$)", text, re.M))
 
 
@@ -49,6 +53,8 @@ def gather():
         text = read(path)
         names |= functions(text) | other_items(text) | {crate, module}
         source.setdefault(crate, {})[module] = functions(text) | other_items(text)
+    for path in files("compare/src", ".rs"):
+        names |= functions(read(path)) | other_items(read(path))
     for path in list(files("crates", ".edit")) + list(files("edits", ".edit")):
         names.add(os.path.basename(path)[: -len(".edit")])
     return specs, source, names
@@ -73,10 +79,14 @@ def wrong_names(text, names):
     for word in quoted(text):
         if re.fullmatch(rf"{NAME}(?:::\w+)*", word):
             for part in word.split("::"):
-                if part not in names | WORDS:
+                if part not in names | NO_NAMES:
                     yield f"`{word}`: nothing has this name"
-        elif re.fullmatch(r"(?:crates|docs|edits|c|jobs|compare)/[\w./-]+", word) and not os.path.exists(os.path.join(ROOT, word)):
-            yield f"`{word}`: no such file"
+
+
+def wrong_files(text):
+    for path in re.findall(r"(?<![\w/])(?:crates|docs|edits|c|jobs|compare)/[\w./-]*\w", text):
+        if not os.path.exists(os.path.join(ROOT, path)):
+            yield f"{path}: no such file"
 
 
 def wrong_places(text, specs):
@@ -125,15 +135,24 @@ def wrong_rows(text, specs, source):
                 yield f"{name}: no proof in crates/{folder}"
 
 
+def wrong_in(paper, specs, source, names):
+    text = read(paper)
+    yield from wrong_names(text, names)
+    yield from wrong_files(text)
+    yield from wrong_places(text, specs)
+    if paper == PROOFS:
+        yield from wrong_rows(text, specs, source)
+
+
 def main():
-    specs, source, names = gather()
-    text = read("docs", "PROOFS.md")
-    wrong = list(wrong_names(text, names)) + list(wrong_places(text, specs)) + list(wrong_rows(text, specs, source))
+    gathered = gather()
+    wrong = [f"{paper}: {line}" for paper in PAPERS for line in wrong_in(paper, *gathered)]
     for line in wrong:
-        print(f"docs/PROOFS.md: {line}")
+        print(line)
     if wrong:
         sys.exit(1)
-    print(f"docs/PROOFS.md: {len(set(quoted(text)))} names and {len(table_of(text))} mnemonics, all there")
+    quotes = sum(len(set(quoted(read(paper)))) for paper in PAPERS)
+    print(f"{len(PAPERS)} papers: {quotes} names and {len(table_of(read(PROOFS)))} mnemonics, all there")
 
 
 main()

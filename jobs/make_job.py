@@ -9,12 +9,14 @@ Lines of the text, all numbers hex but a count after x or cut:
     bytes 00 FF           bytes after the last section, for a job that is to be refused
     cut 3                 leaves out the last 3 bytes, for the same
 A # starts a comment. Sections are written in the order of the format, entries in the order of the text. SECTION is a file
-that hitch asm wrote: its words stand before those of the text, so that a program can be written in mnemonics.
+that hitch asm wrote, a patch in mnemonics: its words go among those of the text by address, and where both have a word at
+an address, the patch's takes the place of the text's.
 Nothing is checked that the job reader checks: a text can say what is to be refused. A repeat is of 4,096 at most, and a
 section has 65,535 entries at most, since its count has two bytes.
 
 Status: 0 made; 1 the text is refused, in words, with its line, and nothing is written; 2 wrong use.
 """
+import heapq
 import os
 import re
 import sys
@@ -27,9 +29,14 @@ class TextError(Exception):
     """A text that is no job's text."""
 
 
+def is_hex(word):
+    """Whether a word is a hex number."""
+    return re.fullmatch("[0-9A-Fa-f]+", word) is not None
+
+
 def number(word, most):
     """A hex number of at most `most`."""
-    if not re.fullmatch("[0-9A-Fa-f]+", word):
+    if not is_hex(word):
         raise TextError(f"{word!r} is not a hex number")
     value = int(word, 16)
     if value > most:
@@ -86,8 +93,8 @@ def lines_of(words):
 
 def entries_of(words):
     """Addresses and words of a line ADDRESS = WORD WORD .."""
-    if words[1] != "=" or len(words) < 3:
-        raise TextError("one address, =, and words")
+    if words[1:2] != ["="] or len(words) < 3:
+        raise TextError("an address, =, and words")
     start = number(words[0], 0xFFFF)
     return [((start + 2 * k) % 0x10000, number(word, 0xFFFF)) for k, word in enumerate(words[2:])]
 
@@ -107,6 +114,16 @@ def entries_in(section):
     if len(section) < 2 or len(section) != 2 + 4 * word_at(section, 0):
         raise TextError("no word section: a count, and as many addresses and words")
     return [(word_at(section, at), word_at(section, at + 2)) for at in range(2, len(section), 4)]
+
+
+def patched(entries, patch):
+    """The entries with those of a patch among them, by address. A word of the patch takes the place of the one at its address, so
+    that entries which don't rise still don't."""
+    words = dict(patch)
+    there = {address for address, _ in entries}
+    kept = [(address, words.get(address, word)) for address, word in entries]
+    added = [(address, word) for address, word in patch if address not in there]
+    return counted(list(heapq.merge(kept, added, key=lambda entry: entry[0])))
 
 
 class Job:
@@ -130,7 +147,7 @@ class Job:
             if len(words) != 2:
                 raise TextError("cut, and one count")
             self.cuts.append((at, count(words[1])))
-        elif "=" in words[1:]:
+        elif "=" in words[1:] or is_hex(words[0]):
             self.entries = counted(self.entries + entries_of(words))
         else:
             raise TextError(f"no line begins {words[0]!r}")
@@ -171,10 +188,9 @@ def lines_in(text):
     return re.split("\r\n|\r|\n", text)
 
 
-def job_of(text, kind=Job, entries=()):
-    """The bytes that a text comes to; these entries stand before those of the text."""
+def job_of(text, kind=Job, patch=()):
+    """The bytes that a text comes to, with the entries of a patch."""
     job = kind()
-    job.entries.extend(entries)
     for at, line in enumerate(lines_in(text), 1):
         words = re.findall("[^ \t\f\v]+", line.partition("#")[0].replace("=", " = "))
         try:
@@ -182,6 +198,7 @@ def job_of(text, kind=Job, entries=()):
                 job.take(at, words)
         except TextError as why:
             raise TextError(f"line {at}: {why}") from None
+    job.entries = patched(job.entries, patch)
     return job.bytes()
 
 
@@ -222,12 +239,12 @@ class Program:
         """The bytes of the named text, with the words of the named section."""
         at = ""
         try:
-            entries = []
+            patch = []
             if section is not None:
                 at = f"{section}, "
-                entries = entries_in(read(section))
+                patch = entries_in(read(section))
             at = "" if name == "-" else f"{name}, "
-            return job_of(text_of(read(name)), self.kind, entries)
+            return job_of(text_of(read(name)), self.kind, patch)
         except OSError as why:
             return self.stop(2, why)
         except TextError as why:

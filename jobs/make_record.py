@@ -1,7 +1,9 @@
 #!/usr/bin/env python3
-"""Makes the input of the program record from readable text: make_record.py [TEXT] > RECORD   (without TEXT, or with -, from standard input)
+"""Makes the input of the program record from readable text: make_record.py [--words SECTION] [TEXT] > RECORD
+Without TEXT, or with -, the text is standard input.
 
-The text is a job's (make_job.py --help), whose line words run before the first scan, and a line for each scan:
+The text is a job's (make_job.py --help, which tells of SECTION too), whose line words run before the first scan, and a line for
+each scan:
     scan 205 -- -37 0 .. lines 0000 x40
 sixteen channels, each a count of tenths of a degree in decimal, or -- for no card; then, if the scan has any, lines and its line
 words as in a job. A # starts a comment.

@@ -40,7 +40,7 @@ class Bytes(unittest.TestCase):
     def test_entries_stay_in_the_order_of_the_text(self):
         self.assertEqual(job_of("pages 2 1"), bytes.fromhex("0200 0201 0000 0000"))
 
-    def test_read_only_pages(self):
+    def test_read_only_ranges(self):
         self.assertEqual(job_of("pages 0-2\nread-only 1-2"), bytes.fromhex("0300 000102 0000 0000 0200 0102"))
         self.assertEqual(job_of("read-only"), bytes.fromhex("0000 0000 0000 0000"))
 
@@ -62,7 +62,27 @@ class Bytes(unittest.TestCase):
         section = make_job.entries_in(bytes.fromhex("0200 80000100 82000200"))
         self.assertEqual(section, [(0x80, 1), (0x82, 2)])
         self.assertEqual(make_job.entries_in(bytes(2)), [])
-        self.assertEqual(job_of("pages 0\n90 = 3", entries=section), job_of("pages 0\n80 = 1 2\n90 = 3"))
+        self.assertEqual(job_of("pages 0\n90 = 3", patch=section), job_of("pages 0\n80 = 1 2\n90 = 3"))
+
+    def patched(self, text, patch, same):
+        with self.subTest(text):
+            self.assertEqual(job_of(text, patch=patch), job_of(same))
+
+    def test_a_patch_goes_in_by_address(self):
+        patch = [(0x80, 0xA), (0x84, 0xB)]
+        self.patched("", patch, "80 = A\n84 = B")
+        self.patched("16 = 80", patch, "16 = 80\n80 = A\n84 = B")
+        self.patched("16 = 80\n82 = 2\n90 = 3", patch, "16 = 80\n80 = A 2 B\n90 = 3")
+
+    def test_a_patch_takes_the_place_of_words(self):
+        patch = [(0x80, 0xA), (0x84, 0xB)]
+        self.patched("80 = 1 2 3 4", patch, "80 = A 2 B 4")
+        self.patched("7E = 1 2", patch, "7E = 1 A\n84 = B")
+
+    def test_a_patch_leaves_refused_what_was(self):
+        self.patched("82 = 1\n80 = 2", [(0x80, 0xA)], "82 = 1\n80 = A")
+        self.patched("80 = 1\n80 = 2", [(0x80, 0xA)], "80 = A\n80 = A")
+        self.patched("90 = 1\n80 = 2", [(0x82, 0xA)], "82 = A\n90 = 1\n80 = 2")
 
     def test_as_many_as_a_count_can_say(self):
         self.assertEqual(job_of("lines 0000 x4096")[4:], bytes.fromhex("0010") + bytes(2 * 4096))
@@ -85,8 +105,8 @@ class Refused(unittest.TestCase):
     def test_no_line_of_a_job(self):
         self.refused("page 00", "line 1: no line begins 'page'")
         self.refused("# a comment\n\npages 00 # more\n\tpage 00", "line 4: no line begins 'page'")
-        for text in ("0080 =", "1 2 = 3", "1 2 = 3 = 4"):
-            self.refused(text, "line 1: one address, =, and words")
+        for text in ("0080 =", "1 2 = 3", "1 2 = 3 = 4", "0016 0080", "0016", "page 0 = 1"):
+            self.refused(text, "line 1: an address, =, and words")
         self.refused("= 1", "line 1: no line begins '='")
 
     def test_numbers(self):
@@ -122,6 +142,10 @@ class Refused(unittest.TestCase):
         self.refused("lines 0000" + " x4096" * 17, words.replace("17", "1"))
         self.refused("pages 00-FF\n" * 257, words.replace("17", "256"))
         self.refused(("0000 =" + " 1" * 4096 + "\n") * 16, words.replace("17", "16"))
+        most = ("0000 =" + " 1" * 4369 + "\n") * 15
+        self.assertEqual(len(job_of(most)), 6 + 4 * 65535)
+        with self.assertRaisesRegex(TextError, "^more than 65535 entries in a section$"):
+            job_of(most, patch=[(0xF000, 0)])
 
     def test_cuts(self):
         self.refused("cut 7", "line 1: a cut past the end: 6 bytes are left")

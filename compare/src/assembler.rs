@@ -1,7 +1,7 @@
 //! The assembler for patches (wish 7). A line with labels is first read as the line that
 //! has numbers in their places; what the labels come to is put in at the end.
 
-use std::collections::{BTreeMap, HashMap};
+use std::collections::{BTreeMap, HashMap, HashSet};
 
 use crate::level::Level;
 use crate::table::{rows, Operands};
@@ -39,6 +39,16 @@ enum Said<'a> {
 struct Line<'a> {
     label: Option<&'a str>,
     said: Said<'a>,
+}
+
+/// The source that has these lines, each as long as it must be.
+pub fn source_of<T: AsRef<[u8]>>(lines: &[T]) -> Vec<u8> {
+    let padded = |line: &T| {
+        let mut padded = line.as_ref().to_vec();
+        padded.resize(LINE, b' ');
+        padded
+    };
+    lines.iter().flat_map(padded).collect()
 }
 
 // ---- one line ----
@@ -154,27 +164,39 @@ fn line_of(level: Level, bytes: &[u8]) -> Option<Line<'_>> {
 
 // ---- all lines ----
 
-/// The origins at which the lines begin; one past the last word is 10000. Refusal 28.
-fn origins_of(lines: &[Line]) -> Result<Vec<u32>, Placed> {
-    let mut origins = Vec::new();
-    let mut taken = std::collections::HashSet::new();
-    let mut origin = 0;
-    for (place, line) in lines.iter().enumerate() {
-        let refused = Placed::new(28, place);
-        origins.push(origin);
-        match &line.said {
+/// Where the next word goes, one past the last being 10000, and the addresses that are taken.
+#[derive(Default)]
+struct Layout {
+    origin: u32,
+    taken: HashSet<u32>,
+}
+
+impl Layout {
+    /// Moves on over what a line says; none where it can't stand here.
+    fn lay(&mut self, said: &Said) -> Option<()> {
+        match said {
             Said::Nothing => {}
-            Said::Origin(to) if to & 1 != 0 => return Err(refused),
-            Said::Origin(to) => origin = u32::from(*to),
-            Said::Words(words, _) => {
-                for _ in words {
-                    if origin > 0xFFFE || !taken.insert(origin) {
-                        return Err(refused);
-                    }
-                    origin += 2;
-                }
-            }
+            Said::Origin(to) if to & 1 != 0 => return None,
+            Said::Origin(to) => self.origin = u32::from(*to),
+            Said::Words(words, _) => words.iter().try_for_each(|_| self.take_word())?,
         }
+        Some(())
+    }
+
+    fn take_word(&mut self) -> Option<()> {
+        let free = self.origin <= 0xFFFE && self.taken.insert(self.origin);
+        self.origin += 2;
+        free.then_some(())
+    }
+}
+
+/// The origins at which the lines begin. Refusal 28.
+fn origins_of(lines: &[Line]) -> Result<Vec<u16>, Placed> {
+    let mut origins = Vec::new();
+    let mut layout = Layout::default();
+    for (place, line) in lines.iter().enumerate() {
+        origins.push(layout.origin as u16);
+        layout.lay(&line.said).ok_or(Placed::new(28, place))?;
     }
     Ok(origins)
 }
@@ -220,27 +242,39 @@ fn uses_of<'l, 'a>(line: &'l Line<'a>) -> &'l [Use<'a>] {
     }
 }
 
+/// Refusal 26.
+fn all_known(lines: &[Line], labels: &HashMap<&str, usize>) -> Result<(), Placed> {
+    let known = |line: &Line| uses_of(line).iter().all(|u| labels.contains_key(u.label));
+    match lines.iter().position(|line| !known(line)) {
+        Some(place) => Err(Placed::new(26, place)),
+        None => Ok(()),
+    }
+}
+
+/// The words of a line at this address, with what its labels come to; none where one is too far.
+fn settled(line: &Line, at: u16, value_of: impl Fn(&str) -> u16) -> Option<Vec<u16>> {
+    let Said::Words(words, uses) = &line.said else {
+        return Some(Vec::new());
+    };
+    let mut words = words.clone();
+    for Use { label, field } in uses {
+        settle(&mut words, *field, at, value_of(label))?;
+    }
+    Some(words)
+}
+
 /// The words by their addresses. Refusals 24, 25, 26, 28, 27.
 fn patch(level: Level, source: &[u8]) -> Result<BTreeMap<u16, u16>, Placed> {
     let line = |(place, bytes)| line_of(level, bytes).ok_or(Placed::new(24, place));
     let lines = source.chunks_exact(LINE).enumerate().map(line);
     let lines: Vec<Line> = lines.collect::<Result<_, _>>()?;
     let labels = labels_of(&lines)?;
-    let known = |line: &Line| uses_of(line).iter().all(|u| labels.contains_key(u.label));
-    if let Some(place) = lines.iter().position(|line| !known(line)) {
-        return Err(Placed::new(26, place));
-    }
+    all_known(&lines, &labels)?;
     let origins = origins_of(&lines)?;
+    let value_of = |label: &str| origins[labels[label]];
     let mut patch = BTreeMap::new();
-    for (place, line) in lines.iter().enumerate() {
-        let Said::Words(words, uses) = &line.said else {
-            continue;
-        };
-        let (at, mut words) = (origins[place] as u16, words.clone());
-        for Use { label, field } in uses {
-            let value = origins[labels[label]] as u16;
-            settle(&mut words, *field, at, value).ok_or(Placed::new(27, place))?;
-        }
+    for (place, (line, &at)) in lines.iter().zip(&origins).enumerate() {
+        let words = settled(line, at, value_of).ok_or(Placed::new(27, place))?;
         patch.extend((at..=0xFFFE).step_by(2).zip(words));
     }
     Ok(patch)

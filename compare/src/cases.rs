@@ -231,6 +231,21 @@ fn memory(map_text: &str, image_text: &str) -> Option<Memory> {
     })
 }
 
+/// What a case of a step, a run or scans begins with.
+struct Start {
+    setup: Setup,
+    state: State,
+    memory: Memory,
+}
+
+fn start(level: Level, [set, state_text, map, image]: [&str; 4]) -> Option<Start> {
+    Some(Start {
+        setup: setup(level, set)?,
+        state: state(level, state_text)?,
+        memory: memory(map, image)?,
+    })
+}
+
 /// Channels and lines of a scan.
 fn scan(text: &str) -> Option<([Channel; CHANNELS], Vec<u16>)> {
     let (readings, lines) = text.split_once('/')?;
@@ -293,7 +308,8 @@ fn ran_text(ran: &Ran, image: &[u8]) -> String {
     format!("{state} {:04X} {first} {address} {image}", ran.blanks)
 }
 
-fn hex_text(bytes: &[u8]) -> String {
+/// Bytes as two digits each.
+pub fn hex_text(bytes: &[u8]) -> String {
     bytes.iter().map(|byte| format!("{byte:02X}")).collect()
 }
 
@@ -322,14 +338,9 @@ fn power_case(by: &mut dyn Answers, setup: &Setup, mut m: Memory) -> Option<Stri
     })
 }
 
-fn step_case(
-    by: &mut dyn Answers,
-    setup: &Setup,
-    state: State,
-    mut m: Memory,
-    line: u16,
-) -> Option<String> {
-    let stepped = by.step(setup, state, &mut m, line);
+fn step_case(by: &mut dyn Answers, start: Start, line: u16) -> Option<String> {
+    let mut m = start.memory;
+    let stepped = by.step(&start.setup, start.state, &mut m, line);
     answered(stepped, |s| {
         let (cause, blank) = (s.cause as u8, four(s.blank));
         let image = image_text(&m.image);
@@ -338,16 +349,11 @@ fn step_case(
 }
 
 /// The causes of the steps of a run, one digit each.
-fn causes(
-    by: &mut dyn Answers,
-    setup: &Setup,
-    mut state: State,
-    mut m: Memory,
-    lines: &[u16],
-) -> Option<String> {
+fn causes(by: &mut dyn Answers, start: Start, lines: &[u16]) -> Option<String> {
+    let (mut state, mut m) = (start.state, start.memory);
     let mut causes = String::new();
     for &line in lines {
-        let stepped = by.step(setup, state, &mut m, line)?.ok()?;
+        let stepped = by.step(&start.setup, state, &mut m, line)?.ok()?;
         state = stepped.state;
         causes += &(stepped.cause as u8).to_string();
     }
@@ -358,23 +364,22 @@ fn causes(
     })
 }
 
-fn run_case(
-    by: &mut dyn Answers,
-    setup: &Setup,
-    state: State,
-    mut m: Memory,
-    lines: &[u16],
-) -> Option<String> {
-    let before = m.clone();
-    let ran = match by.run(setup, state, &mut m, lines)? {
+fn run_case(by: &mut dyn Answers, start: Start, lines: &[u16]) -> Option<String> {
+    let mut m = start.memory.clone();
+    let ran = match by.run(&start.setup, start.state, &mut m, lines)? {
         Ok(ran) => ran,
         Err(refusal) => return Some(refused(refusal)),
     };
-    let causes = causes(by, setup, state, before, lines)?;
+    let causes = causes(by, start, lines)?;
     Some(format!("OK {} {causes}", ran_text(&ran, &m.image)))
 }
 
-fn written(answer: Answer<(usize, usize)>, text: &[u8]) -> Option<String> {
+fn write_case(
+    length: usize,
+    write: impl FnOnce(&mut [u8]) -> Answer<(usize, usize)>,
+) -> Option<String> {
+    let mut text = vec![0; length];
+    let answer = write(&mut text);
     answered(answer, |(length, count)| {
         let line = String::from_utf8_lossy(&text[..length]);
         format!("{length} {count} {line}")
@@ -423,29 +428,31 @@ fn trace_case(by: &mut dyn Answers, level: Level, job: &[u8], trace: &[u8]) -> O
     })
 }
 
-fn scans_case(
-    by: &mut dyn Answers,
-    setup: &Setup,
-    mut state: State,
-    mut m: Memory,
-    scans: &[&str],
-) -> Option<String> {
+fn list_case(by: &mut dyn Answers, level: Level, input: &[u8]) -> Option<String> {
+    let lines = by.list(level, input)?;
+    Some(lines.trim_end_matches('\n').replace('\n', "|"))
+}
+
+/// The reports of all channels.
+fn reports(by: &mut dyn Answers, tallies: &Tallies) -> Option<String> {
+    let report = |channel| Some(report_text(&by.report(tallies, channel)?.ok()?));
+    let reports: Option<Vec<String>> = (0..CHANNELS as u8).map(report).collect();
+    Some(reports?.join(","))
+}
+
+fn scans_case(by: &mut dyn Answers, start: Start, scans: &[&str]) -> Option<String> {
+    let (mut state, mut m) = (start.state, start.memory);
     let mut tallies = Tallies::new();
     let mut answers = Vec::new();
     for text in scans {
         let (channels, lines) = scan(text)?;
-        let ran = by.scan(setup, &mut tallies, state, &mut m, &channels, &lines);
+        let ran = by.scan(&start.setup, &mut tallies, state, &mut m, &channels, &lines);
         if let Some(Ok(ran)) = ran {
             state = ran.state;
         }
         answers.push(answered(ran, |ran| ran_text(&ran, &m.image))?);
     }
-    let mut reports = Vec::new();
-    for channel in 0..CHANNELS as u8 {
-        let report = by.report(&tallies, channel)?.ok()?;
-        reports.push(report_text(&report));
-    }
-    answers.push(reports.join(","));
+    answers.push(reports(by, &tallies)?);
     Some(answers.join(" ; "))
 }
 
@@ -469,32 +476,25 @@ fn answer_to(by: &mut dyn Answers, case: &str) -> Option<String> {
     }
     match (kind, fields) {
         ("bench", &[job]) => by.bench(level, &bytes(job)?),
-        ("list", &[input]) => {
-            let lines = by.list(level, &bytes(input)?)?;
-            Some(lines.trim_end_matches('\n').replace('\n', "|"))
-        }
+        ("list", &[input]) => list_case(by, level, &bytes(input)?),
         ("power", &[set, map, image]) => power_case(by, &setup(level, set)?, memory(map, image)?),
         ("step", &[set, s, map, image, line]) => {
-            let (setup, s) = (setup(level, set)?, state(level, s)?);
-            step_case(by, &setup, s, memory(map, image)?, word(line)?)
+            step_case(by, start(level, [set, s, map, image])?, word(line)?)
         }
         ("run", &[set, s, map, image, lines]) => {
-            let (setup, s) = (setup(level, set)?, state(level, s)?);
-            run_case(by, &setup, s, memory(map, image)?, &list(lines, word)?)
+            let start = start(level, [set, s, map, image])?;
+            run_case(by, start, &list(lines, word)?)
         }
         ("scans", &[set, s, map, image, ref scans @ ..]) => {
-            let (setup, s) = (setup(level, set)?, state(level, s)?);
-            scans_case(by, &setup, s, memory(map, image)?, scans)
+            scans_case(by, start(level, [set, s, map, image])?, scans)
         }
         ("write", &[length, words]) => {
-            let mut text = vec![0; hex(length)?];
-            let answer = by.write(level, &list(words, word)?, &mut text);
-            written(answer, &text)
+            let words = list(words, word)?;
+            write_case(hex(length)?, |text| by.write(level, &words, text))
         }
         ("cwrite", &[length, words]) => {
-            let mut text = vec![0; hex(length)?];
-            let answer = by.write_bytes(level, &bytes(words)?, &mut text);
-            written(answer, &text)
+            let words = bytes(words)?;
+            write_case(hex(length)?, |text| by.write_bytes(level, &words, text))
         }
         ("read", &[length, text]) => read_case(by, level, hex(length)?, &bytes(text)?),
         ("cread", &[length, text]) => read_bytes_case(by, level, hex(length)?, &bytes(text)?),

@@ -14,13 +14,24 @@ const MODES: usize = 6;
 const CAUSES: usize = 10;
 /// One more than the highest number of a refusal of a damaged call.
 const REFUSALS: usize = 38;
-/// The calls that are damaged, and the refusals that they must meet.
-const DAMAGED: [(Call, &str, &[usize]); 5] = [
+/// A call that is damaged, and the refusals that it must meet.
+type Damaged = (Call, &'static str, &'static [usize]);
+
+const DAMAGED: [Damaged; 5] = [
     (Call::PowerUp, "power-up", &[21, 1, 2, 3, 35]),
     (Call::Step, "step", &[21, 1, 2, 3, 35, 5]),
     (Call::Run, "run", &[21, 1, 2, 3, 35, 4, 5]),
     (Call::Scan, "scan", &[21, 1, 2, 3, 35, 4, 5, 33, 37]),
     (Call::Report, "report", &[21, 34]),
+];
+
+/// What modes 0 to 4 can come to at every level.
+const CAUSES_IN_MODES: [&[usize]; 5] = [
+    &[0, 1, 2, 3, 5, 6, 8],
+    &[1, 2, 3, 4, 6, 8],
+    &[0, 4, 8],
+    &[1, 4, 8],
+    &[8],
 ];
 
 fn kind_of(op: u16) -> usize {
@@ -30,6 +41,10 @@ fn kind_of(op: u16) -> usize {
 
 fn kind_name(kind: usize) -> &'static str {
     ROWS.get(kind).map_or("format 11", |row| row.name)
+}
+
+fn is_block_move(op: &u16) -> bool {
+    op >> 9 == 0x0E00 >> 9
 }
 
 // ---- what a step was ----
@@ -89,9 +104,16 @@ impl Seen<'_> {
 
     /// An element of a block move that was made, by itself.
     fn element(&self) -> Option<u16> {
-        let op = self.a.op.filter(|&op| op >> 9 == 0x0E00 >> 9)?;
+        let op = self.a.op.filter(is_block_move)?;
         let made = self.a.before.mode == Mode::Running && self.cause(Cause::OpCode);
         (made && self.a.setup.settings.microm).then_some(op)
+    }
+
+    /// An element that was made under XCT.
+    fn traced_element(&self) -> bool {
+        self.a.traced.as_ref().is_some_and(is_block_move)
+            && self.cause(Cause::OpCode)
+            && self.a.setup.settings.microm
     }
 
     /// An element with one of these registers as source or destination.
@@ -162,20 +184,14 @@ const CORNERS: [Corner; 47] = [
         s.element().is_some_and(|op| op >> 3 & 7 == op & 7)
     }),
     (BlockMoves, "a block move without its microm", |s| {
-        let reserved = s.a.op.is_some_and(|op| op >> 9 == 0x0E00 >> 9);
+        let reserved = s.a.op.as_ref().is_some_and(is_block_move);
         reserved && s.from(Mode::Running) && s.cause(Cause::OpCode) && s.element().is_none()
     }),
     (BlockMoves, "a traced element that is not the last", |s| {
-        s.a.traced.is_some_and(|op| op >> 9 == 0x0E00 >> 9)
-            && s.cause(Cause::OpCode)
-            && s.a.setup.settings.microm
-            && !s.last()
+        s.traced_element() && !s.last()
     }),
     (BlockMoves, "a traced last element", |s| {
-        s.a.traced.is_some_and(|op| op >> 9 == 0x0E00 >> 9)
-            && s.cause(Cause::OpCode)
-            && s.a.setup.settings.microm
-            && s.last()
+        s.traced_element() && s.last()
     }),
     (LateIen, "IEN that marks", |s| {
         s.did(IEN) && s.a.traced.is_none() && !s.a.before.i2 && s.after.state.mark
@@ -235,7 +251,7 @@ const CORNERS: [Corner; 47] = [
         |s| s.cause(Cause::BlankInOpCode) && s.read_only(),
     ),
     (ReadOnlyPages, "a block move to a read-only page", |s| {
-        let block = s.a.op.is_some_and(|op| op >> 9 == 0x0E00 >> 9);
+        let block = s.a.op.as_ref().is_some_and(is_block_move);
         s.cause(Cause::BlankInOpCode) && s.read_only() && block
     }),
     (ReadOnlyPages, "a stack on a read-only page", |s| {
@@ -314,44 +330,32 @@ pub enum RunKind {
     Spared,
 }
 
-const RUN_KINDS: [(RunKind, &str); 15] = [
-    (
-        RunKind::CutBlankInFirst,
-        "a cut run, blank in its first part",
-    ),
-    (
-        RunKind::CutBlankInBoth,
-        "a cut run, blank in both its parts",
-    ),
-    (
-        RunKind::CutBlankInSecondAlone,
-        "a cut run, blank in its second part alone",
-    ),
-    (RunKind::CutWithoutBlank, "a cut run without a blank"),
-    (RunKind::CutAtTheBeginning, "a run with an empty first part"),
-    (RunKind::CutAtTheEnd, "a run with an empty second part"),
-    (RunKind::CutMarked, "a run cut where the mark is set"),
-    (RunKind::CutSaved, "a run cut between a save and its end"),
-    (RunKind::CutLocked, "a run cut after it has locked"),
-    (
-        RunKind::PluggedWritable,
-        "a sound run with more writable cards",
-    ),
-    (
-        RunKind::PluggedReadOnly,
-        "a sound run with more read-only cards",
-    ),
-    (
-        RunKind::PluggedBoth,
-        "a sound run with more cards of both kinds",
-    ),
-    (
-        RunKind::PluggedLong,
-        "a sound run of four steps or more that moves on, with more cards",
-    ),
-    (RunKind::Healed, "a blank that a card heals"),
-    (RunKind::Spared, "a lock-up that a card spares"),
-];
+const RUN_KINDS: [(RunKind, &str); 15] = {
+    use RunKind::*;
+    [
+        (CutBlankInFirst, "a cut run, blank in its first part"),
+        (CutBlankInBoth, "a cut run, blank in both its parts"),
+        (
+            CutBlankInSecondAlone,
+            "a cut run, blank in its second part alone",
+        ),
+        (CutWithoutBlank, "a cut run without a blank"),
+        (CutAtTheBeginning, "a run with an empty first part"),
+        (CutAtTheEnd, "a run with an empty second part"),
+        (CutMarked, "a run cut where the mark is set"),
+        (CutSaved, "a run cut between a save and its end"),
+        (CutLocked, "a run cut after it has locked"),
+        (PluggedWritable, "a sound run with more writable cards"),
+        (PluggedReadOnly, "a sound run with more read-only cards"),
+        (PluggedBoth, "a sound run with more cards of both kinds"),
+        (
+            PluggedLong,
+            "a sound run of four steps or more that moves on, with more cards",
+        ),
+        (Healed, "a blank that a card heals"),
+        (Spared, "a lock-up that a card spares"),
+    ]
+};
 
 /// What a run cut at a place shows.
 pub fn cut_kinds(place: usize, length: usize, first: &Ran, second: &Ran) -> Vec<RunKind> {
@@ -378,7 +382,34 @@ pub fn cut_kinds(place: usize, length: usize, first: &Ran, second: &Ran) -> Vec<
     kinds
 }
 
+/// A run that meets no blank and doesn't end locked: more cards change nothing in it.
+pub fn is_sound(ran: &Ran) -> bool {
+    ran.blanks == 0 && ran.state.mode != Mode::Locked
+}
+
+/// What a run that is not sound shows when it is made again with more cards.
+pub fn changed_kinds(ran: &Ran, again: &Ran) -> Vec<RunKind> {
+    let spared = again.state.mode != Mode::Locked;
+    match ran.blanks {
+        0 if spared => vec![RunKind::Spared],
+        blanks if again.blanks < blanks => vec![RunKind::Healed],
+        _ => Vec::new(),
+    }
+}
+
+/// What a sound run of this length shows with more cards of a kind.
+pub fn plugged_kinds(kind: RunKind, length: usize, moves_on: bool) -> Vec<RunKind> {
+    let mut kinds = vec![kind];
+    if length >= 4 && moves_on {
+        kinds.push(RunKind::PluggedLong);
+    }
+    kinds
+}
+
 // ---- all counts ----
+
+/// A count, and what it counts.
+type Counted = (u64, String);
 
 /// Counts of steps, power-ups, runs and damaged calls.
 pub struct Coverage {
@@ -489,8 +520,10 @@ impl Coverage {
         self.power_ups[usize::from(pair.0)][usize::from(pair.1)][locked] += 1;
     }
 
-    pub fn count_run(&mut self, kind: RunKind) {
-        self.runs[kind as usize] += 1;
+    pub fn count_run(&mut self, shown: &[RunKind]) {
+        for &kind in shown {
+            self.runs[kind as usize] += 1;
+        }
     }
 
     /// Counts a damaged call by its answer, 0 where the damage was none.
@@ -501,113 +534,166 @@ impl Coverage {
 
     /// What was not reached at all.
     pub fn missing(&self) -> Vec<String> {
-        let mut missing = Vec::new();
-        let mut ask = |count: u64, what: String| {
-            if count == 0 {
-                missing.push(what);
-            }
-        };
-        self.ask_op_codes(&mut ask);
-        self.ask_ways(&mut ask);
-        self.ask_wishes(&mut ask);
-        self.ask_refusals(&mut ask);
-        missing
+        let wanted = [
+            self.wanted_op_codes(),
+            self.wanted_operands(),
+            self.wanted_causes(),
+            self.wanted_ends(),
+            self.wanted_corners(),
+            self.wanted_elements(),
+            self.wanted_runs(),
+            self.wanted_power_ups(),
+            self.wanted_refusals(),
+        ];
+        let missing = wanted
+            .into_iter()
+            .flatten()
+            .filter(|(count, _)| *count == 0);
+        missing.map(|(_, what)| what).collect()
     }
 
-    /// Every op code by itself and under XCT, every mode with every register.
-    fn ask_op_codes(&self, ask: &mut dyn FnMut(u64, String)) {
-        for kind in 0..KINDS {
-            ask(self.plain[kind], kind_name(kind).to_string());
-            ask(self.traced[kind], format!("traced {}", kind_name(kind)));
-        }
-        for field in 0..64 {
+    /// Every op code by itself and under XCT.
+    fn wanted_op_codes(&self) -> Vec<Counted> {
+        let of_kind = |kind: usize| {
+            let name = kind_name(kind);
+            [
+                (self.plain[kind], name.to_string()),
+                (self.traced[kind], format!("traced {name}")),
+            ]
+        };
+        (0..KINDS).flat_map(of_kind).collect()
+    }
+
+    /// Every mode with every register, of words and of bytes.
+    fn wanted_operands(&self) -> Vec<Counted> {
+        let of_field = |(field, size): (usize, usize)| {
             let what = format!("mode {} register {}", field >> 3, field & 7);
-            for size in 0..2 {
-                ask(self.sources[size][field], format!("source {what}"));
-                ask(
+            [
+                (self.sources[size][field], format!("source {what}")),
+                (
                     self.destinations[size][field],
                     format!("destination {what}"),
-                );
-            }
-        }
+                ),
+            ]
+        };
+        let fields = (0..64).flat_map(|field| [(field, 0), (field, 1)]);
+        fields.flat_map(of_field).collect()
     }
 
-    /// What each mode can come to; what a halt and WFI lead to; ends of memory.
-    fn ask_ways(&self, ask: &mut dyn FnMut(u64, String)) {
-        let causes: [&[usize]; 5] = [
-            &[0, 1, 2, 3, 5, 6, 8],
-            &[1, 2, 3, 4, 6, 8],
-            &[0, 4, 8],
-            &[1, 4, 8],
-            &[8],
-        ];
-        for (mode, causes) in causes.iter().enumerate() {
-            for &cause in *causes {
+    fn wanted_causes(&self) -> Vec<Counted> {
+        let of_mode = |(mode, causes): (usize, &&'static [usize])| {
+            causes.iter().map(move |&cause| {
                 let what = format!("cause {cause} in mode {mode}");
-                ask(self.causes[mode][cause], what);
-            }
-        }
-        for mode in 0..4 {
-            let what = format!("an op code that leads to mode {mode}");
-            ask(self.entered[mode], what);
-        }
-        ask(self.page_ends, "a stack at a page end".to_string());
-        ask(self.memory_ends[0], "a stack at 0000".to_string());
-        ask(self.memory_ends[1], "a stack at FFFE".to_string());
+                (self.causes[mode][cause], what)
+            })
+        };
+        CAUSES_IN_MODES
+            .iter()
+            .enumerate()
+            .flat_map(of_mode)
+            .collect()
     }
 
-    fn ask_wishes(&self, ask: &mut dyn FnMut(u64, String)) {
-        for (&count, (wish, what, _)) in self.corners.iter().zip(&CORNERS) {
-            if self.level.has(*wish) {
-                ask(count, what.to_string());
-            }
-        }
-        if self.level.has(BlockMoves) {
-            let names = ROWS[ROWS.len() - BLOCK_MOVES..].iter().map(|row| row.name);
-            for (&count, name) in self.elements.iter().zip(names) {
-                ask(count, format!("an element of {name}"));
-            }
-        }
-        for (kind, what) in RUN_KINDS {
-            let known = match kind {
-                RunKind::CutMarked => self.level.has(LateIen),
-                RunKind::CutSaved => self.level.has(Jumpers),
-                RunKind::PluggedReadOnly | RunKind::PluggedBoth => self.level.has(ReadOnlyPages),
-                _ => true,
-            };
-            if known {
-                ask(self.runs[kind as usize], what.to_string());
-            }
-        }
-        if self.level.has(Jumpers) {
-            for (pair, locked) in (0..16).flat_map(|pair| [(pair, 0), (pair, 1)]) {
-                let (power_up, halt) = (pair / 4, pair % 4);
-                let bootstrap = power_up == 0 || (power_up == 2 && halt == 0);
-                let impossible = if locked == 1 { bootstrap } else { pair == 10 };
-                if !impossible {
-                    let what = ["a power-up", "a locked power-up"][locked];
-                    let what = format!("{what} with jumpers {power_up} and {halt}");
-                    ask(self.power_ups[power_up][halt][locked], what);
-                }
-            }
-        }
+    /// What a halt and WFI lead to; ends of memory.
+    fn wanted_ends(&self) -> Vec<Counted> {
+        let entered = self.entered[..4].iter().enumerate();
+        let entered =
+            entered.map(|(mode, &count)| (count, format!("an op code that leads to mode {mode}")));
+        let stacks = [
+            (self.page_ends, "a stack at a page end".to_string()),
+            (self.memory_ends[0], "a stack at 0000".to_string()),
+            (self.memory_ends[1], "a stack at FFFE".to_string()),
+        ];
+        entered.chain(stacks).collect()
     }
 
-    fn ask_refusals(&self, ask: &mut dyn FnMut(u64, String)) {
-        for ((call, name, numbers), counts) in DAMAGED.into_iter().zip(&self.refusals) {
-            let of_recorder = matches!(call, Call::Scan | Call::Report);
-            if of_recorder && !self.level.has(Recorder) {
-                continue;
-            }
-            for &number in numbers {
-                if number != 35 || self.level.has(Jumpers) {
-                    ask(counts[number], format!("{name} refused by {number}"));
-                }
-            }
+    /// The corners of the level's wishes with their counts.
+    fn known_corners(&self) -> impl Iterator<Item = (u64, &'static Corner)> + '_ {
+        let corners = self.corners.iter().copied().zip(&CORNERS);
+        corners.filter(|(_, (wish, ..))| self.level.has(*wish))
+    }
+
+    fn wanted_corners(&self) -> Vec<Counted> {
+        let corners = self.known_corners();
+        corners
+            .map(|(count, (_, what, _))| (count, what.to_string()))
+            .collect()
+    }
+
+    fn wanted_elements(&self) -> Vec<Counted> {
+        if !self.level.has(BlockMoves) {
+            return Vec::new();
         }
+        let rows = &ROWS[ROWS.len() - BLOCK_MOVES..];
+        let elements = self.elements.iter().zip(rows);
+        elements
+            .map(|(&count, row)| (count, format!("an element of {}", row.name)))
+            .collect()
+    }
+
+    fn wanted_runs(&self) -> Vec<Counted> {
+        let known = |kind: RunKind| match kind {
+            RunKind::CutMarked => self.level.has(LateIen),
+            RunKind::CutSaved => self.level.has(Jumpers),
+            RunKind::PluggedReadOnly | RunKind::PluggedBoth => self.level.has(ReadOnlyPages),
+            _ => true,
+        };
+        let kinds = RUN_KINDS.into_iter().filter(|&(kind, _)| known(kind));
+        kinds
+            .map(|(kind, what)| (self.runs[kind as usize], what.to_string()))
+            .collect()
+    }
+
+    /// Every pair of jumpers, locked and not, as far as it can be.
+    fn wanted_power_ups(&self) -> Vec<Counted> {
+        if !self.level.has(Jumpers) {
+            return Vec::new();
+        }
+        let of_jumpers = |(pair, locked): (usize, usize)| {
+            let (power_up, halt) = (pair / 4, pair % 4);
+            let what = ["a power-up", "a locked power-up"][locked];
+            let what = format!("{what} with jumpers {power_up} and {halt}");
+            let count = self.power_ups[power_up][halt][locked];
+            can_end(power_up, halt, locked == 1).then_some((count, what))
+        };
+        let ends = (0..16).flat_map(|pair| [(pair, 0), (pair, 1)]);
+        ends.filter_map(of_jumpers).collect()
+    }
+
+    /// Whether the level has the call and this refusal of it.
+    fn refuses(&self, call: Call, number: usize) -> bool {
+        let of_recorder = matches!(call, Call::Scan | Call::Report);
+        (!of_recorder || self.level.has(Recorder)) && (number != 35 || self.level.has(Jumpers))
+    }
+
+    fn wanted_refusals(&self) -> Vec<Counted> {
+        let of_call = |((call, name, numbers), counts): (Damaged, &'_ [u64; REFUSALS])| {
+            let known = numbers.iter().filter(|&&number| self.refuses(call, number));
+            let wanted =
+                known.map(|&number| (counts[number], format!("{name} refused by {number}")));
+            wanted.collect::<Vec<_>>()
+        };
+        let calls = DAMAGED.into_iter().zip(&self.refusals);
+        calls.flat_map(of_call).collect()
     }
 
     pub fn print(&self) {
+        self.print_op_codes();
+        print_operands("source words", &self.sources[0]);
+        print_operands("source bytes", &self.sources[1]);
+        print_operands("destination words", &self.destinations[0]);
+        print_operands("destination bytes", &self.destinations[1]);
+        self.print_ways();
+        self.print_corners();
+        println!("elements by block move: {:?}", self.elements);
+        self.print_runs();
+        if self.level.has(Jumpers) {
+            println!("power-ups by jumpers, and locked: {:?}", self.power_ups);
+        }
+        self.print_refusals();
+    }
+
+    fn print_op_codes(&self) {
         println!("op code: executed, under XCT, dropped by a bus error");
         for kind in 0..KINDS {
             let name = kind_name(kind);
@@ -620,20 +706,6 @@ impl Coverage {
                 println!();
             }
         }
-        let tables = [
-            ("source words", &self.sources[0]),
-            ("source bytes", &self.sources[1]),
-            ("destination words", &self.destinations[0]),
-            ("destination bytes", &self.destinations[1]),
-        ];
-        for (name, counts) in tables {
-            println!("{name}: modes 0 to 7 by R0 to PC");
-            for mode in counts.chunks_exact(8) {
-                mode.iter().for_each(|count| print!("{count:>7}"));
-                println!();
-            }
-        }
-        self.print_ways();
     }
 
     fn print_ways(&self) {
@@ -644,21 +716,43 @@ impl Coverage {
         println!("op codes with SP at a page end: {}", self.page_ends);
         let ends = &self.memory_ends;
         println!("op codes with SP at the ends of memory: {ends:?}");
-        for (&count, (wish, what, _)) in self.corners.iter().zip(&CORNERS) {
-            if self.level.has(*wish) {
-                println!("wish {}, {what}: {count}", *wish as u8);
-            }
+    }
+
+    fn print_corners(&self) {
+        for (count, (wish, what, _)) in self.known_corners() {
+            println!("wish {}, {what}: {count}", *wish as u8);
         }
-        println!("elements by block move: {:?}", self.elements);
+    }
+
+    fn print_runs(&self) {
         for (kind, what) in RUN_KINDS {
             println!("{what}: {}", self.runs[kind as usize]);
         }
-        if self.level.has(Jumpers) {
-            println!("power-ups by jumpers, and locked: {:?}", self.power_ups);
-        }
+    }
+
+    fn print_refusals(&self) {
         for ((_, name, numbers), counts) in DAMAGED.into_iter().zip(&self.refusals) {
             let counts: Vec<u64> = numbers.iter().map(|&number| counts[number]).collect();
             println!("damaged {name}, refused by {numbers:?}: {counts:?}");
         }
+    }
+}
+
+/// Whether a power-up with these jumpers can end locked, or not locked.
+fn can_end(power_up: usize, halt: usize, locked: bool) -> bool {
+    let bootstrap = power_up == 0 || (power_up, halt) == (2, 0);
+    let always_locks = (power_up, halt) == (2, 2);
+    if locked {
+        !bootstrap
+    } else {
+        !always_locks
+    }
+}
+
+fn print_operands(name: &str, counts: &[u64; 64]) {
+    println!("{name}: modes 0 to 7 by R0 to PC");
+    for mode in counts.chunks_exact(8) {
+        let row: String = mode.iter().map(|count| format!("{count:>7}")).collect();
+        println!("{row}");
     }
 }

@@ -246,67 +246,42 @@ impl Cpu<'_> {
 
     fn format_1(&mut self, op: u16) -> Result<(), Blank> {
         match op {
-            // NOP, RESET
-            0x0 | 0x1 => Ok(()),
-            // IEN
-            0x2 => {
-                self.ien();
-                Ok(())
-            }
-            // IDS
-            0x3 => {
-                self.s.i2 = false;
-                Ok(())
-            }
-            HALT => {
-                self.s.i2 = false;
-                self.s.mode = if self.line.power_fail() {
-                    Mode::HaltedPowerFail
-                } else {
-                    Mode::HaltedSwitch
-                };
-                Ok(())
-            }
+            0x0 | 0x1 => {} // NOP, RESET
+            0x2 => self.ien(),
+            0x3 => self.s.i2 = false, // IDS
+            HALT => self.halt(),
             XCT => unreachable!("XCT is taken before"),
-            BPT => {
-                self.push_ps_and_pc()?;
-                self.pc_from(location::BPT)
-            }
-            WFI => {
-                self.s.i2 = true;
-                self.s.mode = Mode::Waiting;
-                Ok(())
-            }
-            // RSVC
-            0x8 => {
-                self.rest()?;
-                self.s.r[SP] = self.s.r[SP].wrapping_add(2);
-                self.rtt()
-            }
-            // RRTT
-            0x9 => {
-                self.rest()?;
-                self.rtt()
-            }
-            0xA => self.save(),
-            0xB => self.savs(),
-            0xC => self.rest(),
-            // RRTN
-            0xD => {
-                self.rest()?;
-                self.s.r[PC] = self.pop()?;
-                Ok(())
-            }
-            // RSTS
-            0xE => {
-                let mask = self.board.read_word(self.s.r[SP])?;
-                self.board.write_word(location::MASK, mask)?;
-                self.s.r[SP] = self.s.r[SP].wrapping_add(2);
-                self.rest()?;
-                self.rtt()
-            }
-            _ => self.rtt(),
+            BPT => self.bpt()?,
+            WFI => self.wfi(),
+            0x8 => self.rsvc()?,
+            0x9 => self.rrtt()?,
+            0xA => self.save()?,
+            0xB => self.savs()?,
+            0xC => self.rest()?,
+            0xD => self.rrtn()?,
+            0xE => self.rsts()?,
+            _ => self.rtt()?,
         }
+        Ok(())
+    }
+
+    fn halt(&mut self) {
+        self.s.i2 = false;
+        self.s.mode = if self.line.power_fail() {
+            Mode::HaltedPowerFail
+        } else {
+            Mode::HaltedSwitch
+        };
+    }
+
+    fn bpt(&mut self) -> Result<(), Blank> {
+        self.push_ps_and_pc()?;
+        self.pc_from(location::BPT)
+    }
+
+    fn wfi(&mut self) {
+        self.s.i2 = true;
+        self.s.mode = Mode::Waiting;
     }
 
     /// R5 to R0 pushed.
@@ -349,6 +324,32 @@ impl Cpu<'_> {
         let ps = self.pop()?;
         self.s.load_ps(ps);
         Ok(())
+    }
+
+    /// The registers popped, the saved SP passed over, PC and PS popped.
+    fn rsvc(&mut self) -> Result<(), Blank> {
+        self.rest()?;
+        self.s.r[SP] = self.s.r[SP].wrapping_add(2);
+        self.rtt()
+    }
+
+    fn rrtt(&mut self) -> Result<(), Blank> {
+        self.rest()?;
+        self.rtt()
+    }
+
+    fn rrtn(&mut self) -> Result<(), Blank> {
+        self.rest()?;
+        self.s.r[PC] = self.pop()?;
+        Ok(())
+    }
+
+    /// The mask back from the stack, then as RRTT.
+    fn rsts(&mut self) -> Result<(), Blank> {
+        let mask = self.board.read_word(self.s.r[SP])?;
+        self.board.write_word(location::MASK, mask)?;
+        self.s.r[SP] = self.s.r[SP].wrapping_add(2);
+        self.rrtt()
     }
 
     /// PC <- REG; REG <- @SP; SP + 2.
@@ -468,45 +469,48 @@ impl Cpu<'_> {
         let (y, flags) = match op & 0xFFC0 {
             0x0A00 => alu::shift_single::<16>(Way::RotateRight, x, c, 1), // ROR
             0x0A40 => alu::shift_single::<16>(Way::RotateLeft, x, c, 1),  // ROL
-            // TST
-            0x0A80 => {
-                self.s.flags = alu::logic::<16>(x, c).1;
-                return Ok(());
-            }
+            0x0A80 => return self.only_flags(alu::logic::<16>(x, c)),     // TST
             0x0AC0 => alu::shift_single::<16>(Way::ArithmeticLeft, x, c, 1), // ASL
-            0x0B00 => alu::logic::<16>(0xFFFF, c),                           // SET
-            // CLR
-            0x0B40 => {
-                let on_register = matches!(place, Place::Register(_));
-                alu::logic::<16>(0, c && on_register)
-            }
+            0x0B00 => alu::logic::<16>(0xFFFF, c),                        // SET
+            0x0B40 => alu::logic::<16>(0, c && place.is_register()),      // CLR
             0x0B80 => alu::shift_single::<16>(Way::ArithmeticRight, x, c, 1), // ASR
-            0x0BC0 => alu::swap_bytes(x, c),                                  // SWAB
-            0x0C00 => alu::complement::<16>(x),                               // COM
-            0x0C40 => alu::negate::<16>(x),                                   // NEG
-            0x0C80 => alu::increment::<16>(x),                                // INC
-            0x0CC0 => alu::decrement::<16>(x),                                // DEC
-            0x0D00 => alu::increment_by_two(x),                               // IW2
-            // SXT
-            0x0D40 => (if self.s.flags.n { 0xFFFF } else { 0 }, self.s.flags),
-            // TCALL
-            0x0D80 => {
-                self.push_register(PC)?;
-                return self.pc_by_table(self.s.r[PC].wrapping_add(x));
-            }
-            // TJMP
-            0x0DC0 => return self.pc_by_table(self.s.r[PC].wrapping_add(x)),
-            // LSTS
-            0x8D00 => {
-                self.s.load_ps(x);
-                return Ok(());
-            }
+            0x0BC0 => alu::swap_bytes(x, c),                              // SWAB
+            0x0C00 => alu::complement::<16>(x),                           // COM
+            0x0C40 => alu::negate::<16>(x),                               // NEG
+            0x0C80 => alu::increment::<16>(x),                            // INC
+            0x0CC0 => alu::decrement::<16>(x),                            // DEC
+            0x0D00 => alu::increment_by_two(x),                           // IW2
+            0x0D40 => (if self.s.flags.n { 0xFFFF } else { 0 }, self.s.flags), // SXT
+            0x0D80 => return self.tcall(x),
+            0x0DC0 => return self.tjmp(x),
+            0x8D00 => return self.lsts(x),
             0x8D40 => (self.ps(), self.s.flags), // SSTS
             0x8D80 => alu::add_carry(x, c),      // ADC
             _ => alu::subtract_carry(x, c),      // SBC
         };
         self.s.flags = flags;
         self.store_word(place, y)
+    }
+
+    /// The end of an op code that only tests.
+    #[inline]
+    fn only_flags(&mut self, (_, flags): (u16, Flags)) -> Result<(), Blank> {
+        self.s.flags = flags;
+        Ok(())
+    }
+
+    fn tcall(&mut self, offset: u16) -> Result<(), Blank> {
+        self.push_register(PC)?;
+        self.tjmp(offset)
+    }
+
+    fn tjmp(&mut self, offset: u16) -> Result<(), Blank> {
+        self.pc_by_table(self.s.r[PC].wrapping_add(offset))
+    }
+
+    fn lsts(&mut self, ps: u16) -> Result<(), Blank> {
+        self.s.load_ps(ps);
+        Ok(())
     }
 
     /// 8A00 to 8CFF.
@@ -518,20 +522,16 @@ impl Cpu<'_> {
         let (y, flags) = match op & 0xFFC0 {
             0x8A00 => alu::shift_single::<8>(Way::RotateRight, x, c, 1), // RORB
             0x8A40 => alu::shift_single::<8>(Way::RotateLeft, x, c, 1),  // ROLB
-            // TSTB
-            0x8A80 => {
-                self.s.flags = alu::logic::<8>(x, c).1;
-                return Ok(());
-            }
+            0x8A80 => return self.only_flags(alu::logic::<8>(x, c)),     // TSTB
             0x8AC0 => alu::shift_single::<8>(Way::ArithmeticLeft, x, c, 1), // ASLB
-            0x8B00 => alu::logic::<8>(0xFF, c),                             // SETB
-            0x8B40 => alu::logic::<8>(0, false),                            // CLRB
+            0x8B00 => alu::logic::<8>(0xFF, c),                          // SETB
+            0x8B40 => alu::logic::<8>(0, false),                         // CLRB
             0x8B80 => alu::shift_single::<8>(Way::ArithmeticRight, x, c, 1), // ASRB
-            0x8BC0 => alu::swap_digits(x),                                  // SWAD
-            0x8C00 => alu::complement::<8>(x),                              // COMB
-            0x8C40 => alu::negate::<8>(x),                                  // NEGB
-            0x8C80 => alu::increment::<8>(x),                               // INCB
-            _ => alu::decrement::<8>(x),                                    // DECB
+            0x8BC0 => alu::swap_digits(x),                               // SWAD
+            0x8C00 => alu::complement::<8>(x),                           // COMB
+            0x8C40 => alu::negate::<8>(x),                               // NEGB
+            0x8C80 => alu::increment::<8>(x),                            // INCB
+            _ => alu::decrement::<8>(x),                                 // DECB
         };
         self.s.flags = flags;
         self.store_byte(place, y)
@@ -690,22 +690,14 @@ impl Cpu<'_> {
         }
         let dst = self.load_word(to)?;
         let (y, flags) = match op >> 12 {
-            0x1 => alu::add::<16>(src, dst),        // ADD
-            0x2 => alu::subtract::<16>(dst, src),   // SUB
-            0x3 => alu::logic::<16>(src & dst, c),  // AND
-            0x4 => alu::logic::<16>(!src & dst, c), // BIC
-            0x5 => alu::logic::<16>(src | dst, c),  // BIS
-            0x6 => alu::logic::<16>(src ^ dst, c),  // XOR
-            // CMP
-            0x9 => {
-                self.s.flags = alu::subtract::<16>(src, dst).1;
-                return Ok(());
-            }
-            // BIT
-            _ => {
-                self.s.flags = alu::logic::<16>(src & dst, c).1;
-                return Ok(());
-            }
+            0x1 => alu::add::<16>(src, dst),                              // ADD
+            0x2 => alu::subtract::<16>(dst, src),                         // SUB
+            0x3 => alu::logic::<16>(src & dst, c),                        // AND
+            0x4 => alu::logic::<16>(!src & dst, c),                       // BIC
+            0x5 => alu::logic::<16>(src | dst, c),                        // BIS
+            0x6 => alu::logic::<16>(src ^ dst, c),                        // XOR
+            0x9 => return self.only_flags(alu::subtract::<16>(src, dst)), // CMP
+            _ => return self.only_flags(alu::logic::<16>(src & dst, c)),  // BIT
         };
         self.s.flags = flags;
         self.store_word(to, y)
@@ -722,8 +714,7 @@ impl Cpu<'_> {
             // CMPB
             0xC => {
                 let dst = self.load_byte(to)?;
-                self.s.flags = alu::subtract::<8>(src, dst).1;
-                Ok(())
+                self.only_flags(alu::subtract::<8>(src, dst))
             }
             // MOVB: a register gets the sign through bit 15
             0xD => {

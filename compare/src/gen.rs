@@ -4,6 +4,9 @@
 //! registers and pointers lie mostly in fitted pages, often at page borders, at both
 //! ends of memory and in the fixed locations.
 
+use std::collections::BTreeMap;
+
+use crate::abi::bytes_of_words;
 use crate::board::{IMAGE, PAGES, READ_ONLY, WRITABLE};
 use crate::job::MOST_WORDS;
 use crate::level::{Level, Settings, Wish};
@@ -43,6 +46,12 @@ impl Random {
 
     pub fn pick<T: Copy>(&mut self, items: &[T]) -> T {
         items[self.below(items.len())]
+    }
+
+    pub fn shuffle<T>(&mut self, items: &mut [T]) {
+        for place in 1..items.len() {
+            items.swap(place, self.below(place + 1));
+        }
     }
 }
 
@@ -144,9 +153,12 @@ pub fn op_code(random: &mut Random) -> u16 {
     }
 }
 
-fn put(image: &mut [u8], at: u16, word: u16) {
-    let at = usize::from(at & 0xFFFE);
-    image[at..at + 2].copy_from_slice(&word.to_le_bytes());
+/// Puts each word at its address.
+pub fn put(image: &mut [u8], words: &[(u16, u16)]) {
+    for &(at, word) in words {
+        let at = usize::from(at & 0xFFFE);
+        image[at..at + 2].copy_from_slice(&word.to_le_bytes());
+    }
 }
 
 /// The fixed locations, from 12 to 2E.
@@ -157,20 +169,23 @@ pub fn vectors(random: &mut Random, map: &[u8; PAGES]) -> Vec<(u16, u16)> {
         .collect()
 }
 
-pub fn board(random: &mut Random, level: Level) -> RandomBoard {
-    let map = random_map(random, level);
-    let mut image = vec![0; IMAGE];
-    for pair in image.chunks_exact_mut(2) {
-        let word = if random.percent(60) {
+/// Op codes, and values among them.
+fn random_image(random: &mut Random, map: &[u8; PAGES]) -> Vec<u8> {
+    let mut word = |_| {
+        if random.percent(60) {
             op_code(random)
         } else {
-            value(random, &map)
-        };
-        pair.copy_from_slice(&word.to_le_bytes());
-    }
-    for (at, word) in vectors(random, &map) {
-        put(&mut image, at, word);
-    }
+            value(random, map)
+        }
+    };
+    let words: Vec<u16> = (0..IMAGE / 2).map(&mut word).collect();
+    bytes_of_words(&words)
+}
+
+pub fn board(random: &mut Random, level: Level) -> RandomBoard {
+    let map = random_map(random, level);
+    let mut image = random_image(random, &map);
+    put(&mut image, &vectors(random, &map));
     RandomBoard { image, map }
 }
 
@@ -193,6 +208,11 @@ pub fn line(random: &mut Random) -> u16 {
         8 => noise & 0x0F80 | 0x0008,
         _ => noise,
     }
+}
+
+/// A bit of a line word that has no meaning.
+pub fn unused_bit(random: &mut Random) -> u16 {
+    random.pick(&[4, 0x10, 0x20, 0x40, 0x1000, 0x2000, 0x4000, 0x8000])
 }
 
 pub fn state(random: &mut Random, map: &[u8; PAGES], level: Level) -> State {
@@ -277,19 +297,17 @@ struct Sections {
 
 /// The bytes of a job whose counts may lie.
 fn bytes_of(sections: &Sections, counts: [usize; 4]) -> Vec<u8> {
-    let mut bytes = (counts[0] as u16).to_le_bytes().to_vec();
+    let [pages, words, lines, read_only] = counts.map(|count| (count as u16).to_le_bytes());
+    let entry = |&(address, value): &(u16, u16)| [address, value];
+    let entries: Vec<u16> = sections.words.iter().flat_map(entry).collect();
+    let mut bytes = pages.to_vec();
     bytes.extend(&sections.pages);
-    bytes.extend((counts[1] as u16).to_le_bytes());
-    for (address, value) in &sections.words {
-        bytes.extend(address.to_le_bytes());
-        bytes.extend(value.to_le_bytes());
-    }
-    bytes.extend((counts[2] as u16).to_le_bytes());
-    for line in &sections.lines {
-        bytes.extend(line.to_le_bytes());
-    }
+    bytes.extend(words);
+    bytes.extend(bytes_of_words(&entries));
+    bytes.extend(lines);
+    bytes.extend(bytes_of_words(&sections.lines));
     if let Some(pages) = &sections.read_only {
-        bytes.extend((counts[3] as u16).to_le_bytes());
+        bytes.extend(read_only);
         bytes.extend(pages);
     }
     bytes
@@ -312,45 +330,60 @@ impl Sections {
     }
 }
 
+/// Words by their addresses.
+type Words = BTreeMap<u16, u16>;
+
+/// Op codes and values from the address on, by turns with some anywhere.
+fn add_some_words(words: &mut Words, random: &mut Random, map: &[u8; PAGES], start: u16) {
+    let most = random.pick(&[8, 60, 400]);
+    for place in 0..most {
+        let at = if place % 2 == 0 {
+            start.wrapping_add(place)
+        } else {
+            address(random, map)
+        };
+        let word = if place % 3 < 2 {
+            op_code(random)
+        } else {
+            value(random, map)
+        };
+        words.insert(at & 0xFFFE, word);
+    }
+}
+
+/// An op code at each address that has no word.
+fn fill(words: &mut Words, random: &mut Random) {
+    for at in (0..=0xFFFE).step_by(2) {
+        words.entry(at).or_insert_with(|| op_code(random));
+    }
+}
+
+/// The fixed locations, a program from the restart address on, and now and then all of memory.
+fn program(random: &mut Random, map: &[u8; PAGES]) -> Words {
+    let start = address(random, map);
+    let mut words: Words = vectors(random, map).into_iter().collect();
+    words.insert(0x16, start);
+    add_some_words(&mut words, random, map, start);
+    if random.percent(2) {
+        fill(&mut words, random);
+    }
+    words
+}
+
 /// Two pages and one unfitted page, two words and one line word at least.
 fn sections(random: &mut Random, level: Level) -> Sections {
     let mut map = random_map(random, level);
     map[0] = map[0].max(WRITABLE);
     map[1 + random.below(127)] = WRITABLE;
     map[128 + random.below(127)] = 0;
-    let mut image = std::collections::BTreeMap::new();
-    let start = address(random, &map);
-    for (at, word) in vectors(random, &map) {
-        image.insert(at, word);
-    }
-    image.insert(0x16, start);
-    let most = random.pick(&[8, 60, 400]);
-    for place in 0..most {
-        let at = if place % 2 == 0 {
-            start.wrapping_add(place)
-        } else {
-            address(random, &map)
-        };
-        let word = if place % 3 < 2 {
-            op_code(random)
-        } else {
-            value(random, &map)
-        };
-        image.insert(at & 0xFFFE, word);
-    }
-    if random.percent(2) {
-        for at in (0..=0xFFFE).step_by(2) {
-            image.entry(at).or_insert_with(|| op_code(random));
-        }
-    }
-    let fitted = |at: u16| map[usize::from(at >> 8)] != 0;
+    let words = program(random, &map).into_iter();
+    let fitted = words.filter(|&(at, _)| map[usize::from(at >> 8)] != 0);
     let pages = |least: u8| (0..=255).filter(move |&page| map[usize::from(page)] >= least);
     let fourth = level.has(Wish::ReadOnlyPages) && (map.contains(&READ_ONLY) || random.percent(20));
-    let words = image.into_iter().filter(|&(at, _)| fitted(at));
     let number = random.pick(&[1, 10, 100, MOST_LINES]);
     Sections {
         pages: pages(WRITABLE).collect(),
-        words: words.take(MOST_WORDS).collect(),
+        words: fitted.take(MOST_WORDS).collect(),
         lines: (0..number).map(|_| line(random)).collect(),
         read_only: fourth.then(|| pages(READ_ONLY).collect()),
     }
@@ -410,9 +443,8 @@ pub fn job_refusals(level: Level) -> Vec<u8> {
     numbers
 }
 
-/// A job that is refused with this number.
-pub fn damaged_job(random: &mut Random, number: u8, level: Level) -> Vec<u8> {
-    let mut job = sections(random, level);
+/// Makes an entry wrong, where the number is for one.
+fn damage_entries(job: &mut Sections, random: &mut Random, number: u8, level: Level) {
     match number {
         13 => {
             let at = 1 + random.below(job.pages.len() - 1);
@@ -426,17 +458,21 @@ pub fn damaged_job(random: &mut Random, number: u8, level: Level) -> Vec<u8> {
             let at = 1 + random.below(job.words.len() - 1);
             job.words[at].0 = job.words[random.below(at)].0;
         }
-        17 => add_unfitted(&mut job, random),
+        17 => add_unfitted(job, random),
         19 => {
             let at = random.below(job.lines.len());
-            job.lines[at] |= random.pick(&[4, 0x10, 0x20, 0x40, 0x1000, 0x2000, 0x4000, 0x8000]);
+            job.lines[at] |= unused_bit(random);
         }
         20 if level.has(Wish::ReadOnlyPages) => {
             job.read_only.get_or_insert_with(Vec::new);
         }
-        22 => add_bad_read_only(&mut job, random),
+        22 => add_bad_read_only(job, random),
         _ => {}
     }
+}
+
+/// The counts, one of them too large where the number is for that.
+fn damaged_counts(job: &Sections, random: &mut Random, number: u8) -> [usize; 4] {
     let mut counts = job.counts();
     match number {
         12 if job.read_only.is_some() && random.percent(50) => counts[3] = over(random, PAGES),
@@ -445,13 +481,27 @@ pub fn damaged_job(random: &mut Random, number: u8, level: Level) -> Vec<u8> {
         18 => counts[2] = over(random, MOST_LINES),
         _ => {}
     }
+    counts
+}
+
+/// A length at which the job ends too early: not after its third section if there may be a fourth.
+fn short_length(job: &Sections, random: &mut Random, whole: usize, level: Level) -> usize {
+    let length = random.below(whole);
+    if level.has(Wish::ReadOnlyPages) && length == job.third_end() {
+        length - 1
+    } else {
+        length
+    }
+}
+
+/// A job that is refused with this number.
+pub fn damaged_job(random: &mut Random, number: u8, level: Level) -> Vec<u8> {
+    let mut job = sections(random, level);
+    damage_entries(&mut job, random, number, level);
+    let counts = damaged_counts(&job, random, number);
     let mut bytes = bytes_of(&job, counts);
     if number == 11 {
-        let mut length = random.below(bytes.len());
-        if level.has(Wish::ReadOnlyPages) && length == job.third_end() {
-            length -= 1;
-        }
-        bytes.truncate(length);
+        bytes.truncate(short_length(&job, random, bytes.len(), level));
     } else if number == 20 || random.percent(30) {
         let more = 1 + random.below(3);
         bytes.resize(bytes.len() + more, 0);

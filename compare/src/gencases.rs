@@ -2,15 +2,15 @@
 //! must reach.
 
 use crate::abi::{self, Call};
-use crate::assembler::{LEAST_SECTION, LINE};
+use crate::assembler::{source_of, LEAST_SECTION};
 use crate::board::PAGES;
-use crate::cases::{setup_text, state_text};
+use crate::cases::{hex_text, setup_text, state_text};
 use crate::gen::{self, Random};
 use crate::level::Level;
 use crate::recorder::CHANNELS;
-use crate::state::{Mode, PC};
+use crate::state::{Mode, State, PC};
 use crate::table::{rows, Operands};
-use crate::text::text_of;
+use crate::text::{text_of, word_text};
 use crate::trace::{steps_of, FIELDS};
 
 /// The kinds of case lines that are made here.
@@ -46,87 +46,58 @@ impl Kind {
         }
     }
 
-    /// What must be shown, as `shown` tells it.
-    pub fn wanted(self) -> &'static [&'static str] {
-        match self {
-            Kind::Text => &[
-                "write OK",
-                "write REFUSED 6",
-                "write REFUSED 7",
-                "write REFUSED 8",
-                "cwrite OK",
-                "cwrite REFUSED 38",
-                "cwrite REFUSED 6",
-                "cwrite REFUSED 7",
-                "cwrite REFUSED 8",
-                "read OK",
-                "read REFUSED 10",
-                "read REFUSED 9",
-                "read REFUSED 30",
-                "read REFUSED 31",
-                "read REFUSED 32",
-                "cread OK",
-                "cread REFUSED 38",
-                "cread REFUSED 10",
-                "cread REFUSED 9",
-                "cread REFUSED 30",
-                "cread REFUSED 31",
-                "cread REFUSED 32",
-            ],
-            Kind::List => &[
-                "list OK",
-                "list ----",
-                "list cut",
-                "list FFFE",
-                "list REFUSED 11",
-                "list REFUSED 12",
-                "list REFUSED 13",
-                "list REFUSED 14",
-                "list REFUSED 15",
-                "list REFUSED 16",
-                "list REFUSED 17",
-                "list REFUSED 18",
-                "list REFUSED 19",
-                "list REFUSED 20",
-                "list REFUSED 22",
-                "list REFUSED 23",
-            ],
-            Kind::Patch => &[
-                "asm OK",
-                "asm REFUSED 10",
-                "asm REFUSED 36",
-                "asm REFUSED 24",
-                "asm REFUSED 25",
-                "asm REFUSED 26",
-                "asm REFUSED 27",
-                "asm REFUSED 28",
-                "asm branch",
-                "asm SOB",
-                "asm relative",
-                "asm deferred",
-                "asm alias",
-                "asm .ORG",
-                "asm .WORD",
-            ],
-            Kind::Trace => &[
-                "trace ACCEPTED",
-                "trace WRONG field",
-                "trace WRONG length",
-                "trace REFUSED 29",
-                "trace REFUSED 11",
-            ],
-            Kind::Scans => &[
-                "scans OK",
-                "scans REFUSED 3",
-                "scans REFUSED 4",
-                "scans REFUSED 5",
-                "scans REFUSED 33",
-                "scans REFUSED 35",
-                "scans REFUSED 37",
-                "scans blank in FE",
-            ],
-        }
+    /// What must be shown.
+    pub fn wanted(self) -> Vec<String> {
+        let wanted = match self {
+            Kind::Text => TEXTS,
+            Kind::List => LISTS,
+            Kind::Patch => PATCHES,
+            Kind::Trace => TRACES,
+            Kind::Scans => SCANS,
+        };
+        wanted.iter().flat_map(told).collect()
     }
+}
+
+/// The word that cases begin with, and what they must be answered and refused with.
+type Wanted = (&'static str, &'static [&'static str], &'static [u8]);
+
+const TEXTS: &[Wanted] = &[
+    ("write", &["OK"], &[6, 7, 8]),
+    ("cwrite", &["OK"], &[38, 6, 7, 8]),
+    ("read", &["OK"], &[10, 9, 30, 31, 32]),
+    ("cread", &["OK"], &[38, 10, 9, 30, 31, 32]),
+];
+
+const LISTS: &[Wanted] = &[(
+    "list",
+    &["OK", "----", "cut", "FFFE"],
+    &[11, 12, 13, 14, 15, 16, 17, 18, 19, 20, 22, 23],
+)];
+
+const PATCHES: &[Wanted] = &[(
+    "asm",
+    &[
+        "OK", "branch", "SOB", "relative", "deferred", "alias", ".ORG", ".WORD",
+    ],
+    &[10, 36, 24, 25, 26, 27, 28],
+)];
+
+const TRACES: &[Wanted] = &[(
+    "trace",
+    &["ACCEPTED", "WRONG field", "WRONG length"],
+    &[29, 11],
+)];
+
+const SCANS: &[Wanted] = &[("scans", &["OK", "blank in FE"], &[3, 4, 5, 33, 35, 37])];
+
+/// What is wanted, as `shown` tells it.
+fn told(&(case, answers, refusals): &Wanted) -> Vec<String> {
+    let answers = answers.iter().map(|what| format!("{case} {what}"));
+    let refusals = refusals
+        .iter()
+        .map(|number| format!("{case} REFUSED {number}"));
+    answers.chain(refusals).collect()
 }
 
 /// What a case's answer shows.
@@ -173,7 +144,7 @@ fn hex(bytes: &[u8]) -> String {
     if bytes.is_empty() {
         return "-".to_string();
     }
-    bytes.iter().map(|byte| format!("{byte:02X}")).collect()
+    hex_text(bytes)
 }
 
 fn joined(words: &[u16]) -> String {
@@ -227,7 +198,7 @@ fn text_case(random: &mut Random, level: Level) -> String {
     match random.below(4) {
         0 => format!("write {level} {length:X} {}", joined(&words)),
         1 => {
-            let mut bytes: Vec<u8> = words.iter().flat_map(|word| word.to_le_bytes()).collect();
+            let mut bytes = abi::bytes_of_words(&words);
             if random.percent(20) {
                 bytes.pop();
             }
@@ -319,27 +290,40 @@ fn operand(random: &mut Random, level: Level, meant: &mut Vec<&'static str>) -> 
     }
 }
 
+/// One of these mnemonics with an operand.
+fn with_operand(
+    mnemonics: &[&str],
+    random: &mut Random,
+    level: Level,
+    meant: &mut Vec<&'static str>,
+) -> String {
+    let mnemonic = random.pick(mnemonics);
+    format!("{mnemonic} {}", operand(random, level, meant))
+}
+
+/// An op code of format 10.
+fn with_two_operands(random: &mut Random, level: Level, meant: &mut Vec<&'static str>) -> String {
+    let source = operand(random, level, meant);
+    let destination = operand(random, level, meant);
+    let doubles = rows(level)
+        .iter()
+        .filter(|row| row.operands == Operands::SourceDestination);
+    let names: Vec<&str> = doubles.map(|row| row.name).collect();
+    format!("{} {source},{destination}", random.pick(&names))
+}
+
 /// A line's text after its label.
 fn body(random: &mut Random, level: Level, meant: &mut Vec<&'static str>) -> String {
-    let with_operands = |row: &&crate::table::Row| row.operands == Operands::SourceDestination;
-    let doubles: Vec<&str> = rows(level)
-        .iter()
-        .filter(with_operands)
-        .map(|row| row.name)
-        .collect();
     match random.below(12) {
         0 => String::new(),
         1 => {
             meant.push(".WORD");
-            format!(".WORD {:04X}", random.word())
+            word_text(random.word())
         }
         2 => {
             meant.push("branch");
-            format!(
-                "{} {}",
-                random.pick(&["BR", "BNE", "BCC", "BHIS", "BLO"]),
-                random.pick(&LABELS)
-            )
+            let branch = random.pick(&["BR", "BNE", "BCC", "BHIS", "BLO"]);
+            format!("{branch} {}", random.pick(&LABELS))
         }
         3 => {
             meant.push("SOB");
@@ -347,60 +331,60 @@ fn body(random: &mut Random, level: Level, meant: &mut Vec<&'static str>) -> Str
         }
         4 => {
             meant.push("alias");
-            let alias = random.pick(&["CALL", "JMP"]);
-            format!("{alias} {}", operand(random, level, meant))
+            with_operand(&["CALL", "JMP"], random, level, meant)
         }
-        5 => format!(
-            "{} {}",
-            random.pick(&["TST", "INC", "CLRB"]),
-            operand(random, level, meant)
-        ),
-        6..=8 => {
-            let source = operand(random, level, meant);
-            let destination = operand(random, level, meant);
-            format!("{} {source},{destination}", random.pick(&doubles))
-        }
+        5 => with_operand(&["TST", "INC", "CLRB"], random, level, meant),
+        6..=8 => with_two_operands(random, level, meant),
         _ => op_text(random, level),
+    }
+}
+
+/// Lines in any order, with each label before one of them.
+fn labeled_lines(random: &mut Random, level: Level, meant: &mut Vec<&'static str>) -> Vec<String> {
+    let number = LABELS.len() + random.below(20);
+    let mut line = |place: usize| {
+        let body = body(random, level, meant);
+        match LABELS.get(place) {
+            Some(label) => format!("{label}: {body}"),
+            None => body,
+        }
+    };
+    let mut lines: Vec<String> = (0..number).map(&mut line).collect();
+    random.shuffle(&mut lines);
+    lines
+}
+
+/// Puts one wrong line among the lines, or none; their words begin at the origin.
+fn spoil(lines: &mut Vec<String>, random: &mut Random, origin: usize) {
+    let at = random.below(lines.len());
+    match random.below(15) {
+        0 => lines[at] = String::from_utf8_lossy(&mutated(random, &lines[at])).into_owned(),
+        1 => lines.push(format!("{}: NOP", random.pick(&LABELS))),
+        2 => lines.push("TST NONE".to_string()),
+        3 => lines.insert(at, format!(".ORG {:04X}", random.word())),
+        4 => lines.insert(at, format!(".ORG {:04X}", origin & 0xFFFE)),
+        5 => lines.push(format!(".ORG {:04X}", random.word() | 1)),
+        6 => lines.insert(0, ".ORG FFF0".to_string()),
+        7 if random.percent(20) => lines.resize(random.pick(&[1_024, 1_025]), String::new()),
+        _ => {}
     }
 }
 
 fn patch_case(random: &mut Random, level: Level) -> (String, Vec<&'static str>) {
     let mut meant = Vec::new();
-    let number = LABELS.len() + random.below(20);
-    let mut lines: Vec<String> = (0..number)
-        .map(|_| body(random, level, &mut meant))
-        .collect();
-    for (place, label) in LABELS.iter().enumerate() {
-        lines[place] = format!("{label}: {}", lines[place]);
-    }
-    for place in 1..lines.len() {
-        lines.swap(place, random.below(place + 1));
-    }
+    let mut lines = labeled_lines(random, level, &mut meant);
     let origin = 2 * random.below(0x7F00);
     if random.percent(50) {
         meant.push(".ORG");
         lines.insert(0, format!(".ORG {origin:04X}"));
     }
     let mut room = LEAST_SECTION;
-    let at = random.below(lines.len());
-    match random.below(16) {
-        0 => room -= 1,
-        1 => lines[at] = String::from_utf8_lossy(&mutated(random, &lines[at])).into_owned(),
-        2 => lines.push(format!("{}: NOP", random.pick(&LABELS))),
-        3 => lines.push("TST NONE".to_string()),
-        4 => lines.insert(at, format!(".ORG {:04X}", random.word())),
-        5 => lines.insert(at, format!(".ORG {:04X}", origin & 0xFFFE)),
-        6 => lines.push(format!(".ORG {:04X}", random.word() | 1)),
-        7 => lines.insert(0, ".ORG FFF0".to_string()),
-        8 if random.percent(20) => lines.resize(random.pick(&[1_024, 1_025]), String::new()),
-        _ => {}
+    if random.percent(6) {
+        room -= 1;
+    } else {
+        spoil(&mut lines, random, origin);
     }
-    let mut bytes = Vec::new();
-    for line in &lines {
-        let mut padded = line.as_bytes().to_vec();
-        padded.resize(LINE, b' ');
-        bytes.extend(padded);
-    }
+    let mut bytes = source_of(&lines);
     if random.percent(3) {
         bytes.pop();
     }
@@ -425,12 +409,8 @@ fn trace_case(random: &mut Random, level: Level) -> String {
         2 => entries.push([random.word(); FIELDS]),
         _ => {}
     }
-    let words = entries
-        .iter()
-        .flatten()
-        .flat_map(|field| field.to_le_bytes());
     let mut trace = (entries.len() as u16).to_le_bytes().to_vec();
-    trace.extend(words);
+    trace.extend(abi::bytes_of_words(&entries.concat()));
     match random.below(10) {
         0 => trace.truncate(random.below(trace.len())),
         1 => trace.push(0),
@@ -468,9 +448,9 @@ fn scan(random: &mut Random) -> String {
     format!("{}/{}", readings.join(","), joined(&lines))
 }
 
-fn scans_case(random: &mut Random, level: Level) -> String {
-    let mut map = gen::random_map(random, level);
-    let mut state = gen::state(random, &map, level);
+/// A state that runs most of the time, with registers that point to the card.
+fn scanning_state(random: &mut Random, map: &[u8; PAGES], level: Level) -> State {
+    let mut state = gen::state(random, map, level);
     if random.percent(70) {
         state.mode = Mode::Running;
     }
@@ -479,35 +459,52 @@ fn scans_case(random: &mut Random, level: Level) -> String {
             state.r[register] = 0xFE00 + random.below(0x22) as u16;
         }
     }
+    state
+}
+
+/// The words as pairs ADDRESS=BYTE.
+fn image_text(words: &[(u16, u16)]) -> String {
+    let bytes = |&(at, word): &(u16, u16)| [(at & 0xFFFE, word & 0xFF), (at | 1, word >> 8)];
+    let pairs = words.iter().flat_map(bytes);
+    let texts: Vec<String> = pairs
+        .map(|(at, byte)| format!("{at:04X}={byte:02X}"))
+        .collect();
+    texts.join(",")
+}
+
+/// The fitted pages as pairs PAGE=VALUE.
+fn map_text(map: &[u8; PAGES]) -> String {
+    let fitted = map.iter().enumerate().filter(|&(_, &value)| value != 0);
+    let texts: Vec<String> = fitted
+        .map(|(page, value)| format!("{page:02X}={value:02X}"))
+        .collect();
+    texts.join(",")
+}
+
+/// A few scans; once in a while all that there may be, and one more.
+fn some_scans(random: &mut Random) -> Vec<String> {
+    if random.percent(1) {
+        return vec![format!("{}/-", ["x"; CHANNELS].join(",")); 4_097];
+    }
+    (0..=random.below(6)).map(|_| scan(random)).collect()
+}
+
+fn scans_case(random: &mut Random, level: Level) -> String {
+    let mut map = gen::random_map(random, level);
+    let state = scanning_state(random, &map, level);
     let mut settings = gen::settings(random, level);
     let mut words = gen::vectors(random, &map);
-    for place in 0..12 {
-        words.push((state.r[PC].wrapping_add(2 * place), gen::op_code(random)));
-    }
+    let ahead = (0..12).map(|place| state.r[PC].wrapping_add(2 * place));
+    words.extend(ahead.map(|at| (at, gen::op_code(random))));
     match random.below(30) {
         0 => settings.halt = 4,
         1 => map[random.below(PAGES)] = 3,
         _ => {}
     }
-    let image: Vec<String> = words
-        .iter()
-        .flat_map(|&(at, word)| [(at & 0xFFFE, word & 0xFF), (at | 1, word >> 8)])
-        .map(|(at, byte)| format!("{at:04X}={byte:02X}"))
-        .collect();
-    let pages: Vec<String> = (0..PAGES)
-        .filter(|&page| map[page] != 0)
-        .map(|page| format!("{page:02X}={:02X}", map[page]))
-        .collect();
-    // Once in a while all scans that there may be, and one more.
-    let scans: Vec<String> = if random.percent(1) {
-        vec![format!("{}/-", ["x"; CHANNELS].join(",")); 4_097]
-    } else {
-        (0..=random.below(6)).map(|_| scan(random)).collect()
-    };
+    let scans = some_scans(random).join(" ");
     let (setup, state) = (setup_text(&settings), state_text(&state));
-    let (map, image) = (pages.join(","), image.join(","));
+    let (map, image) = (map_text(&map), image_text(&words));
     let seed = random.number() as u32;
-    let scans = scans.join(" ");
     format!(
         "scans {} {setup} {state} 100:{map} 10000:U{seed:08X}:{image} {scans}",
         level.0

@@ -11,6 +11,13 @@ pub(crate) enum Place {
     Memory(u16),
 }
 
+impl Place {
+    #[inline]
+    pub(crate) fn is_register(self) -> bool {
+        matches!(self, Place::Register(_))
+    }
+}
+
 /// How far an autoincrement or autodecrement moves: `SIZE` bytes, but 2 for SP and PC.
 #[inline]
 fn stride<const SIZE: u16>(register: usize) -> u16 {

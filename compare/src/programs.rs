@@ -26,6 +26,20 @@ fn named(name: &str) -> Program {
     }
 }
 
+impl Program {
+    /// Takes a line of the list: its pages, the number of its runs, or a word at an address.
+    fn take(&mut self, first: &str, rest: &str) {
+        match first {
+            "pages" => rest.split(' ').for_each(|page| self.map[hex(page)] = 1),
+            "runs" => self.runs = rest.parse().expect("a number of runs"),
+            address => {
+                let (at, word) = (hex(address), hex(rest) as u16);
+                self.image[at..at + 2].copy_from_slice(&word.to_le_bytes());
+            }
+        }
+    }
+}
+
 /// All programs of a list. A list that can't be read is an error of its writer.
 pub fn read_programs(list: &str) -> Vec<Program> {
     let mut programs: Vec<Program> = Vec::new();
@@ -34,18 +48,9 @@ pub fn read_programs(list: &str) -> Vec<Program> {
         let Some((first, rest)) = said.split_once([' ', '=']) else {
             continue;
         };
-        if first == "program" {
-            programs.push(named(rest));
-            continue;
-        }
-        let program = programs.last_mut().expect("a program's name first");
-        match first {
-            "pages" => rest.split(' ').for_each(|page| program.map[hex(page)] = 1),
-            "runs" => program.runs = rest.parse().expect("a number of runs"),
-            address => {
-                let (at, word) = (hex(address), hex(rest) as u16);
-                program.image[at..at + 2].copy_from_slice(&word.to_le_bytes());
-            }
+        match (first, programs.last_mut()) {
+            ("program", _) => programs.push(named(rest)),
+            (_, program) => program.expect("a program's name first").take(first, rest),
         }
     }
     programs

@@ -58,7 +58,7 @@ fn function(call: Call, level: Level) -> (&'static str, Vec<Argument>) {
         Call::ReadText => return ("wd16_read_text", [0, 1, 2].map(Buffer).to_vec()),
         Call::Assemble => return ("wd16_assemble", [0, 1, 2].map(Buffer).to_vec()),
         Call::CheckTrace => return ("wd16_check_trace", [0, 1, 2].map(Buffer).to_vec()),
-        Call::Scan => return ("wd16_scan", (0..9).map(Buffer).collect()),
+        Call::Scan => return ("wd16_scan", [0, 1, 2, 3, 5, 4, 6, 7, 8].map(Buffer).to_vec()),
         Call::Report => return ("wd16_report", [0, 1, 2].map(Buffer).to_vec()),
     };
     let buffers = first.iter().map(|&at| Buffer(at));

@@ -193,7 +193,6 @@ fn six_of(text: &str) -> Option<u16> {
 
 fn operands_of(operands: Operands, text: &str) -> Option<OperandBits> {
     let bits = |bits: u16| Some((bits, [None, None]));
-    let two = || text.split_once(',');
     match operands {
         Operands::Nothing => None,
         Operands::Mask => Some((0, [Some(hex(text, 4)?), None])),
@@ -201,36 +200,38 @@ fn operands_of(operands: Operands, text: &str) -> Option<OperandBits> {
         Operands::Digit => bits(hex(text, 1)?),
         Operands::Six => bits(six_of(text)?),
         Operands::Displacement => bits(hex(text, 2)?),
-        Operands::NumberRegister => {
-            let (number, register) = two()?;
-            bits(register_of(register)? << 6 | number_of(number)?)
-        }
-        Operands::RegisterCount => {
-            let (register, count) = two()?;
-            bits(register_of(register)? << 6 | number_of(count)?)
-        }
-        Operands::RegisterOffset => {
-            let (register, offset) = two()?;
-            bits(register_of(register)? << 6 | six_of(offset)?)
-        }
-        Operands::TwoRegisters => {
-            let (source, destination) = two()?;
-            bits(register_of(source)? << 3 | register_of(destination)?)
-        }
         Operands::Destination => {
             let (field, next) = operand_of(text)?;
             Some((field, [next, None]))
         }
-        Operands::RegisterDestination | Operands::RegisterAddress => {
-            let (register, destination) = two()?;
-            let (field, next) = operand_of(destination)?;
-            Some((register_of(register)? << 6 | field, [next, None]))
+        Operands::NumberRegister
+        | Operands::RegisterCount
+        | Operands::RegisterOffset
+        | Operands::TwoRegisters
+        | Operands::RegisterDestination
+        | Operands::RegisterAddress
+        | Operands::SourceDestination => {
+            let (first, second) = text.split_once(',')?;
+            two_operands_of(operands, first, second)
         }
+    }
+}
+
+fn two_operands_of(operands: Operands, first: &str, second: &str) -> Option<OperandBits> {
+    let bits = |bits: u16| Some((bits, [None, None]));
+    match operands {
+        Operands::NumberRegister => bits(register_of(second)? << 6 | number_of(first)?),
+        Operands::RegisterCount => bits(register_of(first)? << 6 | number_of(second)?),
+        Operands::RegisterOffset => bits(register_of(first)? << 6 | six_of(second)?),
+        Operands::TwoRegisters => bits(register_of(first)? << 3 | register_of(second)?),
         Operands::SourceDestination => {
-            let (source, destination) = two()?;
-            let (from, first) = operand_of(source)?;
-            let (to, second) = operand_of(destination)?;
-            Some((from << 6 | to, [first, second]))
+            let (from, from_next) = operand_of(first)?;
+            let (to, to_next) = operand_of(second)?;
+            Some((from << 6 | to, [from_next, to_next]))
+        }
+        _ => {
+            let (field, next) = operand_of(second)?;
+            Some((register_of(first)? << 6 | field, [next, None]))
         }
     }
 }

@@ -152,11 +152,9 @@ fn sob_pc_takes_one_from_pc() {
 #[test]
 fn svcb_and_svcc() {
     for (op, location) in [(0x0085, 0x24), (0x00C5, 0x26)] {
-        let mut rig = Rig::new(&[op]).word(location, 0x0600).i2().flags(0b0110);
-        for register in 0..6 {
-            rig = rig.reg(register, 0x1000 + register as u16);
-        }
-        let rig = rig.go();
+        let rig = Rig::new(&[op]).word(location, 0x0600).i2().flags(0b0110);
+        let numbered = |rig: Rig, register: usize| rig.reg(register, 0x1000 + register as u16);
+        let rig = (0..6).fold(rig, numbered).go();
         assert_eq!((rig.pc(), rig.sp(), rig.s.i2), (0x0600, 0x01EE, true));
         let stack: Vec<u16> = (0..9).map(|place| rig.at(0x01EE + 2 * place)).collect();
         let expected = [
@@ -601,27 +599,26 @@ fn halt_and_wfi_are_cause_0() {
     Rig::new(&[0x0007]).step(0, Cause::OpCode);
 }
 
+/// High bytes of branches, and whether each is taken at these indicators, bits of N Z V C.
+fn conditions(flags: u16) -> [(u16, bool); 7] {
+    let [n, z, v, c] = [8, 4, 2, 1].map(|bit| flags & bit != 0);
+    [
+        (0x02, !z),
+        (0x04, !(n ^ v)),
+        (0x06, !(z | (n ^ v))),
+        (0x80, !n),
+        (0x82, !(c | z)),
+        (0x84, !v),
+        (0x86, !c),
+    ]
+}
+
 #[test]
 fn branch_conditions() {
-    // For each high byte the indicators, as bits of N Z V C, that it branches at.
-    let n = |f: u16| f & 8 != 0;
-    let z = |f: u16| f & 4 != 0;
-    let v = |f: u16| f & 2 != 0;
-    let c = |f: u16| f & 1 != 0;
-    for flags in 0..16 {
-        let conditions = [
-            (0x02, !z(flags)),
-            (0x04, !(n(flags) ^ v(flags))),
-            (0x06, !(z(flags) | (n(flags) ^ v(flags)))),
-            (0x80, !n(flags)),
-            (0x82, !(c(flags) | z(flags))),
-            (0x84, !v(flags)),
-            (0x86, !c(flags)),
-        ];
-        for (high, taken) in conditions {
-            let goes = |op: u16| Rig::new(&[op << 8 | 0x10]).flags(flags).go().pc() == 0x0122;
-            assert_eq!(goes(high), taken);
-            assert_eq!(goes(high + 1), !taken);
-        }
+    let all = (0..16).flat_map(|flags| conditions(flags).map(|condition| (flags, condition)));
+    for (flags, (high, taken)) in all {
+        let goes = |op: u16| Rig::new(&[op << 8 | 0x10]).flags(flags).go().pc() == 0x0122;
+        assert_eq!(goes(high), taken);
+        assert_eq!(goes(high + 1), !taken);
     }
 }

@@ -54,51 +54,96 @@ fn lines_of_every_kind() {
     }
 }
 
+/// An op code must have all its words to be written.
+fn check_short(words: &[u16]) {
+    for short in 1..words.len() {
+        let written = write_text(BASE, &words[..short], &mut [0; 32]);
+        assert_eq!(written, Err(Refusal(7)));
+    }
+}
+
 #[test]
 fn every_first_word_is_read_back() {
     let mut longest = 0;
     for word in 0..=0xFFFF {
-        let (line, taken) = text_of(&[word, 0x12AF, 0xB034]);
+        let words = [word, 0x12AF, 0xB034];
+        let (line, taken) = text_of(&words);
         longest = longest.max(line.len());
-        assert_eq!(
-            words_of(&line),
-            Ok([word, 0x12AF, 0xB034][..taken].to_vec())
-        );
-        for short in 1..taken {
-            let words = &[word, 0x12AF, 0xB034][..short];
-            assert_eq!(write_text(BASE, words, &mut [0; 32]), Err(Refusal(7)));
-        }
+        assert_eq!(words_of(&line), Ok(words[..taken].to_vec()));
+        check_short(&words[..taken]);
     }
     assert_eq!(longest, 24);
 }
 
 /// A line that the reader takes is the one that the writer makes of its words.
-#[test]
-fn no_other_line_is_taken() {
-    let characters = " ,.@#()+-0139AFRSPCW\nx";
-    for word in (0..=0xFFFF_u16).step_by(41) {
-        let (line, _) = text_of(&[word, 0x12AF, 0xB034]);
-        for place in 0..=line.len() {
-            for character in characters.chars() {
-                let mut inserted = line.clone();
-                inserted.insert(place, character);
-                check(&inserted);
-                if place < line.len() {
-                    let mut changed = line.clone();
-                    changed.replace_range(place..=place, &character.to_string());
-                    check(&changed);
-                }
-            }
-            check(&line[..place]);
-        }
-    }
-}
-
 fn check(line: &str) {
     if let Ok(words) = words_of(line) {
         assert_eq!(text_of(&words).0, line);
     }
 }
+
+/// The line cut at the place, and with each character there, put in or instead.
+fn check_changes_at(line: &str, place: usize) {
+    let (before, after) = line.split_at(place);
+    check(before);
+    for character in " ,.@#()+-0139AFRSPCW\nx".chars() {
+        check(&format!("{before}{character}{after}"));
+        if let Some(rest) = after.get(1..) {
+            check(&format!("{before}{character}{rest}"));
+        }
+    }
+}
+
+fn check_changes(line: &str) {
+    for place in 0..=line.len() {
+        check_changes_at(line, place);
+    }
+}
+
+#[test]
+fn no_other_line_is_taken() {
+    for word in (0..=0xFFFF).step_by(41) {
+        let (line, _) = text_of(&[word, 0x12AF, 0xB034]);
+        check_changes(&line);
+    }
+}
+
+/// Lines that are no text.
+const NO_TEXTS: [&str; 33] = [
+    "",
+    "NOPE",
+    "NOP ",
+    " NOP",
+    "nop",
+    "SAVS #1234",
+    "BHIS 00",
+    "BLO 00",
+    "CALL @R1",
+    "JMP @R1",
+    "INC (PC)+",
+    "INC @(PC)+",
+    "ADDI 00,R0",
+    "ADDI 11,R0",
+    "ADDI R0,01",
+    "SSRA 01,R0",
+    "SOB R1,40",
+    "SVCA 40",
+    "LCC 0A",
+    "JSR PC,R1",
+    ".WORD 0000",
+    ".WORD 7240 ",
+    "ADD R0, R1",
+    "ADD R0",
+    "ADD R0,R1,R2",
+    "TST #12af",
+    "CLRB #FF",
+    "INC 0(R1)",
+    "INC @@R1",
+    "MOV R6,R7",
+    "BR FE\n",
+    "INC -(R1)+",
+    "\u{e9}",
+];
 
 #[test]
 fn refusals() {
@@ -109,42 +154,7 @@ fn refusals() {
         read_text(BASE, b"NOPE", &mut [0; 2]),
         Err(Refusal(10).into())
     );
-    let lines = [
-        "",
-        "NOPE",
-        "NOP ",
-        " NOP",
-        "nop",
-        "SAVS #1234",
-        "BHIS 00",
-        "BLO 00",
-        "CALL @R1",
-        "JMP @R1",
-        "INC (PC)+",
-        "INC @(PC)+",
-        "ADDI 00,R0",
-        "ADDI 11,R0",
-        "ADDI R0,01",
-        "SSRA 01,R0",
-        "SOB R1,40",
-        "SVCA 40",
-        "LCC 0A",
-        "JSR PC,R1",
-        ".WORD 0000",
-        ".WORD 7240 ",
-        "ADD R0, R1",
-        "ADD R0",
-        "ADD R0,R1,R2",
-        "TST #12af",
-        "CLRB #FF",
-        "INC 0(R1)",
-        "INC @@R1",
-        "MOV R6,R7",
-        "BR FE\n",
-        "INC -(R1)+",
-        "\u{e9}",
-    ];
-    for line in lines {
+    for line in NO_TEXTS {
         assert_eq!(words_of(line), Err(Refusal(9).into()), "{line}");
     }
     assert_eq!(

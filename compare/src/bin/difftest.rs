@@ -23,9 +23,9 @@ use wd16::abi::{self, Buffers, Call, Interface};
 use wd16::bench::bench;
 use wd16::board::{IMAGE, PAGES, READ_ONLY, WRITABLE};
 use wd16::calls::Plain;
-use wd16::cases::{self, Answers};
-use wd16::coverage::{cut_kinds, Ahead, Coverage, RunKind};
-use wd16::gen::{self, Random};
+use wd16::cases::{self, hex_text, Answers};
+use wd16::coverage::{changed_kinds, cut_kinds, is_sound, plugged_kinds, Ahead, Coverage, RunKind};
+use wd16::gen::{self, Random, RandomBoard};
 use wd16::gencases::{shown, text_call, Kind, TEXT_ANSWERS};
 use wd16::machine::MOST_LINES;
 use wd16::recorder::{Tallies, CHANNELS};
@@ -37,27 +37,36 @@ use wd16::{step, Cause, Level, Mode, Ran, Refusal, Settings, Setup, State, Stepp
 /// What differs, told to a person.
 type Difference = String;
 
-fn hex(bytes: &[u8]) -> String {
-    bytes.iter().map(|byte| format!("{byte:02X}")).collect()
-}
-
 // ---- one board, two processors ----
 
-/// Two processors on one board. `lent` is what both are lent next.
+/// What a call comes to: its number, and its buffers after it.
+type Outcome = (u8, Vec<Vec<u8>>);
+
+/// What a call comes to on the interpreter and on the other one.
+fn both(level: Level, other: &mut dyn Interface, call: Call, list: Vec<Vec<u8>>) -> [Outcome; 2] {
+    let (mut ours, mut theirs) = (list.clone(), list);
+    let our_number = Plain(level).call(call, &mut ours);
+    let their_number = other.call(call, &mut theirs);
+    [(our_number, ours), (their_number, theirs)]
+}
+
+/// Two processors on one board with its map. `lent` is what both are lent next.
 struct Pair<'a> {
     level: Level,
     other: &'a mut dyn Interface,
+    map: [u8; PAGES],
     lent: Buffers,
+    random: &'a mut Random,
+    reached: &'a mut Coverage,
 }
 
 impl Pair<'_> {
     /// The same call on both; answers its number and goes on with what it left.
     fn call(&mut self, call: Call, what: impl Fn(&Buffers) -> String) -> Result<u8, Difference> {
-        let mut ours = self.lent.clone().into_list(self.level);
-        let mut theirs = ours.clone();
-        let their_number = self.other.call(call, &mut theirs);
-        let number = Plain(self.level).call(call, &mut ours);
-        let (ours, theirs) = (Buffers::taken(&mut ours), Buffers::taken(&mut theirs));
+        let list = self.lent.clone().into_list(self.level);
+        let [ours, theirs] = both(self.level, self.other, call, list);
+        let (number, their_number) = (ours.0, theirs.0);
+        let [ours, theirs] = [ours, theirs].map(|(_, mut list)| Buffers::taken(&mut list));
         if (number, &ours) != (their_number, &theirs) {
             let told = difference((number, &ours), (their_number, &theirs));
             return Err(format!("{}: {told}", what(&self.lent)));
@@ -72,10 +81,20 @@ impl Pair<'_> {
         Ok(number)
     }
 
-    fn put(&mut self, words: &[(u16, u16)]) {
-        for &(at, word) in words {
-            let at = usize::from(at & 0xFFFE);
-            self.lent.image[at..at + 2].copy_from_slice(&word.to_le_bytes());
+    fn some_settings(&mut self) -> Settings {
+        gen::settings(self.random, self.level)
+    }
+
+    fn some_state(&mut self) -> State {
+        gen::state(self.random, &self.map, self.level)
+    }
+
+    /// The buffers with some state and a few quiet lines.
+    fn quiet(&mut self, good: &Buffers) -> Buffers {
+        Buffers {
+            state: abi::bytes_of(self.level, &self.some_state()),
+            lines: vec![0; 1 + self.random.below(3)],
+            ..good.clone()
         }
     }
 
@@ -94,8 +113,8 @@ impl Pair<'_> {
         self.call(Call::Step, |lent| {
             let state = abi::state_of(level, &lent.state).expect("a good state");
             let text = op_code_text(level, &state, &lent.image);
-            let settings = hex(&lent.settings);
-            let state = hex(&lent.state);
+            let settings = hex_text(&lent.settings);
+            let state = hex_text(&lent.state);
             format!("step from {state} on line {line:04X}, settings {settings}, {text}")
         })?;
         Ok(abi::stepped_of(level, &self.lent.state).expect("a good answer"))
@@ -104,10 +123,10 @@ impl Pair<'_> {
     fn run(&mut self, lines: &[u16]) -> Result<Ran, Difference> {
         self.lent.lines = lines.to_vec();
         self.call(Call::Run, |lent| {
-            let (state, lines) = (hex(&lent.state), lent.lines.len());
+            let (state, lines) = (hex_text(&lent.state), lent.lines.len());
             format!(
                 "run from {state} over {lines} lines, settings {}",
-                hex(&lent.settings)
+                hex_text(&lent.settings)
             )
         })?;
         let Buffers { state, tally, .. } = &self.lent;
@@ -120,7 +139,7 @@ fn difference(ours: (u8, &Buffers), theirs: (u8, &Buffers)) -> Difference {
     if ours.0 != theirs.0 {
         return format!("ours answers {}, theirs {}", ours.0, theirs.0);
     }
-    let told = |b: &Buffers| format!("{} {}", hex(&b.state), hex(&b.tally));
+    let told = |b: &Buffers| format!("{} {}", hex_text(&b.state), hex_text(&b.tally));
     let images = (&ours.1.image, &theirs.1.image);
     match images.0.iter().zip(images.1).position(|(a, b)| a != b) {
         _ if told(ours.1) != told(theirs.1) => {
@@ -144,74 +163,78 @@ fn op_code_text(level: Level, state: &State, image: &[u8]) -> String {
 
 // ---- calls that are to be refused ----
 
+/// A wrong length: none, or as many less or more.
+fn wrong_length(random: &mut Random, right: usize, by: usize) -> usize {
+    random.pick(&[0, right.saturating_sub(by), right + by])
+}
+
+fn damage_length(bytes: &mut Vec<u8>, random: &mut Random, right: usize) {
+    bytes.resize(wrong_length(random, right, 1), 0);
+}
+
+/// A page that is neither fitted nor not, or read-only.
+fn damage_map(map: &mut [u8], random: &mut Random) {
+    let last = map.len().max(1) - 1;
+    let at = random.pick(&[0, last / 2, last]);
+    if let Some(page) = map.get_mut(at) {
+        *page = random.pick(&[2, 3, 0x80, 0xFF]);
+    }
+}
+
+fn damage_line(lines: &mut [u16], random: &mut Random) {
+    let bit = gen::unused_bit(random);
+    lines[random.below(lines.len())] |= bit;
+}
+
 /// One thing made wrong; the state's own bytes only where they are read.
 fn damage(level: Level, b: &mut Buffers, random: &mut Random, reads_state: bool) {
-    let resized =
-        |random: &mut Random, right: usize| random.pick(&[0, right.saturating_sub(1), right + 1]);
     match random.below(12) {
         0 => b.image.truncate(random.pick(&[0, 1, IMAGE - 1])),
         1 => b.image.push(0),
         2 => b.map.truncate(random.pick(&[0, 1, PAGES - 1])),
         3 => b.map.push(1),
-        4 => {
-            let last = b.map.len().max(1) - 1;
-            let at = random.pick(&[0, last / 2, last]);
-            if let Some(page) = b.map.get_mut(at) {
-                *page = random.pick(&[2, 3, 0x80, 0xFF]);
-            }
-        }
+        4 => damage_map(&mut b.map, random),
         5 => {
             let length = random.pick(&[MOST_LINES, MOST_LINES + 1, 5000]);
             b.lines.resize(length, 0);
         }
-        6 => {
-            let bit = random.pick(&[4, 0x10, 0x20, 0x40, 0x1000, 0x2000, 0x4000, 0x8000]);
-            let at = random.below(b.lines.len());
-            b.lines[at] |= bit;
-        }
-        7 => {
-            let length = resized(random, abi::state_length(level));
-            b.state.resize(length, 0);
-        }
+        6 => damage_line(&mut b.lines, random),
+        7 => damage_length(&mut b.state, random, abi::state_length(level)),
         8 if reads_state && b.state.len() == abi::state_length(level) => {
-            let (at, least) = random.pick(&abi::bad_bytes(level));
-            b.state[at] = least;
+            let (at, byte) = random.pick(&abi::bad_bytes(level));
+            b.state[at] = byte;
         }
         9 if level.has(Wish::BlockMoves) => {
-            let length = resized(random, abi::settings_length(level));
-            b.settings.resize(length, 0);
+            damage_length(&mut b.settings, random, abi::settings_length(level));
         }
         10 | 11 if !b.settings.is_empty() => {
             let at = random.below(b.settings.len());
             b.settings[at] = random.pick(&[2, 3, 4, 0x3F, 0x40, 0xFF]);
         }
-        _ => {
-            let length = resized(random, abi::tally_length(level));
-            b.tally.resize(length, 0);
-        }
+        _ => damage_length(&mut b.tally, random, abi::tally_length(level)),
     }
 }
 
 /// How many calls of each kind are damaged on a board.
 const DAMAGED_ON_A_BOARD: usize = 8;
 
-fn refused_calls(
-    pair: &mut Pair,
-    random: &mut Random,
-    map: &[u8; PAGES],
-    reached: &mut Coverage,
-) -> Result<(), Difference> {
+/// A call with one to three things made wrong.
+fn damaged_call(pair: &mut Pair, call: Call, good: &Buffers) -> Result<(), Difference> {
+    pair.lent = pair.quiet(good);
+    for _ in 0..=pair.random.below(3) {
+        let reads_state = call != Call::PowerUp;
+        damage(pair.level, &mut pair.lent, pair.random, reads_state);
+    }
+    let number = pair.call(call, |_| format!("damaged {call:?}"))?;
+    pair.reached.count_refusal(call, number);
+    Ok(())
+}
+
+fn damaged_calls(pair: &mut Pair) -> Result<(), Difference> {
     let good = pair.lent.clone();
     let calls = [Call::PowerUp, Call::Step, Call::Run];
     for call in calls.into_iter().cycle().take(3 * DAMAGED_ON_A_BOARD) {
-        pair.lent = good.clone();
-        pair.lend_state(&gen::state(random, map, pair.level));
-        pair.lent.lines = vec![0; 1 + random.below(3)];
-        for _ in 0..=random.below(3) {
-            damage(pair.level, &mut pair.lent, random, call != Call::PowerUp);
-        }
-        let number = pair.call(call, |_| format!("damaged {call:?}"))?;
-        reached.count_refusal(call, number);
+        damaged_call(pair, call, &good)?;
     }
     pair.lent = good;
     Ok(())
@@ -256,56 +279,50 @@ fn resize_one(random: &mut Random, list: &mut [Vec<u8>], sizes: &[usize]) {
     let (Some(buffer), Some(&size)) = (list.get_mut(at), sizes.get(at)) else {
         return;
     };
-    let right = buffer.len();
-    let length = random.pick(&[0, right.saturating_sub(size), right + size]);
-    buffer.resize(length, 0);
+    buffer.resize(wrong_length(random, buffer.len(), size), 0);
 }
 
 /// A call of the recorder's on both.
-fn recorder_call(
-    pair: &mut Pair,
-    random: &mut Random,
-    call: Call,
-    mut list: Vec<Vec<u8>>,
-    reached: &mut Coverage,
-) -> Result<(), Difference> {
-    resize_one(random, &mut list, call.elements(pair.level));
-    let (mut ours, mut theirs) = (list.clone(), list.clone());
-    let number = Plain(pair.level).call(call, &mut ours);
-    let their_number = pair.other.call(call, &mut theirs);
-    if (number, &ours) != (their_number, &theirs) {
-        let place = ours.iter().zip(&theirs).position(|(a, b)| a != b);
+fn recorder_call(pair: &mut Pair, call: Call, mut list: Vec<Vec<u8>>) -> Result<(), Difference> {
+    resize_one(pair.random, &mut list, call.elements(pair.level));
+    let [ours, theirs] = both(pair.level, pair.other, call, list.clone());
+    if ours != theirs {
+        let place = ours.1.iter().zip(&theirs.1).position(|(a, b)| a != b);
         return Err(format!(
-            "{call:?}: ours answers {number}, theirs {their_number}; buffer {place:?} differs"
+            "{call:?}: ours answers {}, theirs {}; buffer {place:?} differs",
+            ours.0, theirs.0
         ));
     }
-    if number != 0 && ours != list {
+    let (number, after) = ours;
+    if number != 0 && after != list {
         return Err(format!("{call:?}: a refused call changed a buffer"));
     }
-    reached.count_refusal(call, number);
+    pair.reached.count_refusal(call, number);
     Ok(())
 }
 
-fn recorder_calls(
-    pair: &mut Pair,
-    random: &mut Random,
-    map: &[u8; PAGES],
-    reached: &mut Coverage,
-) -> Result<(), Difference> {
+fn some_scan(pair: &mut Pair) -> Result<(), Difference> {
+    let mut lent = pair.quiet(&pair.lent.clone());
+    if pair.random.percent(50) {
+        damage(pair.level, &mut lent, pair.random, true);
+    }
+    let mut list = lent.into_list(pair.level);
+    list.extend(some_channels(pair.random));
+    list.push(some_recorder(pair.random));
+    recorder_call(pair, Call::Scan, list)
+}
+
+fn some_report(pair: &mut Pair) -> Result<(), Difference> {
+    let channel = pair.random.pick(&[0, 7, 15, 16, 0xFF]);
+    let recorder = some_recorder(pair.random);
+    let list = vec![recorder, vec![channel], vec![9; abi::REPORT]];
+    recorder_call(pair, Call::Report, list)
+}
+
+fn recorder_calls(pair: &mut Pair) -> Result<(), Difference> {
     for _ in 0..2 * DAMAGED_ON_A_BOARD {
-        let mut lent = pair.lent.clone();
-        lent.state = abi::bytes_of(pair.level, &gen::state(random, map, pair.level));
-        lent.lines = vec![0; 1 + random.below(3)];
-        if random.percent(50) {
-            damage(pair.level, &mut lent, random, true);
-        }
-        let mut list = lent.into_list(pair.level);
-        list.extend(some_channels(random));
-        list.push(some_recorder(random));
-        recorder_call(pair, random, Call::Scan, list, reached)?;
-        let channel = random.pick(&[0, 7, 15, 16, 0xFF]);
-        let list = vec![some_recorder(random), vec![channel], vec![9; abi::REPORT]];
-        recorder_call(pair, random, Call::Report, list, reached)?;
+        some_scan(pair)?;
+        some_report(pair)?;
     }
     Ok(())
 }
@@ -345,7 +362,6 @@ fn is_its_parts(
     before: &Buffers,
     ran: &Ran,
     place: usize,
-    reached: &mut Coverage,
 ) -> Result<(), Difference> {
     let whole = std::mem::replace(&mut pair.lent, before.clone());
     let first = pair.run(&whole.lines[..place])?;
@@ -366,9 +382,8 @@ fn is_its_parts(
             "a run cut at {place} ends differently: {ran:?}, {joined:?}"
         ));
     }
-    for kind in cut_kinds(place, whole.lines.len(), &first, &second) {
-        reached.count_run(kind);
-    }
+    let shown = cut_kinds(place, whole.lines.len(), &first, &second);
+    pair.reached.count_run(&shown);
     pair.lent = whole;
     Ok(())
 }
@@ -401,49 +416,47 @@ fn causes(pair: &mut Pair, lines: &[u16]) -> Result<Vec<Cause>, Difference> {
 /// Of runs up to this length the cause of each step is looked at too.
 const LOOKED_AT: usize = 8;
 
-/// A run without a blank that doesn't end locked is the same with more cards (wish 12), and each of its steps has the same
-/// cause. Another one may change.
-fn is_the_same_with_cards(
+/// Each step has the same cause with more cards.
+fn has_the_same_causes(
     pair: &mut Pair,
     before: &Buffers,
-    ran: &Ran,
-    random: &mut Random,
-    reached: &mut Coverage,
+    plugged: &Buffers,
 ) -> Result<(), Difference> {
-    let (map, kind) = more_cards(pair.level, &before.map, random);
+    pair.lent = plugged.clone();
+    let with = causes(pair, &before.lines)?;
+    pair.lent = before.clone();
+    let without = causes(pair, &before.lines)?;
+    if with != without {
+        return Err(format!("more cards changed causes: {without:?}, {with:?}"));
+    }
+    Ok(())
+}
+
+/// A run without a blank that doesn't end locked is the same with more cards (wish 12), and each of its steps has the same
+/// cause. Another one may change.
+fn is_the_same_with_cards(pair: &mut Pair, before: &Buffers, ran: &Ran) -> Result<(), Difference> {
+    let (map, kind) = more_cards(pair.level, &before.map, pair.random);
     let plugged = Buffers {
         map,
         ..before.clone()
     };
     let whole = std::mem::replace(&mut pair.lent, plugged.clone());
-    let again = pair.run(&whole.lines)?;
+    let again = pair.run(&before.lines)?;
     let same = again == *ran && pair.lent.image == whole.image;
-    let more = plugged.map != before.map;
-    let (blank, locked) = (ran.blanks != 0, ran.state.mode == Mode::Locked);
-    let mut shown = Vec::new();
-    if blank || locked {
-        let spared = locked && again.state.mode != Mode::Locked;
-        shown.push((blank && again.blanks < ran.blanks, RunKind::Healed));
-        shown.push((!blank && spared, RunKind::Spared));
+    if !is_sound(ran) {
+        pair.reached.count_run(&changed_kinds(ran, &again));
     } else if same {
-        let started = abi::state_of(pair.level, &before.state).expect("a good state");
-        let long = whole.lines.len() >= 4 && ran.state.r[PC] != started.r[PC];
-        shown.push((more, kind));
-        shown.push((more && long, RunKind::PluggedLong));
-        if whole.lines.len() <= LOOKED_AT {
-            pair.lent = plugged;
-            let with = causes(pair, &whole.lines)?;
-            pair.lent = before.clone();
-            let without = causes(pair, &whole.lines)?;
-            if with != without {
-                return Err(format!("more cards changed causes: {without:?}, {with:?}"));
-            }
+        if before.lines.len() <= LOOKED_AT {
+            has_the_same_causes(pair, before, &plugged)?;
+        }
+        if plugged.map != before.map {
+            let started = abi::state_of(pair.level, &before.state).expect("a good state");
+            let moved = ran.state.r[PC] != started.r[PC];
+            let shown = plugged_kinds(kind, before.lines.len(), moved);
+            pair.reached.count_run(&shown);
         }
     } else {
         return Err(format!("more cards changed a run: {ran:?}, {again:?}"));
-    }
-    for (_, kind) in shown.into_iter().filter(|(is, _)| *is) {
-        reached.count_run(kind);
     }
     pair.lent = whole;
     Ok(())
@@ -452,25 +465,26 @@ fn is_the_same_with_cards(
 /// A line word's I3.
 const SWITCH: u16 = 0x0008;
 
-fn one_run(
-    pair: &mut Pair,
-    random: &mut Random,
-    map: &[u8; PAGES],
-    reached: &mut Coverage,
-) -> Result<(), Difference> {
-    let number = random.pick(&[0, 1, 2, 4, 8, 16, 64, MOST_LINES]);
-    let mut lines: Vec<u16> = (0..number).map(|_| gen::line(random)).collect();
-    let mut state = gen::state(random, map, pair.level);
-    if random.percent(50) {
+/// Line words and a state: any, or one that runs, or one that is saved while the switch stays on for half the run.
+fn some_run(pair: &mut Pair) -> (State, Vec<u16>) {
+    let number = pair.random.pick(&[0, 1, 2, 4, 8, 16, 64, MOST_LINES]);
+    let mut lines: Vec<u16> = (0..number).map(|_| gen::line(pair.random)).collect();
+    let mut state = pair.some_state();
+    if pair.random.percent(50) {
         state.mode = Mode::Running;
-    } else if pair.level.has(Wish::Jumpers) && random.percent(10) {
-        // Saved, and the switch stays on for half the run.
+    } else if pair.level.has(Wish::Jumpers) && pair.random.percent(10) {
         state.mode = Mode::Saved;
         for line in &mut lines[..number / 2] {
             *line |= SWITCH;
         }
     }
-    pair.lend_settings(&gen::settings(random, pair.level));
+    (state, lines)
+}
+
+fn one_run(pair: &mut Pair) -> Result<(), Difference> {
+    let (state, lines) = some_run(pair);
+    let settings = pair.some_settings();
+    pair.lend_settings(&settings);
     pair.lend_state(&state);
     let before = Buffers {
         lines: lines.clone(),
@@ -478,10 +492,15 @@ fn one_run(
     };
     let ran = pair.run(&lines)?;
     is_its_steps(pair, &before, &ran)?;
-    let within = random.below(number + 1);
-    let place = random.pick(&[0, number, within, within]);
-    is_its_parts(pair, &before, &ran, place, reached)?;
-    is_the_same_with_cards(pair, &before, &ran, random, reached)
+    let number = lines.len();
+    let within = pair.random.below(number + 1);
+    let place = pair.random.pick(&[0, number, within, within]);
+    is_its_parts(pair, &before, &ran, place)?;
+    is_the_same_with_cards(pair, &before, &ran)
+}
+
+fn some_runs(pair: &mut Pair) -> Result<(), Difference> {
+    (0..RUNS_OF_A_BOARD).try_for_each(|_| one_run(pair))
 }
 
 // ---- many cases ----
@@ -490,31 +509,27 @@ fn one_run(
 const CASES_OF_A_BOARD: usize = 128;
 const RUNS_OF_A_BOARD: usize = 4;
 
-fn one_case(
-    pair: &mut Pair,
-    random: &mut Random,
-    map: &[u8; PAGES],
-    reached: &mut Coverage,
-) -> Result<(), Difference> {
-    let case = gen::case(random, map, pair.level);
-    let setup = pair.lend_settings(&gen::settings(random, pair.level));
-    pair.put(&case.words);
+fn one_case(pair: &mut Pair) -> Result<(), Difference> {
+    let case = gen::case(pair.random, &pair.map, pair.level);
+    let settings = pair.some_settings();
+    let setup = pair.lend_settings(&settings);
+    gen::put(&mut pair.lent.image, &case.words);
     pair.lend_state(&case.state);
     for line in case.lines {
         let before = abi::state_of(pair.level, &pair.lent.state).expect("a good state");
-        let ahead = Ahead::of(setup, before, line, &pair.lent.image, map);
+        let ahead = Ahead::of(setup, before, line, &pair.lent.image, &pair.map);
         let stepped = pair.step(line)?;
-        reached.count(&ahead, &stepped, map);
+        pair.reached.count(&ahead, &stepped, &pair.map);
     }
     Ok(())
 }
 
+fn some_cases(pair: &mut Pair, cases: usize) -> Result<(), Difference> {
+    (0..cases).try_for_each(|_| one_case(pair))
+}
+
 /// A power-up with each pair of jumpers that the level knows.
-fn power_ups(
-    pair: &mut Pair,
-    random: &mut Random,
-    reached: &mut Coverage,
-) -> Result<(), Difference> {
+fn power_ups(pair: &mut Pair) -> Result<(), Difference> {
     let before = pair.lent.clone();
     let pairs = if pair.level.has(Wish::Jumpers) {
         0..16
@@ -523,16 +538,17 @@ fn power_ups(
     };
     for jumpers in pairs {
         pair.lent = before.clone();
-        let setup = pair.lend_settings(&Settings {
+        let settings = Settings {
             power_up: jumpers / 4,
             halt: jumpers % 4,
-            ..gen::settings(random, pair.level)
-        });
+            ..pair.some_settings()
+        };
+        let setup = pair.lend_settings(&settings);
         pair.call(Call::PowerUp, |lent| {
-            format!("power-up, settings {}", hex(&lent.settings))
+            format!("power-up, settings {}", hex_text(&lent.settings))
         })?;
         let state = abi::state_of(pair.level, &pair.lent.state).expect("a good answer");
-        reached.count_power_up(&setup, &state);
+        pair.reached.count_power_up(&setup, &state);
     }
     pair.lent = before;
     Ok(())
@@ -545,30 +561,29 @@ fn one_board(
     cases: usize,
     reached: &mut Coverage,
 ) -> Result<(), Difference> {
-    let board = gen::board(random, level);
-    let map = board.map;
+    let RandomBoard { image, map } = gen::board(random, level);
+    let lent = Buffers {
+        state: abi::bytes_of(level, &State::cleared()),
+        tally: vec![9; abi::tally_length(level)],
+        image,
+        map: map.to_vec(),
+        lines: Vec::new(),
+        settings: abi::settings_bytes(level, &Settings::BENCH),
+    };
     let mut pair = Pair {
         level,
         other,
-        lent: Buffers {
-            state: abi::bytes_of(level, &State::cleared()),
-            tally: vec![9; abi::tally_length(level)],
-            image: board.image,
-            map: map.to_vec(),
-            lines: Vec::new(),
-            settings: abi::settings_bytes(level, &Settings::BENCH),
-        },
+        map,
+        lent,
+        random,
+        reached,
     };
-    power_ups(&mut pair, random, reached)?;
-    for _ in 0..cases {
-        one_case(&mut pair, random, &map, reached)?;
-    }
-    for _ in 0..RUNS_OF_A_BOARD {
-        one_run(&mut pair, random, &map, reached)?;
-    }
-    refused_calls(&mut pair, random, &map, reached)?;
+    power_ups(&mut pair)?;
+    some_cases(&mut pair, cases)?;
+    some_runs(&mut pair)?;
+    damaged_calls(&mut pair)?;
     if level.has(Wish::Recorder) {
-        recorder_calls(&mut pair, random, &map, reached)?;
+        recorder_calls(&mut pair)?;
     }
     Ok(())
 }
@@ -648,14 +663,12 @@ fn compare_jobs(level: Level, command: &str, seed: u64, jobs: usize) -> ExitCode
     all_reached(&missing)
 }
 
-fn compare_served(level: Level, command: &str, seed: u64, cases: usize) -> ExitCode {
-    match Served::start(command, level) {
-        Ok(mut served) => compare(level, &mut served, seed, cases),
-        Err(error) => {
-            println!("{command}: {error}");
-            ExitCode::FAILURE
-        }
+/// The interpreter, or a program that serves its calls.
+fn other_interface(command: &str, level: Level) -> std::io::Result<Box<dyn Interface>> {
+    if command == "self" {
+        return Ok(Box::new(Plain(level)));
     }
+    Ok(Box::new(Served::start(command, level)?))
 }
 
 // ---- calls of the text for C ----
@@ -667,17 +680,16 @@ fn compare_calls(level: Level, other: &mut dyn Interface, seed: u64, cases: usiz
     let mut reached: BTreeMap<(u8, u8), u64> = BTreeMap::new();
     for _ in 0..cases {
         let (call, lent) = text_call(&mut random, level);
-        let (mut ours, mut theirs) = (lent.clone(), lent.clone());
-        let number = Plain(level).call(call, &mut ours);
-        let their_number = other.call(call, &mut theirs);
-        if (number, &ours) != (their_number, &theirs) {
-            let told = |buffers: &[Vec<u8>]| buffers.iter().map(|b| hex(b)).collect::<Vec<_>>();
+        let [ours, theirs] = both(level, other, call, lent.clone());
+        if ours != theirs {
+            let told =
+                |buffers: &[Vec<u8>]| buffers.iter().map(|b| hex_text(b)).collect::<Vec<_>>();
             println!("{call:?} on {:?}", told(&lent));
-            println!("  ours   {number} {:?}", told(&ours));
-            println!("  theirs {their_number} {:?}", told(&theirs));
+            println!("  ours   {} {:?}", ours.0, told(&ours.1));
+            println!("  theirs {} {:?}", theirs.0, told(&theirs.1));
             return ExitCode::FAILURE;
         }
-        *reached.entry((call as u8, number)).or_default() += 1;
+        *reached.entry((call as u8, ours.0)).or_default() += 1;
     }
     println!("{reached:?}");
     println!("0 differences");
@@ -689,19 +701,6 @@ fn compare_calls(level: Level, other: &mut dyn Interface, seed: u64, cases: usiz
         .map(|(call, number)| format!("{call:?} answered {number}"))
         .collect();
     all_reached(&missing)
-}
-
-fn compare_text_calls(level: Level, command: &str, seed: u64, cases: usize) -> ExitCode {
-    if command == "self" {
-        return compare_calls(level, &mut Plain(level), seed, cases);
-    }
-    match Served::start(command, level) {
-        Ok(mut served) => compare_calls(level, &mut served, seed, cases),
-        Err(error) => {
-            println!("{command}: {error}");
-            ExitCode::FAILURE
-        }
-    }
 }
 
 // ---- case lines ----
@@ -723,6 +722,26 @@ fn other_answers(kind: Kind, command: &str, level: Level) -> std::io::Result<Box
     }))
 }
 
+/// The answer to a case, if both answer the same.
+fn same_answer(other: &mut dyn Answers, case: &str) -> Option<String> {
+    let ours = cases::answer(&mut cases::Plain, case);
+    let theirs = cases::answer(other, case);
+    if ours != theirs || ours == "BAD" {
+        println!("{case}\n  ours   {ours}\n  theirs {theirs}");
+        return None;
+    }
+    Some(ours)
+}
+
+/// How often each thing was shown.
+type Shown = BTreeMap<String, u64>;
+
+fn count_all(reached: &mut Shown, shown: Vec<String>) {
+    for what in shown {
+        *reached.entry(what).or_default() += 1;
+    }
+}
+
 /// Holds the answers to random case lines against each other.
 fn compare_lines(
     kind: Kind,
@@ -733,31 +752,23 @@ fn compare_lines(
 ) -> ExitCode {
     println!("seed {seed}, {cases} cases");
     let mut random = Random::new(seed);
-    let mut reached: BTreeMap<String, u64> = BTreeMap::new();
+    let mut reached = Shown::new();
     for _ in 0..cases {
         let (case, meant) = kind.case(&mut random, level);
-        let ours = cases::answer(&mut cases::Plain, &case);
-        let theirs = cases::answer(other, &case);
-        if ours != theirs || ours == "BAD" {
-            println!("{case}\n  ours   {ours}\n  theirs {theirs}");
+        let Some(answer) = same_answer(other, &case) else {
             return ExitCode::FAILURE;
-        }
-        for what in shown(level, &case, &ours, &meant) {
-            *reached.entry(what).or_default() += 1;
-        }
+        };
+        count_all(&mut reached, shown(level, &case, &answer, &meant));
     }
     if kind == Kind::Scans {
         let refused = other.report(&Tallies::new(), CHANNELS as u8);
-        assert_eq!(
-            refused,
-            Some(Err(Refusal(34).into())),
-            "a report on channel 16"
-        );
+        let right = Some(Err(Refusal(34).into()));
+        assert_eq!(refused, right, "a report on channel 16");
     }
     println!("{reached:?}");
     println!("0 differences");
-    let wanted = kind.wanted().iter().map(|what| what.to_string());
-    let missing: Vec<String> = wanted.filter(|what| !reached.contains_key(what)).collect();
+    let mut missing = kind.wanted();
+    missing.retain(|what| !reached.contains_key(what));
     all_reached(&missing)
 }
 
@@ -767,31 +778,46 @@ fn usage() -> ExitCode {
     ExitCode::FAILURE
 }
 
+/// Makes the comparison that is named; none where nothing has that name.
+fn compared(
+    what: &str,
+    command: &str,
+    (seed, count, level): (u64, usize, Level),
+) -> std::io::Result<Option<ExitCode>> {
+    Ok(Some(match what {
+        "served" => compare(level, &mut *other_interface(command, level)?, seed, count),
+        "calls" => compare_calls(level, &mut *other_interface(command, level)?, seed, count),
+        "bench" => compare_jobs(level, command, seed, count),
+        name => {
+            let Some(kind) = Kind::named(name) else {
+                return Ok(None);
+            };
+            let mut other = other_answers(kind, command, level)?;
+            compare_lines(kind, &mut *other, seed, count, level)
+        }
+    }))
+}
+
 fn main() -> ExitCode {
     let arguments: Vec<String> = std::env::args().skip(1).collect();
     let words: Vec<&str> = arguments.iter().map(String::as_str).collect();
     let (what, command, numbers) = match words[..] {
-        ["self", ref numbers @ ..] => ("self", "", numbers),
+        ["self", ref numbers @ ..] => ("served", "self", numbers),
         [what, command, ref numbers @ ..] => (what, command, numbers),
         _ => return usage(),
     };
     let numbers: Option<Vec<u64>> = numbers.iter().map(|n| n.parse().ok()).collect();
-    let (seed, count, level) = match numbers.as_deref() {
+    let asked = match numbers.as_deref() {
         Some(&[seed, count]) => (seed, count as usize, Level::LANDED),
         Some(&[seed, count, level]) => (seed, count as usize, Level(level as u8)),
         _ => return usage(),
     };
-    match what {
-        "self" => compare(level, &mut Plain(level), seed, count),
-        "served" => compare_served(level, command, seed, count),
-        "bench" => compare_jobs(level, command, seed, count),
-        "calls" => compare_text_calls(level, command, seed, count),
-        name => {
-            let Some(kind) = Kind::named(name) else {
-                return usage();
-            };
-            let mut other = other_answers(kind, command, level).expect("a program");
-            compare_lines(kind, &mut *other, seed, count, level)
+    match compared(what, command, asked) {
+        Ok(Some(code)) => code,
+        Ok(None) => usage(),
+        Err(error) => {
+            println!("{command}: {error}");
+            ExitCode::FAILURE
         }
     }
 }

@@ -46,6 +46,13 @@ fn measure(program: &Program, runs: usize) -> (End, f64) {
     (End { last, blanks, sum }, seconds)
 }
 
+/// Where a program ends, and the seconds of the fastest of so many measurements.
+fn best_of(times: usize, program: &Program, runs: usize) -> (End, f64) {
+    let (end, first) = measure(program, runs);
+    let others = (1..times).map(|_| measure(program, runs).1);
+    (end, others.fold(first, f64::min))
+}
+
 fn main() {
     let asked: Option<usize> = std::env::args()
         .nth(1)
@@ -57,10 +64,7 @@ fn main() {
             continue;
         }
         let runs = asked.unwrap_or(program.runs);
-        let (end, mut best) = measure(&program, runs);
-        for _ in 1..times {
-            best = best.min(measure(&program, runs).1);
-        }
+        let (end, best) = best_of(times, &program, runs);
         let name = &program.name;
         println!(
             "end {name} {} {:08X} {:08X}",

@@ -1,22 +1,12 @@
 //! Wish 7: the assembler.
 
-use wd16::assembler::{assemble, LEAST_SECTION, LINE};
+use wd16::assembler::{assemble, source_of, LEAST_SECTION};
 use wd16::{Level, Placed, Refusal};
-
-fn source(lines: &[&str]) -> Vec<u8> {
-    let mut bytes = Vec::new();
-    for line in lines {
-        let mut padded = line.as_bytes().to_vec();
-        padded.resize(LINE, b' ');
-        bytes.extend(padded);
-    }
-    bytes
-}
 
 /// The words with their addresses.
 fn patch(lines: &[&str]) -> Result<Vec<(u16, u16)>, Placed> {
     let mut section = vec![7; LEAST_SECTION];
-    let length = assemble(Level::ALL, &source(lines), &mut section)?;
+    let length = assemble(Level::ALL, &source_of(lines), &mut section)?;
     assert!(section[length..].iter().all(|&byte| byte == 7));
     let word = |two: &[u8]| u16::from_le_bytes([two[0], two[1]]);
     assert_eq!(usize::from(word(&section)), (length - 2) / 4);
@@ -71,43 +61,45 @@ fn labels_as_operands() {
     assert_eq!(ahead, Ok(vec![(0xFFF0, 0x0AB7), (0xFFF2, 0x001C)]));
 }
 
+/// Lines that are unknown text.
+const UNKNOWN: [&str; 32] = [
+    "MOV #TAG,R0",
+    "MOV @#TAG,R0",
+    "TST TAG(R1)",
+    ".WORD TAG",
+    ".ORG TAG",
+    "SAVS TAG",
+    "SVCA TAG",
+    "JSR TAG,@R1",
+    "SOB TAG,00",
+    "BR @TAG",
+    "SOB R0,@TAG",
+    "TST ABCDEF",
+    "TST LABELED",
+    "TST TAG ,R0",
+    "A: NOP",
+    "FACADE:",
+    "SP:",
+    "PC: NOP",
+    "LABELED: NOP",
+    "TAGA:NOP",
+    "TAGA:  NOP",
+    " NOP",
+    "TAGA: TAGB: NOP",
+    "TAG1: NOP",
+    ": NOP",
+    "nop",
+    "NOP\t",
+    "NOP\0",
+    ".ORG 123",
+    ".WORD 12345",
+    ".ORG",
+    "NOP X",
+];
+
 #[test]
 fn labels_that_are_none() {
-    let bad = [
-        "MOV #TAG,R0",
-        "MOV @#TAG,R0",
-        "TST TAG(R1)",
-        ".WORD TAG",
-        ".ORG TAG",
-        "SAVS TAG",
-        "SVCA TAG",
-        "JSR TAG,@R1",
-        "SOB TAG,00",
-        "BR @TAG",
-        "SOB R0,@TAG",
-        "TST ABCDEF",
-        "TST LABELED",
-        "TST TAG ,R0",
-        "A: NOP",
-        "FACADE:",
-        "SP:",
-        "PC: NOP",
-        "LABELED: NOP",
-        "TAGA:NOP",
-        "TAGA:  NOP",
-        " NOP",
-        "TAGA: TAGB: NOP",
-        "TAG1: NOP",
-        ": NOP",
-        "nop",
-        "NOP\t",
-        "NOP\0",
-        ".ORG 123",
-        ".WORD 12345",
-        ".ORG",
-        "NOP X",
-    ];
-    for line in bad {
+    for line in UNKNOWN {
         assert_eq!(words(line), Err(Placed::new(24, 1)), "{line:?}");
     }
     // A mnemonic may be a label, a register with a digit is a register.
@@ -203,11 +195,11 @@ fn the_order_of_refusals() {
 #[test]
 fn lengths() {
     let call = |source: &[u8], length: usize| assemble(Level::ALL, source, &mut vec![0; length]);
-    let line = source(&[""]);
+    let line = source_of(&[""]);
     assert_eq!(call(b"x", 12_289), Err(Refusal(10).into()));
     assert_eq!(call(&line[1..], 12_290), Err(Refusal(36).into()));
     assert_eq!(call(&line.repeat(1_025), 12_290), Err(Refusal(36).into()));
     assert_eq!(call(&line.repeat(1_024), 12_290), Ok(2));
-    let full = source(&["MOV #0001,@#0002"]).repeat(1_024);
+    let full = source_of(&["MOV #0001,@#0002"]).repeat(1_024);
     assert_eq!(call(&full, 12_290), Ok(12_290));
 }

@@ -67,15 +67,19 @@ fn columns() {
     assert_eq!(read_text(ALL, b"", &mut short), Err(Refusal(10).into()));
 }
 
+fn check_beginnings(line: &str) {
+    for length in 0..line.len() {
+        let refused = read(&line.as_bytes()[..length]);
+        assert_eq!(refused, Err(Placed::new(32, length)), "{line}");
+    }
+}
+
 /// No text begins another.
 #[test]
 fn every_beginning_of_a_text_is_one() {
     for word in (0..=0xFFFF).step_by(7) {
         let (line, _) = text_of(ALL, &[word, 0x12AF, 0xB034]).unwrap();
-        for length in 0..line.len() {
-            let refused = read(&line.as_bytes()[..length]);
-            assert_eq!(refused, Err(Placed::new(32, length)), "{line}");
-        }
+        check_beginnings(&line);
         assert_eq!(
             read(format!("{line}!").as_bytes()),
             Err(Placed::new(31, line.len()))

@@ -40,6 +40,21 @@ fn line_end(t: &[u8], from: usize) -> usize
     i
 }
 
+// Where the text of a line ends that ends at a place: a CR directly before its newline is not of it.
+fn before_cr(t: &[u8], from: usize, end: usize) -> usize
+    requires { ⌜ (from ≤ end) × (end ≤ length (now t)) ⌝ }
+    ensures { λ r. ⌜ (from ≤ r) × (r ≤ end) ⌝ }
+{
+    if end < t.len() {
+        if from < end {
+            if t[end - 1] == b'\r' {
+                return end - 1;
+            }
+        }
+    }
+    end
+}
+
 // Puts a line in its place among the padded ones.
 fn put_line(source: &mut [u8], k: usize, line: &[u8])
     requires { ⌜ (k < 1025) × (length (now source) ≡ 32800) × (length (now line) ≤ 32) ⌝ }
@@ -66,13 +81,14 @@ fn pad(input: &[u8], source: &mut [u8]) -> Padded
             break;
         }
         let end = line_end(input, at);
-        if LINE < end - at {
+        let last = before_cr(input, at, end);
+        if LINE < last - at {
             return Padded {
                 lines: k,
                 long: true,
             };
         }
-        put_line(source, k, &input[at..end]);
+        put_line(source, k, &input[at..last]);
         k += 1;
         if input.len() <= end {
             break;
@@ -87,7 +103,7 @@ fn pad(input: &[u8], source: &mut [u8]) -> Padded
 
 fn say_why(why: u8) {
     if why == UNKNOWN_TEXT {
-        say(b"unknown text");
+        say(b"unknown text; a label is one to six capitals, no hex number, not SP or PC");
     } else if why == LABEL_AGAIN {
         say(b"its label is already given");
     } else if why == LABEL_MISSING {

@@ -14,7 +14,7 @@ use Rattle.letters.specs.Over.{Wrote, WroteAt}
 use Rattle.letters.specs.Laid.{then}
 use Rattle.patchline.specs.Joined.{then-at, none-at}
 use Rattle.assembler.specs.Source.{textAt, hereOf, wordsIn}
-use Rattle.assembler.specs.Section.{lowerOf, higherOf, inserted, entryOf, entered, placed, pair, bytesOf, flat, sectionOf, Inserts, Enters}
+use Rattle.assembler.specs.Section.{lowerOf, higherOf, inserted, entryOf, entered, placed, pair, bytesOf, flat, sectionOf, Inserts, Enters, flat-length}
 
 -- the loop of an insertion: the places before i are done, the carried entry goes into those from i on
 pub insert-none : (t : List ℕ) (n x : ℕ) → take 0 t ++ inserted x (drop 0 (take n t)) ≡ inserted x (take n t)
@@ -71,11 +71,6 @@ flat-append : (a b : List ℕ) → flat (a ++ b) ≡ flat a ++ flat b
 unfolding flat
 flat-append [] b = refl
 flat-append (e ∷ a) b = rw (flat-append a b) refl
-
-pub flat-length : (l : List ℕ) → length (flat l) ≡ 4 * length l
-unfolding flat
-flat-length [] = refl
-flat-length (e ∷ l) = let h = flat-length l in omega arith
 
 flat-one : (e : ℕ) → flat (e ∷ []) ≡ bytesOf e
 unfolding flat

@@ -2,11 +2,11 @@
 -- Assumes nothing.
 use mathlib.Core.Bool.{cond}
 use mathlib.Core.List.{List, [], _∷_}
-use Prim.Native.Nat.{ℕ, _+_, _*_, _/_, _%_}
+use Prim.Native.Nat.{ℕ, _%_}
 use lib.Dec.{ltb, eqb}
 use lib.ListN.{length}
 use Rattle.letters.specs.Over.{over}
-use Rattle.refusal.specs.Numbers.{unknownText, labelAgain, labelMissing, outOfReach, outOfPlace, sourceLines}
+use Rattle.refusal.specs.Numbers.{unknownText, labelAgain, labelMissing, outOfReach, outOfPlace, sourceLines, outputShort}
 use Rattle.assembler.specs.Source.{countOf, lowest}
 use Rattle.assembler.specs.Section.{placed, sectionOf}
 use Rattle.assembler.specs.declared.Assembled.{Assembled}
@@ -28,9 +28,6 @@ numberOf Far = outOfReach
 -- 10: an output under 12,290 bytes, which is a count and three words a line with their addresses
 abbrev pub longestSection : ℕ
 longestSection = 12290
-
-abbrev pub outputShort : ℕ
-outputShort = 10
 
 -- an answer in the page's numbers: the section's length, a refusal's number alone, or with its line
 pub data Page : Type 0 where

@@ -1,15 +1,20 @@
--- What an answer that is no refusal tells of the source.
+-- What an answer that is no refusal tells of the source; and a source in which no line is wrong is assembled.
 -- Assumes nothing.
-use mathlib.Core.Path.{_≡_, refl, sym}
+use mathlib.Core.Path.{_≡_, refl, ap, sym, _∙_}
 use mathlib.Core.Bool.{Bool, true, false, cond}
 use mathlib.Core.List.{List, [], _∷_}
+use mathlib.Core.Logic.{⊎-elim}
 use Prim.Native.Nat.{ℕ, _%_, _≤_, _<_}
 use native.Mathlib.Omega.{arith}
 use lib.Dec.{ltb, eqb}
-use borrow.Author.Tests.{ltb-false}
+use borrow.Author.Tests.{ltb-false, le-ltb}
 use lib.ListN.{length}
+use Rattle.letters.specs.Over.{over}
+use Rattle.optext.specs.First.{firstFrom}
+use Rattle.optext.specs.Choose.{lt-cases, first-hit}
 use Rattle.patchline.specs.Search.{first-none}
-use Rattle.assembler.specs.Source.{countOf, misplaced, fails, lowest}
+use Rattle.patchline.specs.Text.{labelOf}
+use Rattle.assembler.specs.Source.{countOf, lineAt, textAt, saidAt, hereOf, isUnknown, isGiven, lacks, misplaced, far, fails, lowest}
 use Rattle.assembler.specs.Answer.{section, refused, refusedAt, faults, After, after, assembled, checked, asmOf}
 use Rattle.assembler.specs.declared.source.Fault.{Fault}
 use Rattle.assembler.specs.declared.source.Fault.the-variants.{Text, Given, Missing, Place, Far}
@@ -73,3 +78,34 @@ module _ (s out : List ℕ) (n : ℕ) where
       let f = passed Place _ (d .1) in
       let g = passed Far _ (f .1) in
       record { few = a .0; in-place = each (f .0); size = finished (g .1) }
+
+-- ---- the other way round
+
+-- a line with none of the five faults
+pub record Right (s : List ℕ) (i : ℕ) : Type 0 where
+  pub known : isUnknown (saidAt s i .how) ≡ false
+  pub new : isGiven s i (labelOf (lineAt s i)) ≡ false
+  pub found : lacks s (textAt s i) ≡ false
+  pub in-place : misplaced s i ≡ false
+  pub near : far s (hereOf s i) (textAt s i) ≡ false
+
+pub no-first : (f : ℕ → Bool) (n : ℕ) → ((k : ℕ) → k < n → f k ≡ false) → ltb (firstFrom f n 0) n ≡ false
+no-first f n h = ⊎-elim (λ l. absurd (differ (sym (first-hit f n 0 (omega (arith, l))) ∙ h (firstFrom f n 0) l))) (λ l. le-ltb (firstFrom f n 0) n l) (lt-cases (firstFrom f n 0) n)
+  where
+    differ : true ≡ false → ⊥
+    differ e = let z : _≡_ {A = ℕ} 0 1 = ap (λ (b : Bool). cond b 0 1) e in omega arith
+
+pub nothing-wrong : (s out : List ℕ) → 12290 ≤ length out → length s % 32 ≡ 0 → countOf s ≤ 1024 → ((i : ℕ) → i < countOf s → Right s i)
+    → asmOf s out ≡ after (section (length (assembled s))) (over (assembled s) out)
+unfolding asmOf faults checked lowest
+nothing-wrong s out l w c r =
+    rw (
+      le-ltb (length out) 12290 l,
+      w,
+      le-ltb 1024 (countOf s) c,
+      no-first (fails Text s) (countOf s) (λ i h. r i h .known),
+      no-first (fails Given s) (countOf s) (λ i h. r i h .new),
+      no-first (fails Missing s) (countOf s) (λ i h. r i h .found),
+      no-first (fails Place s) (countOf s) (λ i h. r i h .in-place),
+      no-first (fails Far s) (countOf s) (λ i h. r i h .near),
+    ) refl

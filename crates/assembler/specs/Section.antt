@@ -1,14 +1,15 @@
 -- The words of a source by their addresses, and the word section that they make.
 -- Assumes nothing.
-use mathlib.Core.Bool.{Bool, true, false, cond}
+use mathlib.Core.Bool.{cond}
 use mathlib.Core.List.{List, [], _∷_, _++_}
 use Prim.Native.Nat.{ℕ, zero, suc, _+_, _*_, _/_, _%_, _≤_}
 use lib.Dec.{ltb}
-use mathlib.Core.Path.{_≡_}
+use mathlib.Core.Path.{_≡_, refl}
+use native.Mathlib.Omega.{arith}
 use lib.ListN.{length, take}
 use Rattle.word.specs.Address.{plus}
 use Rattle.optext.specs.declared.Op.{Op}
-use Rattle.assembler.specs.Source.{countOf, textAt, hereOf, wordsIn}
+use Rattle.assembler.specs.Source.{textAt, hereOf, wordsIn}
 
 -- an entry is a number, the address before the sixteen bits of the word
 abbrev pub entryOf : ℕ → ℕ → ℕ
@@ -48,6 +49,12 @@ bytesOf e = e / 65536 % 256 ∷ e / 16777216 % 256 ∷ e % 256 ∷ e / 256 % 256
 unfoldable pub flat : List ℕ → List ℕ
 flat [] = []
 flat (e ∷ l) = bytesOf e ++ flat l
+
+-- four bytes an entry
+pub flat-length : (l : List ℕ) → length (flat l) ≡ 4 * length l
+unfolding flat
+flat-length [] = refl
+flat-length (e ∷ l) = let h = flat-length l in omega arith
 
 unfoldable pub sectionOf : List ℕ → List ℕ
 sectionOf l = pair (length l) ++ flat l

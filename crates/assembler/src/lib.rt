@@ -9,6 +9,7 @@ use refusal::number::LABEL_AGAIN;
 use refusal::number::LABEL_MISSING;
 use refusal::number::OUT_OF_PLACE;
 use refusal::number::OUT_OF_REACH;
+use refusal::number::OUTPUT_SHORT;
 use refusal::number::SOURCE_LINES;
 use refusal::number::UNKNOWN_TEXT;
 
@@ -19,9 +20,6 @@ mod source;
 const MOST_LINES: usize = 1024;
 
 const LONGEST_SECTION: usize = 12290;
-
-// 10: the output has no room for the longest section.
-const OUTPUT_SHORT: u8 = 10;
 
 // What the assembler answers: the length of the section, or why the source is refused.
 pub enum Assembled {

@@ -1,19 +1,14 @@
 -- From the code's facts to what the exported call leaves.
 use Prim.Native.Nat.{ℕ}
-use mathlib.Core.List.{List, [], _∷_, _++_, append-nil}
+use mathlib.Core.List.{List}
 use mathlib.Core.Path.{_≡_, refl, ap, sym, _∙_}
-use lib.ListN.{length, take, drop}
-use lib.Seq.{take-length, drop-length}
+use lib.ListN.{length}
 use borrow.Author.Tests.{eq-eqb, ne-eqb}
 use Rattle.refusal.specs.Numbers.{noState}
 use Rattle.assembler.specs.declared.Assembled.{Assembled}
 use Rattle.assembler.specs.declared.Assembled.the-variants.{Section, Refused, RefusedAt}
 use Rattle.assembler.specs.Answer.{pageOf, after, asmOf}
 use Rattle.assembler_c.specs.Call.{answerBytes, Went, went, assembleCall}
-
--- a buffer that is as long as what is copied into it is what was copied
-pub copied : (from b b′ : List ℕ) → length b ≡ length from → b′ ≡ take (length from) from ++ drop (length from) b → b′ ≡ from
-copied from b b′ l e = e ∙ rw (take-length from, ← l, drop-length b, append-nil)
 
 module _ (s out b : List ℕ) where
   pub bad : (length b ≡ 6 → ⊥) → went noState out b ≡ assembleCall s out b

@@ -6,7 +6,7 @@ use lib.Dec.{eqb}
 use lib.ListN.{length}
 use Rattle.words.specs.Words.{bytesIn}
 use Rattle.refusal.specs.Numbers.{noState}
-use Rattle.assembler.specs.Answer.{Page, section, refused, refusedAt, After, asmOf}
+use Rattle.assembler.specs.Answer.{Page, section, refused, refusedAt, asmOf}
 
 -- 6 bytes: the section's length, 0, the line of a refusal
 unfoldable pub answerBytes : ℕ → ℕ → List ℕ

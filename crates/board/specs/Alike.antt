@@ -1,10 +1,10 @@
 -- Two memories that agree on fitted bytes: the same work comes to the same.
-use Prim.Native.Nat.{ℕ, zero, suc, _+_, _-_, _*_, _/_, _%_, _<_, _≤_}
+use Prim.Native.Nat.{ℕ, zero, suc, _+_, _-_, _/_, _%_, _<_}
 use native.Mathlib.Omega.{arith}
 use native.Mathlib.Decide.{ℕ-discrete, decLt}
 use mathlib.Core.Path.{_≡_, refl, sym, ap, _∙_, subst}
 use mathlib.Core.Bool.{Bool, true, false, not}
-use mathlib.Core.List.{List, [], _∷_}
+use mathlib.Core.List.{List}
 use lib.ListN.{getD, set, length, length-set}
 use lib.Seq.{getD-set-same, getD-set-other, set-out}
 use lib.Dec.{eqb}
@@ -38,7 +38,7 @@ word-same map m n a g h =
     let hi : getD m (even a + 1) 0 ≡ getD n (even a + 1) 0 = g (even a + 1) (fitted-odd map a ∙ h) in
     cc
 
-set-agree : (map m n : List ℕ) (i v : ℕ) → length m ≡ length n → Agree map m n → Agree map (set m i v) (set n i v)
+pub set-agree : (map m n : List ℕ) (i v : ℕ) → length m ≡ length n → Agree map m n → Agree map (set m i v) (set n i v)
 set-agree map m n i v l g a h = elim (ℕ-discrete a i) [ yes e ↦ here e (decLt i (length m)) | no d ↦ getD-set-other m i a v 0 d ∙ g a h ∙ sym (getD-set-other n i a v 0 d) ]
   where
     here : a ≡ i → Dec (i < length m) → getD (set m i v) a 0 ≡ getD (set n i v) a 0

@@ -1,14 +1,14 @@
 -- Work that writes at most n times, with room for n entries in the log, comes to what it comes to on the image alone.
-use Prim.Native.Nat.{ℕ, zero, suc, _+_, _-_, _*_, _/_, _%_, _<_, _≤_}
+use Prim.Native.Nat.{ℕ, zero, suc, _+_, _-_, _<_, _≤_}
 use native.Mathlib.Omega.{arith}
 use mathlib.Core.Bool.{Bool, true, false}
 use mathlib.Core.List.{List, [], _∷_}
-use mathlib.Core.Path.{_≡_, refl, sym, ap, _∙_}
-use lib.ListN.{length, getD}
+use mathlib.Core.Path.{_≡_, refl}
+use lib.ListN.{getD}
 use borrow.Author.Tests.{lt-ltb}
-use Rattle.board.specs.Work.{Work, give, readAt, writeAt, Size, word, byte, fitted, writable, get, put, wordAt, Came, value, blank, found, run}
+use Rattle.board.specs.Work.{Work, give, readAt, writeAt, Size, fitted, writable, get, wordAt, Came, value, blank, found, run}
 use Rattle.board.specs.Bind.{_>>=_}
-use Rattle.board.specs.Exec.{Store, beside, Now, good, gone, stateOf, count, room, note, noted, allowed, exec, Lent, Board}
+use Rattle.board.specs.Exec.{Store, Now, good, gone, count, room, noted, allowed, exec, Board}
 use Rattle.board.specs.Laws.{board-noted, count-note}
 
 pub data Bounded {A : Type 0} : ℕ → Work A → Type 0 where

@@ -1,10 +1,10 @@
 -- Work from an empty log: what it came to on the image alone, and what taking it back gives.
-use Prim.Native.Nat.{ℕ, _+_, _≤_}
+use Prim.Native.Nat.{ℕ}
 use native.Mathlib.Omega.{arith}
 use mathlib.Core.List.{List}
-use mathlib.Core.Path.{_≡_, refl, sym, ap, _∙_}
-use Rattle.board.specs.Work.{Work, Came, value, blank, run}
-use Rattle.board.specs.Exec.{Store, beside, Now, good, gone, stateOf, count, exec, Board, Got}
+use mathlib.Core.Path.{_≡_, sym, ap, _∙_}
+use Rattle.board.specs.Work.{Work, value, blank, run}
+use Rattle.board.specs.Exec.{Store, Now, good, gone, stateOf, count, exec, Board, Got}
 use Rattle.board.specs.Undo.{undone, undo, undone-none}
 use Rattle.board.specs.Bounded.{Bounded, shown, exec-is-run}
 

@@ -1,5 +1,5 @@
 -- How what was got adds up.
-use Prim.Native.Nat.{ℕ, zero, suc, _+_, _*_, _/_, _%_, _<_, _≤_}
+use Prim.Native.Nat.{ℕ, _+_, _*_, _/_, _%_, _<_}
 use native.Mathlib.Omega.{arith}
 use native.Mathlib.Decide.{ℕ-discrete, decLt}
 use mathlib.Core.Bool.{Bool, true, false}
@@ -11,7 +11,7 @@ use borrow.Author.Tests.{ltb-true}
 use Rattle.board.specs.Work.{Work, give, readAt, writeAt, Size, word, byte, fitted, writable, even, wordAt, withWord, withByte, get, put}
 use Rattle.board.specs.Work as Work
 use Rattle.board.specs.Bind.{_>>=_}
-use Rattle.board.specs.Exec.{and, Store, beside, Now, good, gone, stateOf, count, room, note, noted, allowed, exec, Lent, Board, Got, Saw, Did, wordAs, byteAs, keptAs}
+use Rattle.board.specs.Exec.{and, Store, Now, good, gone, stateOf, count, room, note, noted, allowed, exec, Board, Got, Did, wordAs, byteAs, keptAs}
 use Rattle.board.specs.declared.Word.{Word}
 use Rattle.board.specs.declared.Word.the-variants.{Value, Blank}
 use Rattle.board.specs.declared.Byte.{Byte}

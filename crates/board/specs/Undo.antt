@@ -4,14 +4,15 @@ use native.Mathlib.Omega.{arith}
 use native.Mathlib.Numerals.{add-one}
 use native.Mathlib.Decide.{ℕ-discrete}
 use mathlib.Core.Bool.{Bool, true, false}
-use mathlib.Core.List.{List, [], _∷_}
+use mathlib.Core.List.{List}
 use mathlib.Core.Logic.{_≢_}
 use mathlib.Core.Path.{_≡_, refl, sym, ap, _∙_}
 use lib.ListN.{getD, set, length, length-set}
 use lib.Seq.{getD-set-same, getD-set-other, set-getD, set-set, set-comm}
+use Rattle.words.specs.Laws.{low-of}
 use Rattle.board.specs.Work.{Work, give, readAt, writeAt, Size, word, byte, fitted, writable, even, wordAt, withWord, withByte, get, put}
-use Rattle.board.specs.Exec.{Store, beside, Now, good, gone, stateOf, count, room, note, noted, allowed, exec, Lent, Board}
-use Rattle.board.specs.Laws.{board-noted, count-note, room-few, size-note, size-put, bytes-put}
+use Rattle.board.specs.Exec.{Store, beside, Now, stateOf, count, room, note, noted, allowed, exec, Lent, Board}
+use Rattle.board.specs.Laws.{board-noted, count-note, room-few, size-put, bytes-put}
 
 -- the last n entries of the log, put back, the newest first
 unfoldable pub back : ℕ → List ℕ → List ℕ → List ℕ
@@ -22,9 +23,6 @@ unfoldable pub undone : Store → List ℕ
 undone st = back (count (st .log)) (st .log) (st .image)
 
 -- ---- one word put back
-
-low-of : (x y : ℕ) → x < 256 → (x + y * 256) % 256 ≡ x
-low-of x y h = omega arith
 
 high-of : (x y : ℕ) → x < 256 → y < 256 → (x + y * 256) / 256 % 256 ≡ y
 high-of x y h k = omega arith

@@ -1,6 +1,6 @@
 -- What becomes of a step that reaches a blank: from the definitions to the pages.
 use Prim.Native.Nat.{ℕ}
-use mathlib.Core.Bool.{Bool, true}
+use mathlib.Core.Bool.{true}
 use mathlib.Core.List.{List}
 use mathlib.Core.Path.{_≡_, refl, sym, ap, _∙_}
 use Rattle.board.specs.Work.{Came, value, blank, run}
@@ -14,7 +14,7 @@ use Rattle.step.specs.Step.{After, after, stepOf, kindOf, errorOf, busError, ca
 use Rattle.step.specs.Causes.{blank-error, blank-counted}
 use Rattle.step.specs.Told.{tells}
 use Rattle.refusal.specs.Page.{answered, answered-one}
-use Rattle.machine.specs.Numbers.{statePage, toldOf, address, TurnPage}
+use Rattle.machine.specs.Numbers.{statePage, toldOf, TurnPage}
 use Rattle.machine.specs.Entry.{left, turned}
 use Rattle.demands.specs.Terms.{cameAt, errorCauseAt, Blanked}
 use Rattle.demands.specs.Terms as Terms

@@ -3,9 +3,6 @@ use Prim.Native.Nat.{ℕ, zero, suc}
 use mathlib.Core.Bool.{Bool, true, false, cond}
 use mathlib.Core.List.{List}
 use mathlib.Core.Path.{_≡_, refl, ap, _∙_}
-use native.Mathlib.Omega.{arith}
-use lib.Dec.{eqb}
-use lib.ListN.{length}
 use Rattle.board.specs.Alike.{Agree}
 use Rattle.step.specs.Alike.{Untouched}
 use Rattle.refusal.specs.Numbers.{noState}

@@ -2,8 +2,8 @@
 -- Whatever calls answer and leave, as their contracts promise.
 use Prim.Native.Nat.{ℕ}
 use mathlib.Core.Bool.{false}
-use mathlib.Core.List.{List}
-use mathlib.Core.Path.{_≡_, sym, ap, _∙_}
+use mathlib.Core.List.{List, []}
+use mathlib.Core.Path.{_≡_, refl, sym, ap, _∙_}
 use lib.ListN.{length}
 use Rattle.board.specs.Work.{blank, value}
 use Rattle.board.specs.Alike.{Agree}
@@ -13,7 +13,7 @@ use Rattle.state.specs.State.{heard}
 use Rattle.step.specs.Step.{stepOf, causeNumber, isBlank}
 use Rattle.step.specs.Causes.{value-no-blank}
 use Rattle.step.specs.Told.{accesses, StopsAt, stops}
-use Rattle.refusal.specs.Page.{answered, answered-one}
+use Rattle.refusal.specs.Page.{refused, answered, answered-one}
 use Rattle.machine.specs.declared.Powered.{Powered}
 use Rattle.machine.specs.declared.Stepped.{Stepped}
 use Rattle.machine.specs.declared.Finished.{Finished}
@@ -21,11 +21,21 @@ use Rattle.machine.specs.Numbers.{TurnPage, RanPage}
 use Rattle.machine.specs.Entry.{poweredPage, powerUpPage, left, steppedPage, stepPage, finishedPage, runPage}
 use Rattle.machine.specs.Back.{powered-one, stepped-one, finished-one}
 use Rattle.machine.specs.Blind.{Blind, blind, power-same, power-kept, step-same, step-kept, run-same, run-kept}
-use Rattle.machine.specs.Trail.{trailOf, blanksIn, firstIn, Least}
+use Rattle.machine.specs.Trail.{trailOf, blanksIn, Least}
 use Rattle.machine.specs.Counted.{first-least}
 use Rattle.machine.specs.Answered.{step-answer, run-answer}
 use Rattle.firmware.specs.Layout.{stateFrom, settingsFrom, refusedUp, refusedStep, refusedRun}
 use Rattle.firmware.specs.Calls.{upBytes, stepBytes, powerUpCall, went, stepCall, ended, runCall}
+use Rattle.listing.specs.declared.Listed.{Listed}
+use Rattle.listing.specs.Calls.{listedPage, lineCall, one-listed}
+use Rattle.listing.specs.Calls as Listing
+use Rattle.listing.specs.Alike.{call-alike}
+use Rattle.trace.specs.declared.Checked.{Checked}
+use Rattle.trace.specs.declared.Made.{Made}
+use Rattle.trace.specs.Trace.{checkedPage, whyCheck, checkOf, madePage, whyMake, put, makeOf}
+use Rattle.trace.specs.Trace as Trace
+use Rattle.trace.specs.Right.{one-check, one-make}
+use Rattle.demands.specs.Pages.{same-unless}
 use Rattle.demands.specs.Terms.{workAt, cameAt, Blanked}
 use Rattle.demands.specs.Calls.{went-blind, ended-blind}
 use Rattle.demands.specs.Blanks.{blanked, cause-is}
@@ -67,6 +77,34 @@ module _ (w map m n : List ℕ) (l : length m ≡ length n) (g : Agree map m n) 
   wd16-run-blind b t lines k j b₁ b₂ t₁ t₂ m′ n′ e d =
       rw (ap (λ z. z .number) e, ap (λ z. z .state) e, ap (λ z. z .tally) e, ap (λ z. z .image) e, ap (λ z. z .number) d, ap (λ z. z .state) d, ap (λ z. z .tally) d, ap (λ z. z .image) d)
       (ended-blind map m n g (refusedRun b t w) b t (runPage (settingsFrom w) m map lines (stateFrom b)) (runPage (settingsFrom w) n map lines (stateFrom b)) (run-same (settingsFrom w) map lines (stateFrom b) m n l g) (run-kept (settingsFrom w) map lines (stateFrom b) m) (run-kept (settingsFrom w) map lines (stateFrom b) n))
+
+-- a line of a listing: the same answer, and the same text
+pub list-line-blind : (map m n : List ℕ) → length m ≡ length n → Agree map m n → (a last : ℕ) (text : List ℕ) (r q : Listed) (text₁ text₂ : List ℕ)
+    → Listing.left (listedPage r) text₁ ≡ lineCall m map a last text → Listing.left (listedPage q) text₂ ≡ lineCall n map a last text → (r ≡ q) × (text₁ ≡ text₂)
+list-line-blind map m n l g a last text r q text₁ text₂ e d = one-listed n map a last text text₁ text₂ r q (e ∙ call-alike map m n g last l a text) d
+
+-- ---- A TRACE IS OF A JOB, which fills the lent image, the map and the line words from its own bytes: whatever stands in them before,
+-- the answer is the same, and where nothing is refused, so is what is left in them
+
+module _ (input i₁ i₂ m₁ m₂ l₁ l₂ : List ℕ) (hi : length i₁ ≡ length i₂) (hm : length m₁ ≡ length m₂) (hl : length l₁ ≡ length l₂) where
+  pub check-blind : (t : List ℕ) (r q : Checked) (i₁′ m₁′ l₁′ i₂′ m₂′ l₂′ : List ℕ)
+      → Trace.left (checkedPage r) i₁′ m₁′ l₁′ ≡ checkOf input t i₁ m₁ l₁ → Trace.left (checkedPage q) i₂′ m₂′ l₂′ ≡ checkOf input t i₂ m₂ l₂
+      → (r ≡ q) × (whyCheck input t (length i₁) (length m₁) (length l₁) ≡ 0 → (i₁′ ≡ i₂′) × (m₁′ ≡ m₂′) × (l₁′ ≡ l₂′))
+  unfolding checkOf
+  check-blind t r q i₁′ m₁′ l₁′ i₂′ m₂′ l₂′ e d =
+      let why = whyCheck input t (length i₁) (length m₁) (length l₁) in
+      let h = same-unless (λ z. z .page) why _ (Trace.left (refused why) i₁ m₁ l₁) (Trace.left (refused why) i₂ m₂ l₂) refl e (rw (← hi, ← hm, ← hl) at d) in
+      (one-check r q [] [] [] [] [] [] (ap (λ z. Trace.left z [] [] []) (h .0)) .0, λ z. (ap (λ z. z .image) (h .1 z), ap (λ z. z .map) (h .1 z), ap (λ z. z .lines) (h .1 z)))
+
+  pub make-blind : (out : List ℕ) (r q : Made) (out₁ out₂ i₁′ m₁′ l₁′ i₂′ m₂′ l₂′ : List ℕ)
+      → put out₁ (Trace.left (madePage r) i₁′ m₁′ l₁′) ≡ makeOf input out i₁ m₁ l₁ → put out₂ (Trace.left (madePage q) i₂′ m₂′ l₂′) ≡ makeOf input out i₂ m₂ l₂
+      → (r ≡ q) × (out₁ ≡ out₂) × (whyMake input (length out) (length i₁) (length m₁) (length l₁) ≡ 0 → (i₁′ ≡ i₂′) × (m₁′ ≡ m₂′) × (l₁′ ≡ l₂′))
+  unfolding makeOf
+  make-blind out r q out₁ out₂ i₁′ m₁′ l₁′ i₂′ m₂′ l₂′ e d =
+      let why = whyMake input (length out) (length i₁) (length m₁) (length l₁) in
+      let h = same-unless (λ z. put (z .bytes) (Trace.left (z .rest .page) [] [] [])) why _ (put out (Trace.left (refused why) i₁ m₁ l₁)) (put out (Trace.left (refused why) i₂ m₂ l₂)) refl e (rw (← hi, ← hm, ← hl) at d) in
+      let one = one-make r q out₁ [] [] [] out₂ [] [] [] (h .0) in
+      (one .0, one .1, λ z. (ap (λ z. z .rest .image) (h .1 z), ap (λ z. z .rest .map) (h .1 z), ap (λ z. z .rest .lines) (h .1 z)))
 
 -- ---- A STEP WHOSE WORK REACHES A BLANK, where nothing is fitted or a read-only page was to be written, is a bus error, told by its
 -- cause, or ends locked, and it tells the first such address that it reached; one whose work reaches none is no blank

@@ -1,6 +1,5 @@
--- Demand 1 for the calls that answer by cases: from the pages' definitions.
+-- Demands 1 and 3 for the calls that answer by cases: from the pages' definitions.
 use Prim.Native.Nat.{ℕ, zero, suc}
-use mathlib.Core.List.{List}
 use mathlib.Core.Path.{_≡_, refl, sym, ap, _∙_}
 use native.Mathlib.Omega.{arith}
 use Rattle.refusal.specs.Page.{Page, refused, answered, unless, apart}
@@ -25,6 +24,11 @@ answers page (suc why) taken lent a h k f e = record {
 pub lent-where-refused : {B : Type 0} (why : ℕ) (taken lent : B) {y : B} → y ≡ unless why taken lent → (why ≡ 0 → ⊥) → y ≡ lent
 lent-where-refused zero taken lent e n = absurd (n refl)
 lent-where-refused (suc why) taken lent e n = e
+
+-- two calls that differ in nothing where nothing is refused, nor else in what f reads
+pub same-unless : {B C : Type 0} (f : B → C) (why : ℕ) (taken lent more : B) {y z : B} → f lent ≡ f more → y ≡ unless why taken lent → z ≡ unless why taken more → (f y ≡ f z) × (why ≡ 0 → y ≡ z)
+same-unless f zero taken lent more h e d = (ap f (e ∙ sym d), λ n. e ∙ sym d)
+same-unless f (suc why) taken lent more h e d = (ap f e ∙ h ∙ sym (ap f d), λ n. absurd (omega (arith, n)))
 
 -- what a run's end answers
 pub endAnswer : End → RanPage

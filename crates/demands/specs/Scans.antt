@@ -7,9 +7,7 @@ use native.Mathlib.Omega.{arith}
 use lib.ListN.{length}
 use lib.Dec.{ltb}
 use Rattle.board.specs.Alike.{Agree}
-use Rattle.state.specs.declared.State.{State}
 use Rattle.state.specs.declared.Settings.{Settings}
-use Rattle.state.specs.State.{cleared}
 use Rattle.step.specs.Alike.{Untouched}
 use Rattle.words.specs.Words.{byteAt}
 use Rattle.refusal.specs.Numbers.{noState, noChannel}
@@ -74,10 +72,10 @@ module _ (b t m d : List ℕ) where
   scan-numbered true r cs why y x e = as-lent noState x e
   scan-numbered false r cs why y x e = scan-page r cs why y x e
 
-pub wd16-scan-answers : (b t m map lines w cards readings d : List ℕ) (number : ℕ) (b′ t′ m′ d′ : List ℕ) → scanned number b′ t′ m′ d′ ≡ scanCall b t m map lines w cards readings d
+pub wd16-scan-answers : (b t m map w lines cards readings d : List ℕ) (number : ℕ) (b′ t′ m′ d′ : List ℕ) → scanned number b′ t′ m′ d′ ≡ scanCall b t m map w lines cards readings d
     → Numbered (first (cond (refusedScan b t w cards readings d) noState 0) (scanWhy (recorderFrom (stateFrom b) d) (channelsFrom cards readings) m map (settingsFrom w) lines)) number ((b′ ≡ b) × (t′ ≡ t) × (m′ ≡ m) × (d′ ≡ d))
 unfolding scanCall scanOf scanDone
-wd16-scan-answers b t m map lines w cards readings d number b′ t′ m′ d′ e =
+wd16-scan-answers b t m map w lines cards readings d number b′ t′ m′ d′ e =
     let r = recorderFrom (stateFrom b) d in
     let cs = channelsFrom cards readings in
     scan-numbered b t m d (refusedScan b t w cards readings d) r cs (scanWhy r cs m map (settingsFrom w) lines) (scanRun r cs m map (settingsFrom w) lines) (scanned number b′ t′ m′ d′) e
@@ -112,7 +110,7 @@ module _ (map m n b t d : List ℕ) (g : Agree map m n) where
   calls-blind false x y same i j = on-same (x .recorder) (y .recorder) (x .page) (y .page) (x .image) (y .image) (same refl .recorder) (same refl .page) (same refl .agree) (i refl) (j refl)
 
 module _ (w cards readings map lines m n : List ℕ) (l : length m ≡ length n) (g : Agree (scanMap (channelsFrom cards readings) map) m n) where
-  pub wd16-scan-blind : (b t d : List ℕ) (k j : ℕ) (b₁ b₂ t₁ t₂ d₁ d₂ m′ n′ : List ℕ) → scanned k b₁ t₁ m′ d₁ ≡ scanCall b t m map lines w cards readings d → scanned j b₂ t₂ n′ d₂ ≡ scanCall b t n map lines w cards readings d
+  pub wd16-scan-blind : (b t d : List ℕ) (k j : ℕ) (b₁ b₂ t₁ t₂ d₁ d₂ m′ n′ : List ℕ) → scanned k b₁ t₁ m′ d₁ ≡ scanCall b t m map w lines cards readings d → scanned j b₂ t₂ n′ d₂ ≡ scanCall b t n map w lines cards readings d
       → Blind {A = ℕ × List ℕ × List ℕ × List ℕ} (scanMap (channelsFrom cards readings) map) m n (k, b₁, t₁, d₁) (j, b₂, t₂, d₂) m′ n′
   unfolding scanCall
   wd16-scan-blind b t d k j b₁ b₂ t₁ t₂ d₁ d₂ m′ n′ e f =

@@ -1,8 +1,11 @@
 -- The terms in which the demands are stated.
 use Prim.Native.Nat.{ℕ}
-use mathlib.Core.Bool.{true}
-use mathlib.Core.List.{List}
+use mathlib.Core.Bool.{Bool, true, false, _&&_, _||_, cond}
+use mathlib.Core.List.{List, [], _∷_}
 use mathlib.Core.Path.{_≡_}
+use lib.Dec.{eqb, leb, ltb}
+use lib.ListN.{length, getD}
+use Rattle.words.specs.Words.{bytesIn}
 use Rattle.board.specs.Work.{Work, Came, run}
 use Rattle.state.specs.declared.State.{State}
 use Rattle.state.specs.declared.Settings.{Settings}
@@ -11,7 +14,13 @@ use Rattle.state.specs.State.{heard, withMode}
 use Rattle.step.specs.declared.Cause.{Cause}
 use Rattle.step.specs.declared.Cause.the-variants.{LockedAt}
 use Rattle.step.specs.Step.{kindOf, workOf, errorCauseOf, causeNumber, isBlank}
-use Rattle.refusal.specs.Page.{Page, refused}
+use Rattle.refusal.specs.Numbers.{textShort, outputShort}
+use Rattle.refusal.specs.Page.{Page, refused, answered, first}
+use Rattle.optext.specs.Answer.{Answer, found, refusal, refusalAt}
+use Rattle.optext.specs.Line.{taken}
+use Rattle.optext.specs.Column.{IsText, Column, Why}
+use Rattle.assembler.specs.Answer.{section, refusedAt}
+use Rattle.assembler.specs.Answer as Patch
 use Rattle.machine.specs.Numbers.{statePage, address, TurnPage}
 
 -- ---- demand 1. `why` is the number of the first refusal that applies, 0 where there is none; `AsLent` says that every buffer
@@ -26,6 +35,49 @@ pub record Answers {A : Type 0} (why : ℕ) (page : Page A) (AsLent : Type 0) : 
 pub record Numbered (why number : ℕ) (AsLent : Type 0) : Type 0 where
   pub numberIs : number ≡ why
   pub unchanged : (number ≡ 0 → ⊥) → AsLent
+
+-- the answer's bytes of a refused call for C: as lent; or, where its number tells a place, a line or a column, 0, 0 and that place
+pub data OrPlace (tells : Bool) (IsPlace : ℕ → Type 0) (b b′ : List ℕ) : Type 0 where
+  asLent : tells ≡ false → b′ ≡ b → OrPlace tells IsPlace b b′
+  placeAlone : tells ≡ true → (place : ℕ) → IsPlace place → b′ ≡ bytesIn (0 ∷ 0 ∷ place ∷ []) → OrPlace tells IsPlace b b′
+
+-- the text of an op code: an answer's number, 0 where it is no refusal
+abbrev pub numberOf : Answer → ℕ
+numberOf (found vs) = 0
+numberOf (refusal n) = n
+numberOf (refusalAt n c) = n
+
+-- 8: the text's buffer is under 32; 6: no words; 7: a needed next word is missing
+abbrev pub writeWhy : List ℕ → List ℕ → ℕ
+writeWhy ws b =
+    first (cond (ltb (length b) 32) textShort 0)
+    (first (cond (ltb (length ws) 1) 6 0)
+    (cond (ltb (length ws) (taken (getD ws 0 0))) 7 0))
+
+-- 10: the words' buffer is under 3
+abbrev pub roomWhy : List ℕ → ℕ
+roomWhy ws = cond (ltb (length ws) 3) outputShort 0
+
+-- the number of a text by itself: 0 where it is an op code's; else 32, 31, 9 or 30, by where it goes wrong
+pub data TextWhy (t : List ℕ) (n : ℕ) : Type 0 where
+  isText : n ≡ 0 → IsText t → TextWhy t n
+  noText : (c : ℕ) → (IsText t → ⊥) → Column t c → Why t c n → TextWhy t n
+
+-- a text that is read: `lentWhy` is the first refusal of what is lent, and where there is none, the text's own number counts
+pub record Reading (lentWhy : ℕ) (t : List ℕ) (number : ℕ) (AsLent : Type 0) : Type 0 where
+  pub own : ℕ
+  pub ofText : lentWhy ≡ 0 → TextWhy t own
+  pub answers : Numbered (first lentWhy own) number AsLent
+
+-- 9, and 30 to 32 tell a column
+abbrev pub tellsColumn : ℕ → Bool
+tellsColumn n = eqb n 9 || (leb 30 n && leb n 32)
+
+-- the assembler's answer: the section's length, or a refusal's number without its line
+abbrev pub lineless : Patch.Page → Page ℕ
+lineless (section n) = answered n
+lineless (Patch.refused why) = refused why
+lineless (refusedAt why line) = refused why
 
 -- ---- demand 3
 

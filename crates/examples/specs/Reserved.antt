@@ -1,9 +1,9 @@
 -- RESERVED AND ILLEGAL ARE ONE RULE: the op codes whose own trap ends an XCT are those of format 8 where their microm is not fitted, and those that the text has no name for.
-use Prim.Native.Nat.{ℕ, zero, suc, _/_, _%_, _<_}
+use Prim.Native.Nat.{ℕ, zero, suc, _/_, _<_}
 use native.Mathlib.Omega.{arith}
 use mathlib.Core.Bool.{Bool, true, false, not, cond}
 use mathlib.Core.Logic.{_⊎_, ⊎-elim, inl, inr}
-use mathlib.Core.Path.{_≡_, refl, ap, sym, subst}
+use mathlib.Core.Path.{_≡_, refl, sym, subst}
 use lib.Dec.{T, eqb, leb}
 use borrow.Author.Tests.{eqb-true, eqb-false}
 use Rattle.plate.specs.Plate.{formatOf}

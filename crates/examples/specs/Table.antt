@@ -3,8 +3,7 @@ use Prim.Native.Nat.{ℕ, _+_, _*_}
 use mathlib.Core.Bool.{Bool, true, false}
 use mathlib.Core.List.{List, [], _∷_, _++_, map}
 use mathlib.Core.Path.{_≡_, refl}
-use lib.ListN.{replicate, getD}
-use Rattle.word.specs.declared.Flags.{Flags}
+use lib.ListN.{replicate}
 use Rattle.word.specs.Number.{digit}
 use Rattle.shift.specs.Shift.{turns}
 use Rattle.word.specs.Status.{flagsOf}
@@ -13,7 +12,6 @@ use Rattle.board.specs.Work.{run, fitted, writable, even, wordAt, withWord, wit
 use Rattle.board.specs.Bind.{_>>=_}
 use Rattle.state.specs.declared.State.{State}
 use Rattle.state.specs.declared.Settings.{Settings}
-use Rattle.state.specs.declared.Mode.the-variants.{Running}
 use Rattle.state.specs.Registers.{regOf, setReg}
 use Rattle.state.specs.State.{reg, withReg, withPc, withSp, withFlags, withI2, withMode, withMark, withStatus, cleared, heard, psOf}
 use Rattle.state.specs.Stack.{push, pushReg, pop, popReg, popStatus, fetch, fromLoc, pushBoth, trap}

@@ -1,9 +1,8 @@
 -- From the code's facts to what the exported calls leave.
-use Prim.Native.Nat.{ℕ, _≤_}
-use mathlib.Core.Bool.{Bool, true, false, _||_, true≢false}
-use mathlib.Core.List.{List, [], _∷_, _++_, append-nil}
-use mathlib.Core.Path.{_≡_, refl, sym, ap, _∙_}
-use native.Mathlib.Omega.{arith}
+use Prim.Native.Nat.{ℕ}
+use mathlib.Core.Bool.{true, false}
+use mathlib.Core.List.{List, _++_, append-nil}
+use mathlib.Core.Path.{_≡_, refl, _∙_}
 use lib.ListN.{length, take, drop}
 use lib.Seq.{take-length, drop-length}
 use borrow.Author.Tests.{eqb-true, ne-eqb, not-false}
@@ -20,6 +19,7 @@ use Rattle.machine.specs.declared.Stepped.the-variants as Stepped
 use Rattle.machine.specs.declared.Finished.{Finished}
 use Rattle.machine.specs.declared.Finished.the-variants as Finished
 use Rattle.refusal.specs.Numbers.{noState}
+use Rattle.refusal.specs.Refusal.{neither}
 use Rattle.machine.specs.Numbers.{statePage, nowhere, toldOf, placeOf}
 use Rattle.machine.specs.Entry.{left, poweredPage, steppedPage, finishedPage, powerUpPage, stepPage, runPage}
 use Rattle.firmware.specs.Layout.{bytesOf, tallyBytes, stateFrom, settingsFrom, over, notState, notTally, refusedState, refusedSettings, refusedUp, refusedStep, refusedRun, laid}
@@ -36,32 +36,24 @@ laid-none bytes b n = rw (ne-eqb (length b) (length bytes) n) refl
 
 -- ---- what is not refused has its length
 
-left-no : (a b : Bool) → a || b ≡ false → a ≡ false
-left-no true b e = e
-left-no false b e = refl
-
-right-no : (a b : Bool) → a || b ≡ false → b ≡ false
-right-no true b e = absurd (true≢false e)
-right-no false b e = e
-
 state-length : (b : List ℕ) → notState b ≡ false → length b ≡ 24
 state-length b e = eqb-true _ _ (not-false _ e)
 
 pub up-length : (b w : List ℕ) → refusedUp b w ≡ false → length b ≡ 24
 unfolding refusedUp
-up-length b w e = state-length b (left-no (notState b) (refusedSettings w) e)
+up-length b w e = state-length b (neither (notState b) (refusedSettings w) e .0)
 
 pub step-length : (b w : List ℕ) → refusedStep b w ≡ false → length b ≡ 24
 unfolding refusedState refusedStep
-step-length b w e = state-length b (left-no (notState b) (over b) (left-no (refusedState b) (refusedSettings w) e))
+step-length b w e = state-length b (neither (notState b) (over b) (neither (refusedState b) (refusedSettings w) e .0) .0)
 
 pub run-length : (b t w : List ℕ) → refusedRun b t w ≡ false → length b ≡ 24
 unfolding refusedRun
-run-length b t w e = step-length b w (left-no (refusedStep b w) (notTally t) e)
+run-length b t w e = step-length b w (neither (refusedStep b w) (notTally t) e .0)
 
 pub tally-length : (b t w : List ℕ) → refusedRun b t w ≡ false → length t ≡ 6
 unfolding refusedRun
-tally-length b t w e = eqb-true _ _ (not-false _ (right-no (refusedStep b w) (notTally t) e))
+tally-length b t w e = eqb-true _ _ (not-false _ (neither (refusedStep b w) (notTally t) e .1))
 
 -- ---- power-up
 

@@ -1,11 +1,12 @@
 -- What a call leaves, the next one takes: a state's bytes are a state's, and give it back.
-use Prim.Native.Nat.{ℕ, _+_, _*_, _/_, _%_, _≤_}
+use Prim.Native.Nat.{ℕ, _≤_}
 use mathlib.Core.Bool.{Bool, true, false}
 use mathlib.Core.Path.{_≡_, ap, _∙_}
 use native.Mathlib.Omega.{arith}
 use borrow.Author.Tests.{le-ltb}
 use Rattle.word.specs.declared.Flags.{Flags}
 use Rattle.word.specs.Number.{digit}
+use Rattle.words.specs.Laws.{word-again}
 use Rattle.state.specs.declared.State.{State}
 use Rattle.state.specs.declared.Mode.{Mode}
 use Rattle.state.specs.declared.Mode.the-variants.{Running, Waiting, PowerHalt, SwitchHalt, Locked, Saved}
@@ -13,9 +14,6 @@ use Rattle.state.specs.State.{modeNumber}
 use Rattle.machine.specs.Numbers.{indicators, statePage, Address, address, nowhere}
 use Rattle.machine.specs.Back.{stateOf, state-back}
 use Rattle.firmware.specs.Layout.{tells, bytesOf, pageFrom, stateFrom, refusedState}
-
-word-again : (v : ℕ) → v % 256 + v / 256 * 256 ≡ v
-word-again v = omega arith
 
 page-again : (s : State) (cause : ℕ) (told : Address) → pageFrom (bytesOf (statePage s) cause told) ≡ statePage s
 unfolding pageFrom bytesOf statePage

@@ -1,8 +1,8 @@
 -- What the exported calls leave: the number that they answer, and the bytes that they were lent to write. 0 is no refusal;
 -- bytes that are no state's, no tally's or no settings' are refused before all else.
 use Prim.Native.Nat.{ℕ}
-use mathlib.Core.Bool.{Bool, true, false, cond}
-use mathlib.Core.List.{List, [], _∷_}
+use mathlib.Core.Bool.{cond}
+use mathlib.Core.List.{List}
 use Rattle.refusal.specs.Numbers.{noState}
 use Rattle.refusal.specs.Page.{Page, refused, answered}
 use Rattle.machine.specs.Numbers.{StatePage, nowhere, TurnPage, RanPage}

@@ -2,12 +2,12 @@
 use Prim.Native.Nat.{ℕ, _/_, _%_}
 use mathlib.Core.Bool.{Bool, true, false, cond}
 use mathlib.Core.List.{List, [], _∷_}
-use mathlib.Core.Path.{_≡_, refl, ap, _∙_}
+use mathlib.Core.Path.{_≡_, ap, _∙_}
 use lib.Dec.{eqb}
 use lib.ListN.{getD}
 use Rattle.board.specs.Work.{Work, give, readAt, write, Size, word, byte}
 use Rattle.board.specs.Bind.{_>>=_, _>>_}
-use Rattle.board.specs.Exec.{Store, Now, gone, stateOf, keptAs}
+use Rattle.board.specs.Exec.{Store, gone, keptAs}
 use Rattle.board.specs.Laws.{kept-none}
 use Rattle.board.specs.declared.Word.{Word}
 use Rattle.board.specs.declared.Word.the-variants as Word
@@ -17,9 +17,7 @@ use Rattle.board.specs.declared.Kept.{Kept}
 use Rattle.board.specs.declared.Kept.the-variants as Kept
 use Rattle.word.specs.Address.{plus, minus}
 use Rattle.state.specs.declared.State.{State}
-use Rattle.state.specs.declared.Went.{Went}
 use Rattle.state.specs.declared.Went.the-variants as Went
-use Rattle.state.specs.Answer.{wentAs, went-none}
 use Rattle.state.specs.State.{reg, withReg, withPc}
 use Rattle.format8.specs.declared.Row.{Row}
 

@@ -1,6 +1,6 @@
 -- Format 9, 7000 to 7FFF: REG and DST. All but SOB preset N1 Z0 V0 C1. REG is read after DST is decoded.
 use Prim.Native.Nat.{ℕ, _*_, _%_, _≤_}
-use mathlib.Core.Bool.{false, cond}
+use mathlib.Core.Bool.{cond}
 use mathlib.Core.List.{List, [], _∷_}
 use mathlib.Core.Path.{_≡_}
 use lib.Dec.{eqb}

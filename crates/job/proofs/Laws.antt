@@ -1,8 +1,8 @@
 -- Laws of the job's definitions, in the order in which the proofs use them.
 -- Assumes nothing.
 use Prim.Native.Nat.{ℕ, zero, suc, _+_, _-_, _*_, _<_, _≤_}
-use mathlib.Core.Bool.{Bool, true, false, cond}
-use mathlib.Core.List.{List, [], _∷_, _++_, append-nil}
+use mathlib.Core.Bool.{true, false, cond}
+use mathlib.Core.List.{List, _++_, append-nil}
 use mathlib.Core.Path.{_≡_, refl, sym, ap, _∙_}
 use lib.ListN.{length, getD, set, drop, replicate}
 use Rattle.job.specs.declared.Answer.{Answer}
@@ -18,7 +18,8 @@ use borrow.Author.Fill.{fill-more}
 use lib.Seq.{drop-cons, drop-length}
 use Rattle.words.specs.Words.{byteAt, wordAt}
 use Rattle.refusal.specs.Numbers.{imageLength, mapLength, linesLength, jobEnds}
-use Rattle.refusal.specs.Page.{refused, answered, first, first-both, unless, unless-some}
+use Rattle.refusal.specs.Page.{refused, answered, first, first-both, unless-some}
+use Rattle.refusal.specs.Refusal.{cond-none}
 use Rattle.refusal.specs.Page as Page
 use Rattle.job.specs.Job.{sections, sizeOf, mostOf, overOf, keyAt, note, cut, whyKey, whyEntry, whyEntries, noted, whyCount, whyLeft, whySections, stored, listed, marked, absent, wordsAt, linesAt, readOnlyAt, imageOf, mapOf, linesOf, Filled, pageOf, After, after, whyRead, jobOf}
 
@@ -76,13 +77,9 @@ first-first : (a b later : ℕ) → first (first a b) later ≡ first a (first b
 first-first zero b later = refl
 first-first (suc a) b later = refl
 
-cond-zero : (b : Bool) (k : ℕ) → (k ≡ 0 → ⊥) → cond b 0 k ≡ 0 → b ≡ true
-cond-zero true k n e = refl
-cond-zero false k n e = absurd (n e)
-
 cut-zero : (input : List ℕ) (at size : ℕ) → cut input at size ≡ 0 → at + size ≤ length input
 cut-zero input at size e =
-    leb-true (at + size) (length input) (cond-zero (leb (at + size) (length input)) jobEnds (λ h. omega arith) e)
+    leb-true (at + size) (length input) (cond-none (leb (at + size) (length input)) jobEnds (λ h. omega arith) e)
 
 -- what is not cut short is there
 pub count-room : (s : Section) (input : List ℕ) (at : ℕ) → whyCount s input at ≡ 0 → at + 2 ≤ length input
@@ -268,10 +265,10 @@ read-lengths image map lines input e =
     let a = first-both (cond (eqb image 65536) 0 imageLength) _ e in
     let b = first-both (cond (eqb map 256) 0 mapLength) _ (a .1) in
     let c = first-both (cond (eqb lines 4096) 0 linesLength) _ (b .1) in (
-      eqb-true _ _ (cond-zero (eqb image 65536) imageLength (λ h. omega arith) (a .0)),
+      eqb-true _ _ (cond-none (eqb image 65536) imageLength (λ h. omega arith) (a .0)),
       (
-        eqb-true _ _ (cond-zero (eqb map 256) mapLength (λ h. omega arith) (b .0)),
-        eqb-true _ _ (cond-zero (eqb lines 4096) linesLength (λ h. omega arith) (c .0)),
+        eqb-true _ _ (cond-none (eqb map 256) mapLength (λ h. omega arith) (b .0)),
+        eqb-true _ _ (cond-none (eqb lines 4096) linesLength (λ h. omega arith) (c .0)),
       ),
     )
 

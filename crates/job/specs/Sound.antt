@@ -2,7 +2,7 @@
 use Prim.Native.Nat.{ℕ, zero, suc, _+_, _≤_}
 use mathlib.Core.Bool.{Bool, true, false, cond}
 use mathlib.Core.List.{List, [], _∷_}
-use mathlib.Core.Path.{_≡_, refl, sym, ap, _∙_}
+use mathlib.Core.Path.{_≡_, refl, _∙_}
 use native.Mathlib.Omega.{arith}
 use lib.Dec.{eqb, leb}
 use lib.ListN.{length, set, take, replicate, length-set, length-replicate}
@@ -10,10 +10,10 @@ use lib.Seq.{length-take-le}
 use borrow.Author.Tests.{eq-eqb, le-leb, leb-true}
 use Rattle.words.specs.Words.{byteAt, wordAt}
 use Rattle.refusal.specs.Numbers.{imageLength, mapLength, linesLength, manyLines, jobLineBit}
-use Rattle.refusal.specs.Page.{first, first-both}
+use Rattle.refusal.specs.Page.{first-both}
 use Rattle.refusal.specs.Refusal.{allOf, flat, plain, boardRefusal, setUp, powerRefusal, linesRefusal, runRefusal}
 use Rattle.job.specs.declared.Section.the-variants as section
-use Rattle.job.specs.Job.{sections, sizeOf, keyAt, note, cut, next, whyEntry, whyEntries, noted, whyCount, whyLeft, whySections, whyJob, stored, listed, marked, readOnlyAt, wordsAt, linesAt, imageOf, mapOf, linesOf, lineWords, whyRead}
+use Rattle.job.specs.Job.{sections, sizeOf, cut, whyEntry, whyEntries, whyCount, whySections, whyJob, stored, listed, marked, readOnlyAt, wordsAt, linesAt, imageOf, mapOf, linesOf, lineWords, whyRead}
 
 -- ---- a test that every element passes
 

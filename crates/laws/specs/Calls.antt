@@ -1,7 +1,7 @@
 -- The call for C: from its bytes to the run's answer.
-use Prim.Native.Nat.{ℕ, _+_, _*_, _/_, _%_, _<_, _≤_}
+use Prim.Native.Nat.{ℕ, _+_, _<_, _≤_}
 use native.Mathlib.Omega.{arith}
-use mathlib.Core.Bool.{Bool, true, false, _||_, cond}
+use mathlib.Core.Bool.{Bool, true, false, cond}
 use mathlib.Core.List.{List}
 use mathlib.Core.Path.{_≡_, refl, sym, ap, _∙_}
 use lib.ListN.{length}
@@ -16,6 +16,7 @@ use Rattle.step.specs.Step.{After, stepOf, causeNumber, isBlank}
 use Rattle.refusal.specs.Numbers.{noState}
 use Rattle.refusal.specs.Page.{first-both}
 use Rattle.words.specs.Words.{byteAt, wordAt}
+use Rattle.words.specs.Laws.{word-again}
 use Rattle.machine.specs.declared.Ran.{Ran}
 use Rattle.machine.specs.declared.First.{First}
 use Rattle.machine.specs.declared.First.the-variants.{At, Never}
@@ -29,6 +30,7 @@ use Rattle.machine.specs.Entry as Entry
 use Rattle.firmware.specs.Layout.{bytesOf, tallyBytes, placeNumber, placeTold, stateFrom, settingsFrom, refusedState, refusedSettings, refusedStep, refusedRun, notTally}
 use Rattle.firmware.specs.Calls.{ended, endedFrom, runCall, stepBytes, Went, went, stepCall}
 use Rattle.demands.specs.Demand1.{wd16-step-answers, wd16-run-answers}
+use Rattle.refusal.specs.Refusal.{neither}
 
 -- a tally's bytes
 abbrev pub bytesFor : Ran → List ℕ
@@ -61,13 +63,9 @@ call-answered b t m map w lines k b′ t′ m′ h why e = at (runOf (settingsFr
 
 -- ---- buffers that aren't refused
 
-or-false : (a b : Bool) → a || b ≡ false → (a ≡ false) × (b ≡ false)
-or-false false b e = (refl, e)
-or-false true b e = let z : _≡_ {A = ℕ} 0 1 = cc in absurd (omega arith)
-
 pub settings-taken : (b w : List ℕ) → refusedStep b w ≡ false → refusedSettings w ≡ false
 unfolding refusedStep
-settings-taken b w e = or-false (refusedState b) (refusedSettings w) e .1
+settings-taken b w e = neither (refusedState b) (refusedSettings w) e .1
 
 pub buffers-taken : (b t w : List ℕ) → refusedState b ≡ false → refusedSettings w ≡ false → length t ≡ 6 → refusedRun b t w ≡ false
 unfolding refusedRun refusedStep
@@ -75,16 +73,13 @@ buffers-taken b t w h g l = rw (h, g, eq-eqb (length t) 6 l)
 
 pub step-taken : (b w : List ℕ) → refusedStep b w ≡ false → refusedState b ≡ false
 unfolding refusedStep
-step-taken b w e = or-false (refusedState b) (refusedSettings w) e .0
+step-taken b w e = neither (refusedState b) (refusedSettings w) e .0
 
 -- ---- a state's cause, and a tally's words
 
 pub cause-byte : (s : State) (cause : ℕ) (told : Address) → byteAt (bytesOf (statePage s) cause told) 19 ≡ cause
 unfolding bytesOf statePage
 cause-byte s cause told = refl
-
-pub word-again : (v : ℕ) → v % 256 + v / 256 * 256 ≡ v
-word-again v = omega arith
 
 pub blanks-word : (n : ℕ) (p : Place) → wordAt (tallyBytes n p) 0 ≡ n
 unfolding tallyBytes
@@ -154,7 +149,7 @@ step-not-refused b m map w line b′ m′ e =
 -- with another tally's buffer it isn't refused either
 pub tally-taken : (b t t′ w : List ℕ) → refusedRun b t w ≡ false → length t′ ≡ 6 → refusedRun b t′ w ≡ false
 unfolding refusedRun
-tally-taken b t t′ w e l = rw (or-false (refusedStep b w) (notTally t) e .0, eq-eqb (length t′) 6 l)
+tally-taken b t t′ w e l = rw (neither (refusedStep b w) (notTally t) e .0, eq-eqb (length t′) 6 l)
 
 -- what a step leaves that isn't refused
 abbrev pub stepped : After → Went

@@ -23,6 +23,7 @@ use Rattle.machine.specs.declared.Stepped.the-variants as Stepped
 use Rattle.machine.specs.declared.Finished.{Finished}
 use Rattle.machine.specs.declared.Finished.the-variants as Finished
 use Rattle.words.specs.Words.{byteAt, wordAt}
+use Rattle.words.specs.Laws.{word-again}
 use Rattle.machine.specs.Numbers.{statePage, nowhere, toldOf, place, none, placeOf}
 use Rattle.machine.specs.Run.{end, rest, noted, noBlanks}
 use Rattle.machine.specs.Back.{turn-one}
@@ -30,7 +31,7 @@ use Rattle.machine.specs.Entry.{stepWhy, powerWhy, runWhy, left, turned, steppe
 use Rattle.machine.specs.Entry as Entry
 use Rattle.firmware.specs.Layout.{wordTold, bytesOf, tallyBytes, stateFrom, settingsFrom, refusedStep, refusedRun}
 use Rattle.firmware.specs.Calls.{stepBytes, went, wentFrom, stepCall, ended, endedFrom, runCall}
-use Rattle.laws.specs.Calls.{word-again, cause-byte}
+use Rattle.laws.specs.Calls.{cause-byte}
 
 -- a step's turn as a run: its state, with its cause tallied at place 0
 abbrev pub ranOnce : Turn → Ran

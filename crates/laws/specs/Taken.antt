@@ -14,7 +14,7 @@ use Rattle.step.specs.declared.Cause.the-variants as Cause
 use Rattle.step.specs.Step.{stepOf}
 use Rattle.refusal.specs.Numbers.{linesLength, lineBit}
 use Rattle.refusal.specs.Page.{refused, first-both, apart}
-use Rattle.refusal.specs.Refusal.{allOf, plain, linesRefusal, runRefusal, short, stepRefusal}
+use Rattle.refusal.specs.Refusal.{allOf, plain, linesRefusal, runRefusal, short, stepRefusal, cond-none}
 use Rattle.machine.specs.declared.Ran.{Ran}
 use Rattle.machine.specs.declared.Tally.{Tally}
 use Rattle.machine.specs.declared.Finished.{Finished}
@@ -36,17 +36,12 @@ pub taken-run : (settings : Settings) (m map lines : List ℕ) → Taken setting
 unfolding runRefusal linesRefusal
 taken-run settings m map lines t = rw (t .board, le-leb (length lines) 4096 (t .few), t .unused)
 
--- a number that is told where a test fails, and isn't told
-pub untold : (b : Bool) (k : ℕ) → (k ≡ 0 → ⊥) → cond b 0 k ≡ 0 → b ≡ true
-untold true k n e = refl
-untold false k n e = absurd (n e)
-
 pub run-taken : (settings : Settings) (m map lines : List ℕ) → runWhy settings m map lines ≡ 0 → Taken settings m map lines
 unfolding runRefusal linesRefusal
 run-taken settings m map lines e =
     let both = first-both (powerWhy settings m map) (linesRefusal lines) e in
     let unused = first-both (cond (leb (length lines) 4096) 0 linesLength) _ (both .1) in
-    record { board = both .0; few = short lines (both .1); unused = untold (allOf plain lines) lineBit (λ z. omega arith) (unused .1) }
+    record { board = both .0; few = short lines (both .1); unused = cond-none (allOf plain lines) lineBit (λ z. omega arith) (unused .1) }
 
 pub all-append : (p : ℕ → Bool) (xs ys : List ℕ) → allOf p xs ≡ true → allOf p (xs ++ ys) ≡ allOf p ys
 unfolding allOf

@@ -2,23 +2,19 @@
 -- Assumes nothing.
 use mathlib.Core.Path.{_≡_, refl, ap, _∙_}
 use mathlib.Core.Bool.{Bool, true, false, cond}
-use mathlib.Core.List.{List, [], _∷_, _++_}
-use Prim.Native.Nat.{ℕ, zero, suc, _+_, _*_, _/_, _%_, _≤_, _<_}
+use mathlib.Core.List.{List, [], _∷_}
+use Prim.Native.Nat.{ℕ, _+_, _/_, _%_, _≤_, _<_}
 use native.Mathlib.Omega.{arith}
-use native.Mathlib.Numerals.{add-one}
-use borrow.Author.Tests.{le-leb, lt-leb, lt-ltb, le-ltb}
+use borrow.Author.Tests.{lt-ltb, le-ltb}
 use lib.Dec.{ltb}
-use lib.ListN.{length, getD, length-append}
+use lib.ListN.{length, length-append}
 use Rattle.letters.specs.Digits.{hex4}
 use Rattle.line.specs.declared.Place.{Place}
 use Rattle.line.specs.declared.Place.the-variants.{At, Nowhere}
-use Rattle.line.specs.Line.{field, fields, modeText, placeText, firstText, lineText, name, decimal, refusedText}
+use Rattle.line.specs.Lengths.{field-length, fields-length}
+use Rattle.line.specs.Line.{modeText, placeText, firstText, lineText, name, decimal, refusedText}
 
 -- the lengths of the line's parts
-pub field-length : (x : ℕ) → length (field x) ≡ 5
-unfolding field hex4
-field-length x = refl
-
 pub mode-length : (mode : ℕ) → length (modeText mode) ≡ 2
 unfolding modeText
 mode-length mode = refl
@@ -27,17 +23,6 @@ pub place-length : (place : Place) → length (placeText place) ≡ 4
 unfolding placeText hex4
 place-length (At x) = refl
 place-length Nowhere = refl
-
-pub fields-length : (values : List ℕ) (n : ℕ) → length (fields values n) ≡ n * 5
-unfolding fields
-fields-length values zero = refl
-fields-length values (suc n) =
-    length-append (fields values n) (field (getD values n 0))
-    ∙ omega (arith, fields-length values n, field-length (getD values n 0))
-
-pub fields-more : (values : List ℕ) (n : ℕ) → fields values n ++ field (getD values n 0) ≡ fields values (n + 1)
-unfolding fields
-fields-more values n = rw (add-one n) refl
 
 pub first-length : (place address : Place) → length (firstText place address) ≡ 9
 unfolding firstText

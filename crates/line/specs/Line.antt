@@ -1,12 +1,11 @@
 -- The line that bench prints: R0-R5, SP, PC, PS, mode digit, blanks, the first one's place and address, or ---- ----. Or REFUSED and a number in decimal.
 -- Assumes nothing.
-use mathlib.Core.Bool.{Bool, true, false, cond}
+use mathlib.Core.Bool.{cond}
 use mathlib.Core.List.{List, [], _∷_, _++_}
 use Prim.Native.Nat.{ℕ, zero, suc, _+_, _/_, _%_}
-use lib.Dec.{leb, ltb}
-use lib.ListN.{length, getD}
+use lib.Dec.{ltb}
+use lib.ListN.{getD}
 use Rattle.letters.specs.Digits.{hexOf, hex4}
-use Rattle.letters.specs.Over.{over}
 use Rattle.line.specs.declared.Place.{Place}
 use Rattle.line.specs.declared.Place.the-variants.{At, Nowhere}
 

@@ -1,22 +1,20 @@
 -- From the code's facts to a line of a listing.
 use Prim.Native.Nat.{ℕ, zero, suc, _+_, _*_, _≤_, _<_}
 use mathlib.Core.Bool.{Bool, true, false, not, cond}
-use mathlib.Core.List.{List, [], _∷_, _++_}
+use mathlib.Core.List.{List, [], _∷_}
 use mathlib.Core.Path.{_≡_, refl, ap, sym, _∙_, subst}
-use native.Mathlib.Numerals.{add-one}
 use native.Mathlib.Omega.{arith}
 use borrow.Author.Tests.{le-ltb, lt-ltb, ltb-false, not-true, not-false}
 use lib.Dec.{ltb}
-use lib.ListN.{length, take, getD, length-append}
+use lib.ListN.{length, take, getD}
 use lib.Seq.{length-take-le}
 use Rattle.letters.specs.Digits.{hex4}
 use Rattle.letters.specs.Over.{over, Wrote}
-use Rattle.refusal.specs.Numbers.{noStretch}
+use Rattle.refusal.specs.Numbers.{noStretch, textShort}
 use Rattle.refusal.specs.Page.{refused, answered, first-some, first-both, unless-some}
 use Rattle.refusal.specs.Refusal.{boardRefusal}
 use Rattle.words.specs.Words.{wordAt}
 use Rattle.board.specs.Work.{fitted}
-use Rattle.line.specs.Line.{field, fields}
 use Rattle.optext.specs.declared.Written.{Written}
 use Rattle.optext.specs.declared.Written.the-variants.{Line}
 use Rattle.optext.specs.Rows.{rows, theRow}
@@ -26,7 +24,7 @@ use Rattle.listing.specs.declared.Found.{Found}
 use Rattle.listing.specs.declared.Found.the-variants.{Nothing, Cut, Whole}
 use Rattle.listing.specs.declared.Listed.{Listed}
 use Rattle.listing.specs.Listing.{allStand, foundAt, lineOf, movesOn, Fits, lineAt, nextAt}
-use Rattle.listing.specs.Calls.{left, told, listedPage, textShort, badStretch, lineWhy, nextOf, lineCall}
+use Rattle.listing.specs.Calls.{left, told, listedPage, badStretch, lineWhy, nextOf, lineCall}
 use Rattle.listing.specs.Joined.{taken-some, cond-none}
 
 -- ---- what is found
@@ -60,21 +58,6 @@ moves-few w Cut h = omega arith
 moves-few w (Whole n) h = h .1
 
 -- ---- the address and the words
-
-pub field-length : (x : ℕ) → length (field x) ≡ 5
-unfolding field hex4
-field-length x = refl
-
-pub fields-length : (values : List ℕ) (n : ℕ) → length (fields values n) ≡ n * 5
-unfolding fields
-fields-length values zero = refl
-fields-length values (suc n) =
-    length-append (fields values n) (field (getD values n 0))
-    ∙ omega (arith, fields-length values n, field-length (getD values n 0))
-
-pub fields-more : (values : List ℕ) (n : ℕ) → fields values n ++ field (getD values n 0) ≡ fields values (n + 1)
-unfolding fields
-fields-more values n = rw (add-one n) refl
 
 -- ---- the text, where there is room for it
 

@@ -2,7 +2,7 @@
 use Prim.Native.Nat.{ℕ, zero, suc, _+_, _*_, _/_, _%_}
 use mathlib.Core.Bool.{Bool, true, false, not, _&&_, _||_, cond}
 use mathlib.Core.List.{List, [], _∷_}
-use mathlib.Core.Path.{_≡_, refl, ap, sym, _∙_}
+use mathlib.Core.Path.{_≡_, refl, ap, _∙_}
 use native.Mathlib.Omega.{arith}
 use borrow.Author.Tests.{le-ltb}
 use lib.Dec.{eqb, leb, ltb}
@@ -17,14 +17,14 @@ use Rattle.optext.specs.Line.{taken}
 use Rattle.listing.specs.declared.Found.{Found}
 use Rattle.listing.specs.declared.Found.the-variants.{Nothing, Cut, Whole}
 use Rattle.listing.specs.Listing.{stands, allStand, wordsAt, foundAt, lineOf, movesOn, lineAt, nextAt, linesFrom, listingOf}
-use Rattle.listing.specs.Calls.{Left, left, told, lineWhy, nextOf, lineCall}
+use Rattle.listing.specs.Calls.{left, told, lineWhy, nextOf, lineCall}
 use Rattle.listing.specs.Joined.{good}
 
-and-true : (p q : Bool) → (p && q) ≡ true → (p ≡ true) × (q ≡ true)
+pub and-true : (p q : Bool) → (p && q) ≡ true → (p ≡ true) × (q ≡ true)
 and-true true q e = (refl, e)
 and-true false q e = let z : _≡_ {A = ℕ} 0 1 = ap (λ (b : Bool). cond b 1 0) e in absurd (omega arith)
 
-or-right : (p q : Bool) → p ≡ false → (p || q) ≡ true → q ≡ true
+pub or-right : (p q : Bool) → p ≡ false → (p || q) ≡ true → q ≡ true
 or-right true q n e = let z : _≡_ {A = ℕ} 1 0 = ap (λ (b : Bool). cond b 1 0) n in absurd (omega arith)
 or-right false q n e = e
 

@@ -6,7 +6,7 @@ use mathlib.Core.Path.{_≡_, refl, ap, sym, _∙_}
 use lib.ListN.{length}
 use lib.Dec.{eqb, ltb}
 use Rattle.letters.specs.Over.{over}
-use Rattle.refusal.specs.Numbers.{noStretch}
+use Rattle.refusal.specs.Numbers.{noStretch, textShort}
 use Rattle.refusal.specs.Page.{Page, refused, answered, first, unless}
 use Rattle.refusal.specs.Refusal.{boardRefusal}
 use Rattle.listing.specs.declared.Listed.{Listed}
@@ -42,9 +42,6 @@ left p t = record { page = p; text = t }
 -- ---- refusals: 1, 2 and 3 of the image and the map; 23, an odd address, or a last below the first; 8, the text is under 52
 
 -- the longest line's own text begins at character 20, and its writer asks for 32 more
-abbrev pub textShort : ℕ
-textShort = 8
-
 abbrev pub room : ℕ
 room = 52
 

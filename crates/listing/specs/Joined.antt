@@ -10,12 +10,11 @@ use lib.ListN.{length, take}
 use Rattle.letters.specs.Over.{over}
 use Rattle.letters.specs.Laid.{wrote-take}
 use Rattle.refusal.specs.Numbers.{noStretch}
-use Rattle.refusal.specs.Page.{Page, refused, answered, first-both, unless, apart, answered-one}
-use Rattle.refusal.specs.Refusal.{boardRefusal}
+use Rattle.refusal.specs.Page.{refused, answered, first-both, unless, apart, answered-one}
+use Rattle.refusal.specs.Refusal.{boardRefusal, neither}
 use Rattle.words.specs.Words.{wordAt}
 use Rattle.board.specs.Work.{fitted}
 use Rattle.optext.specs.Line.{taken}
-use Rattle.listing.specs.declared.Found.{Found}
 use Rattle.listing.specs.declared.Found.the-variants.{Nothing, Cut, Whole}
 use Rattle.listing.specs.Listing.{allStand, foundAt, movesOn, lineAt, nextAt, linesFrom, listingOf}
 use Rattle.listing.specs.Calls.{Next, goesOn, ends, Told, told, Left, left, badStretch, lineWhy, nextOf, lineCall}
@@ -69,13 +68,6 @@ module _ (map image : List ℕ) (last : ℕ) where
 
 -- ---- what is known where a call is not refused
 
-bool-apart : {A : Type 0} → true ≡ false → A
-bool-apart e = let z : _≡_ {A = ℕ} 0 1 = ap (λ (b : Bool). cond b 0 1) e in absurd (omega arith)
-
-or-false : (p q : Bool) → (p || q) ≡ false → (p ≡ false) × (q ≡ false)
-or-false true q e = bool-apart e
-or-false false q e = (refl, e)
-
 pub cond-none : (b : Bool) (k : ℕ) → (k ≡ 0 → ⊥) → cond b k 0 ≡ 0 → b ≡ false
 cond-none true k n e = absurd (n e)
 cond-none false k n e = refl
@@ -93,8 +85,8 @@ unfolding lineWhy
 good size map a last text e =
     let b = first-both (boardRefusal size map) _ e .1 in
     let s = cond-none (badStretch a last) noStretch (λ h. omega arith) (first-both (cond (badStretch a last) noStretch 0) _ b .0) in
-    let o = or-false (eqb (a % 2) 1 || eqb (last % 2) 1) (ltb last a) s in
-    let t = or-false (eqb (a % 2) 1) (eqb (last % 2) 1) (o .0) in
+    let o = neither (eqb (a % 2) 1 || eqb (last % 2) 1) (ltb last a) s in
+    let t = neither (eqb (a % 2) 1) (eqb (last % 2) 1) (o .0) in
     record { even = not-odd a (t .0); within = ltb-false last a (o .1); lastEven = not-odd last (t .1) }
 
 -- ---- the calls

@@ -3,6 +3,7 @@ use letters::hex;
 use optext::Written;
 use refusal::board_refusal;
 use refusal::number::NO_STRETCH;
+use refusal::number::TEXT_SHORT;
 use words::byte_at;
 use words::word_at;
 ghost use mathlib.Core.Path.{_≡_};
@@ -18,11 +19,8 @@ ghost use Rattle.listing.specs.Listing as Spec;
 ghost use Rattle.refusal.specs.Page.{answered};
 ghost use Rattle.listing.specs.Calls as Call;
 
-// The text buffer is under 52.
-const TEXT_SHORT: u8 = 8;
-
 // What stands at an address: nothing is fitted there; an op code that is cut; or a whole op code, with the number of its words.
-enum Found {
+pub enum Found {
     Nothing,
     Cut,
     Whole(usize),

@@ -1,15 +1,13 @@
 -- What the law of the block moves asks for can be met: MBWU R1,R2 at 0100 with R0 2, R1 0200, R2 0300. Assumes nothing.
 use Prim.Native.Nat.{ℕ, zero, suc, _/_, _<_}
 use native.Mathlib.Omega.{arith}
-use mathlib.Core.Bool.{Bool, true, false}
+use mathlib.Core.Bool.{true}
 use mathlib.Core.List.{List, [], _∷_, _++_}
-use mathlib.Core.Path.{_≡_, refl, ap, _∙_}
-use lib.ListN.{replicate, getD}
-use Rattle.word.specs.Status.{flagsOf}
+use mathlib.Core.Path.{_≡_, refl}
+use lib.ListN.{replicate}
 use Rattle.board.specs.Work.{fitted, writable, even, wordAt, withWord}
 use Rattle.state.specs.declared.State.{State}
 use Rattle.state.specs.declared.Settings.{Settings}
-use Rattle.state.specs.declared.Mode.the-variants.{Running}
 use Rattle.state.specs.Registers.{regOf, setReg}
 use Rattle.state.specs.State.{reg, withReg, withMark, withPc, cleared}
 use Rattle.format8.specs.Page.{Plain, along}

@@ -1,13 +1,13 @@
 -- An answer that meets its contract and is no refusal is the definition's, in the page's numbers.
 use Prim.Native.Nat.{ℕ, zero, suc}
 use mathlib.Core.List.{List}
-use mathlib.Core.Path.{_≡_, refl, sym, ap, _∙_}
+use mathlib.Core.Path.{_≡_, refl, ap, _∙_}
 use Rattle.state.specs.declared.State.{State}
 use Rattle.state.specs.declared.Settings.{Settings}
 use Rattle.state.specs.State.{heard}
 use Rattle.step.specs.declared.Cause.the-variants as Cause
 use Rattle.step.specs.Step.{after, stepOf, powerUpOf}
-use Rattle.refusal.specs.Page.{Page, refused, answered, unless, apart, answered-one}
+use Rattle.refusal.specs.Page.{refused, answered, unless, apart, answered-one}
 use Rattle.machine.specs.declared.Ran.{Ran}
 use Rattle.machine.specs.declared.Finished.the-variants as Finished
 use Rattle.machine.specs.Numbers.{StatePage, statePage, TurnPage, RanPage, ranPage, placeOf}

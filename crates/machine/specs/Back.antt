@@ -28,7 +28,7 @@ use Rattle.machine.specs.declared.Finished.{Finished}
 use Rattle.machine.specs.declared.Finished.the-variants as Finished
 use Rattle.refusal.specs.Page.{Page, refused, answered}
 use Rattle.machine.specs.Numbers.{indicators, StatePage, statePage, Address, address, nowhere, toldOf, TurnPage, turnPage, Place, place, none, placeOf, RanPage, ranPage}
-use Rattle.machine.specs.Entry.{Left, left, poweredPage, steppedPage, finishedPage}
+use Rattle.machine.specs.Entry.{left, poweredPage, steppedPage, finishedPage}
 
 -- what can be read back is one to one
 one : {A B : Type 0} {f : A → B} (back : B → A) → ((x : A) → back (f x) ≡ x) → (x y : A) → f x ≡ f y → x ≡ y

@@ -15,7 +15,7 @@ use Rattle.step.specs.declared.Cause.the-variants as Cause
 use Rattle.step.specs.Step.{After, after, hears, stepOf}
 use Rattle.step.specs.Block.{afterOne, elementIn, Ready, Left, all-left, Unheard, unheard-marked, ready-marked, step-once, step-last, ready-on, left-on, image-on, state-on, unmarked-on, hearing-on, image-last}
 use Rattle.machine.specs.Run.{noBlanks}
-use Rattle.machine.specs.Trail.{trailOf, lastOf, blanksIn, moved, firstIn, tallyIn}
+use Rattle.machine.specs.Trail.{trailOf, lastOf, blanksIn, firstIn, tallyIn}
 
 -- line words in which nothing is heard
 pub data AllUnheard (settings : Settings) (hearing : Bool) : List ℕ → Type 0 where

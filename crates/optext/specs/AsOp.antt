@@ -2,14 +2,13 @@
 -- Assumes nothing.
 use mathlib.Core.Bool.{Bool, true, false, cond, _&&_}
 use mathlib.Core.Path.{_≡_, refl, ap, sym, _∙_, subst}
-use mathlib.Core.List.{List, [], _∷_, _++_, append-nil}
-use Prim.Native.Nat.{ℕ, _+_, _≤_}
+use mathlib.Core.List.{List, [], _∷_, append-nil}
+use Prim.Native.Nat.{ℕ, _≤_}
 use native.Mathlib.Omega.{arith}
 use lib.Dec.{eqb}
 use borrow.Author.Tests.{eq-eqb, eqb-true}
 use lib.ListN.{length, getD, length-append}
 use Rattle.letters.specs.Over.{over, Wrote}
-use Rattle.optext.specs.declared.Op.{Op}
 use Rattle.optext.specs.declared.reading.Guess.{Guess}
 use Rattle.optext.specs.Agree.{agree}
 use Rattle.optext.specs.Rows.{firstOf, secondOf}

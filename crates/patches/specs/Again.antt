@@ -2,46 +2,59 @@
 -- Assumes nothing.
 use mathlib.Core.Path.{_≡_, refl, ap, sym, _∙_}
 use mathlib.Core.Bool.{Bool, true, false, cond}
-use mathlib.Core.List.{List, [], _∷_, _++_}
+use mathlib.Core.List.{List, [], _∷_, _++_, append-nil}
 use mathlib.Core.Logic.{_⊎_, ⊎-elim}
-use Prim.Native.Nat.{ℕ, zero, suc, _+_, _*_, _/_, _%_, _≤_, _<_}
+use Prim.Native.Nat.{ℕ, suc, _+_, _<_}
 use native.Mathlib.Omega.{arith}
-use lib.Dec.{ltb, eqb}
-use borrow.Author.Tests.{ne-eqb, eqb-true, lt-ltb}
+use lib.Dec.{eqb}
+use borrow.Author.Tests.{ne-eqb, lt-ltb}
 use lib.ListN.{length, drop}
-use Rattle.letters.specs.Digits.{letters, digits, hexOf, hex4}
+use Rattle.letters.specs.Digits.{letters, hex4}
 use Rattle.optext.specs.declared.Op.{Op}
-use Rattle.optext.specs.Digits.{unHex, unHex4}
+use Rattle.optext.specs.Digits.{unHex4}
 use Rattle.optext.specs.Line.{wordText, taken, textOf}
+use Rattle.optext.specs.Back.{hex4-back}
 use Rattle.optext.specs.Column.{Whole}
 use Rattle.optext.specs.Read.{same-refl, readOf, opOf}
 use Rattle.optext.specs.Reader.{read-of-text, read-word, read-origin, read-nothing, any-word-text}
-use Rattle.patchline.specs.Search.{eq-cases}
+use Rattle.patchline.specs.declared.oneline.How.{How}
 use Rattle.patchline.specs.declared.oneline.How.the-variants.{Origin, Plain}
-use Rattle.patchline.specs.Line.{opIn, op, says, isNumber, isDirective, saidOf}
-use Rattle.assembler.specs.Source.{textAt, hereOf, put, wordsIn}
+use Rattle.patchline.specs.Line.{secondIn, labelIn, opIn, op, says, isNumber, isDirective, saidOf, withLabel}
+use Rattle.assembler.specs.Source.{textAt, valueOf, hereOf, put, wordsIn}
 use Rattle.assembler.specs.Section.{entered, placed}
 
-put-plain : (s u : List ℕ) (third : Bool) (h : ℕ) (o : Op) → put s Plain third h u o ≡ o
+-- a line that is taken so that no label is put into it keeps the words that it says
+abbrev Fixed : How → Type 0
+Fixed how = (third : Bool) (v h : ℕ) (o : Op) → withLabel how third v h o ≡ o
+
+put-fixed : (s u : List ℕ) (how : How) (third : Bool) (h : ℕ) (o : Op) → Fixed how → put s how third h u o ≡ o
 unfolding put
-put-plain s u third h o = go (eqb (length u) 0)
+put-fixed s u how third h o f = rw (f third (valueOf s u) h o) (go (eqb (length u) 0))
   where
     go : (b : Bool) → cond b o o ≡ o
     go true = refl
     go false = refl
 
--- a line that has no label in it keeps the words that it says
-plain-words : (s t : List ℕ) (h : ℕ) (o : Op) → saidOf t ≡ says Plain o → wordsIn s h t ≡ o
+fixed-words : (s t : List ℕ) (how : How) (h : ℕ) (o : Op) → Fixed how → saidOf t ≡ says how o → wordsIn s h t ≡ o
 unfolding wordsIn
-plain-words s t h o q = rw (q, put-plain, put-plain) refl
+fixed-words s t how h o f q = rw q (ap (λ (p : Op). put s how (eqb (o .count) 3) h (labelIn (secondIn t)) p) (put-fixed s _ how false h o f) ∙ put-fixed s _ how _ h o f)
+
+pub plain-words : (s t : List ℕ) (h : ℕ) (o : Op) → saidOf t ≡ says Plain o → wordsIn s h t ≡ o
+plain-words s t h o q = fixed-words s t Plain h o (λ third v h o. refl) q
+
+pub origin-words : (s t : List ℕ) (h : ℕ) (o : Op) → saidOf t ≡ says Origin o → wordsIn s h t ≡ o
+origin-words s t h o q = fixed-words s t Origin h o (λ third v h o. refl) q
 
 some : (t : List ℕ) → 0 < length t → length t ≡ 0 → ⊥
 some t h e = omega arith
 
 -- "A line that 01's reader takes gives exactly that reader's words"
-pub reader-words : (s t : List ℕ) (h : ℕ) → 0 < length t → 0 < length (readOf t) → wordsIn s h t ≡ opOf (readOf t)
+reader-said : (t : List ℕ) → 0 < length t → 0 < length (readOf t) → saidOf t ≡ says Plain (opOf (readOf t))
 unfolding saidOf opIn
-reader-words s t h l p = plain-words s t h (opOf (readOf t)) (rw (ne-eqb (length t) 0 (some t l), lt-ltb 0 (length (readOf t)) p) refl)
+reader-said t l p = rw (ne-eqb (length t) 0 (some t l), lt-ltb 0 (length (readOf t)) p) refl
+
+pub reader-words : (s t : List ℕ) (h : ℕ) → 0 < length t → 0 < length (readOf t) → wordsIn s h t ≡ opOf (readOf t)
+reader-words s t h l p = plain-words s t h (opOf (readOf t)) (reader-said t l p)
 
 -- and they are placed from the origin on that the line begins at
 pub reader-placed : (s : List ℕ) (i : ℕ) → 0 < length (textAt s i) → 0 < length (readOf (textAt s i))
@@ -50,10 +63,10 @@ unfolding placed
 reader-placed s i l p = rw (reader-words s (textAt s i) (hereOf s i) l p) refl
 
 -- ".WORD here takes any word": the word that its digits are, where the reader takes no such line
-pub any-word : (s t : List ℕ) (h : ℕ) → 0 < length t → readOf t ≡ [] → isDirective (letters ".ORG ") t ≡ false → isDirective (letters ".WORD ") t ≡ true
-    → wordsIn s h t ≡ op 1 (unHex4 (drop 6 t))
+any-said : (t : List ℕ) → 0 < length t → readOf t ≡ [] → isDirective (letters ".ORG ") t ≡ false → isDirective (letters ".WORD ") t ≡ true
+    → saidOf t ≡ says Plain (op 1 (unHex4 (drop 6 t)))
 unfolding saidOf opIn
-any-word s t h l e f g = plain-words s t h _ (rw (ne-eqb (length t) 0 (some t l), e, f, g) refl)
+any-said t l e f g = rw (ne-eqb (length t) 0 (some t l), e, f, g) refl
 
 -- ---- the lines of a listing
 
@@ -69,11 +82,14 @@ text-some vs h = go (textOf vs) (read-of-text vs h)
     go [] e = let z : length vs ≡ 0 = ap length (sym e ∙ read-nothing) in absurd (omega (arith, whole-some vs h))
     go (x ∷ t) e = omega arith
 
--- the text of a whole op code gives its words back
-pub listed-again : (s vs : List ℕ) (h : ℕ) → Whole vs → wordsIn s h (textOf vs) ≡ opOf vs
-listed-again s vs h w =
+-- the text of a whole op code says its words, and gives them back
+pub text-said : (vs : List ℕ) → Whole vs → saidOf (textOf vs) ≡ says Plain (opOf vs)
+text-said vs w =
     let e = read-of-text vs w in
-    reader-words s (textOf vs) h (text-some vs w) (rw e (whole-some vs w)) ∙ ap opOf e
+    reader-said (textOf vs) (text-some vs w) (rw e (whole-some vs w)) ∙ ap (λ (ws : List ℕ). says Plain (opOf ws)) e
+
+pub listed-again : (s vs : List ℕ) (h : ℕ) → Whole vs → wordsIn s h (textOf vs) ≡ opOf vs
+listed-again s vs h w = plain-words s (textOf vs) h (opOf vs) (text-said vs w)
 
 -- .WORD and .ORG with the four digits of a word
 unfoldable pub wordLine : ℕ → List ℕ
@@ -87,41 +103,26 @@ word-line w = any-word-text w
 unfoldable pub originLine : ℕ → List ℕ
 originLine a = letters ".ORG " ++ hex4 a
 
--- a test at all numbers below one, in one computation
-abbrev allBelow : (ℕ → Bool) → ℕ → Bool
-allBelow f zero = true
-allBelow f (suc n) = cond (f n) (allBelow f n) false
-
-below : (f : ℕ → Bool) (n : ℕ) → allBelow f n ≡ true → (k : ℕ) → k < n → f k ≡ true
-below f zero e k h = absurd (omega arith)
-below f (suc n) e k h = go (f n) refl e (λ q. below f n q k)
-  where
-    go : (b : Bool) → f n ≡ b → cond b (allBelow f n) false ≡ true → (allBelow f n ≡ true → k < n → f k ≡ true) → f k ≡ true
-    go true p q r = ⊎-elim (λ z. ap f z ∙ p) (λ z. r q (omega arith)) (eq-cases k n)
-    go false p q r = cc
-
-digit-back : (d : ℕ) → d < 16 → unHex (hexOf d) ≡ d
-unfolding unHex hexOf digits
-digit-back d h = eqb-true _ _ (below (λ (d : ℕ). eqb (unHex (hexOf d)) d) 16 refl d h)
-
 four-back : (w : ℕ) → w < 65536 → unHex4 (hex4 w) ≡ w
-unfolding unHex4 hex4
-four-back w h = rw (digit-back (w / 4096) (omega arith), digit-back (w / 256 % 16) (omega arith), digit-back (w / 16 % 16) (omega arith), digit-back (w % 16) (omega arith)) (omega arith)
+four-back w h = ap unHex4 (sym (append-nil (hex4 w))) ∙ hex4-back w [] h
 
 is-number : (w : ℕ) → w < 65536 → isNumber (hex4 w) ≡ true
 unfolding isNumber
 is-number w h = rw (four-back w h) (same-refl (hex4 w))
 
-module _ (s : List ℕ) (w h : ℕ) (l : w < 65536) where
+module _ (w : ℕ) (l : w < 65536) where
   -- any word after .WORD comes back, whether the reader takes the line or not
-  word-line-again : wordsIn s h (wordLine w) ≡ opOf (w ∷ [])
+  word-line-said : saidOf (wordLine w) ≡ says Plain (opOf (w ∷ []))
   unfolding wordLine isDirective
-  word-line-again =
-      ⊎-elim (λ e. any-word s (wordLine w) h (omega arith) e refl (is-number w l) ∙ ap (λ (x : ℕ). op 1 x) (four-back w l))
-      (λ e. reader-words s (wordLine w) h (omega arith) (rw e (omega arith)) ∙ ap opOf e) (read-word w l)
+  word-line-said =
+      ⊎-elim (λ e. any-said (wordLine w) (omega arith) e refl (is-number w l) ∙ ap (λ (x : ℕ). says Plain (op 1 x)) (four-back w l))
+      (λ e. reader-said (wordLine w) (omega arith) (rw e (omega arith)) ∙ ap (λ (ws : List ℕ). says Plain (opOf ws)) e) (read-word w l)
 
-  pub word-again : wordsIn s h (wordText w) ≡ opOf (w ∷ [])
-  word-again = ap (wordsIn s h) (word-line w) ∙ word-line-again
+  pub word-said : saidOf (wordText w) ≡ says Plain (opOf (w ∷ []))
+  word-said = ap saidOf (word-line w) ∙ word-line-said
+
+  pub word-again : (s : List ℕ) (h : ℕ) → wordsIn s h (wordText w) ≡ opOf (w ∷ [])
+  word-again s h = plain-words s (wordText w) h (opOf (w ∷ [])) word-said
 
   -- .ORG is the origin that its digits are
   pub origin-again : saidOf (originLine w) ≡ says Origin (op 0 w)

@@ -1,3 +1,6 @@
 pub mod Rising
 pub mod Taken
 pub mod Again
+pub mod Padded
+pub mod Pieces
+pub mod Listed

@@ -16,9 +16,9 @@ use Rattle.patchline.specs.Search.{first-none}
 use Rattle.patchline.specs.declared.oneline.How.{How}
 use Rattle.patchline.specs.declared.oneline.How.the-variants.{Unknown, Origin, Plain, Branch, Sob, Relative}
 use Rattle.patchline.specs.declared.oneline.Said.{Said}
-use Rattle.patchline.specs.Line.{labelIn, firstIn, secondIn, saidOf, withLabel, withOffset}
+use Rattle.patchline.specs.Line.{withLabel}
 use Rattle.assembler.specs.Source.{countOf, textAt, saidAt, isOrigin, originAt, endAt, hereOf, overlaps, isOdd, misplaced, valueOf, put, wordsIn}
-use Rattle.assembler.specs.Section.{lowerOf, higherOf, inserted, entryOf, entered, placed}
+use Rattle.assembler.specs.Section.{inserted, entryOf, entered, placed}
 
 -- an entry's address
 abbrev pub addressIn : ℕ → ℕ

@@ -3,25 +3,25 @@
 use mathlib.Core.Path.{_≡_, refl, ap, sym, _∙_}
 use mathlib.Core.Bool.{Bool, true, false, cond}
 use mathlib.Core.Logic.{_⊎_, inl, inr, ⊎-elim}
-use mathlib.Core.List.{List, [], _∷_, _++_, append-assoc}
+use mathlib.Core.List.{List, [], _∷_, _++_}
 use Prim.Native.Nat.{ℕ, zero, suc, _+_, _-_, _*_, _/_, _%_, _≤_, _<_}
 use native.Mathlib.Omega.{arith}
-use lib.Dec.{ltb, leb, eqb}
-use borrow.Author.Tests.{ltb-false, le-leb, eq-eqb}
-use lib.ListN.{length, drop, getD, length-append, length-drop}
+use lib.Dec.{ltb, eqb}
+use borrow.Author.Tests.{le-leb, eq-eqb}
+use lib.ListN.{length, drop, getD, length-drop}
 use lib.Seq.{drop-drop, getD-drop}
 use Rattle.word.specs.Address.{plus}
 use Rattle.words.specs.Words.{byteAt, wordAt}
-use Rattle.refusal.specs.Numbers.{jobEnds, manyWords, addressOdd, addressNotRising, addressUnfitted}
+use Rattle.refusal.specs.Numbers.{addressUnfitted}
 use Rattle.refusal.specs.Page.{first, first-some}
 use Rattle.job.specs.declared.Section.the-variants as section
-use Rattle.job.specs.Job.{cut, whyAddress, whyEntry, whyEntries, whyCount, next}
+use Rattle.job.specs.Job.{whyAddress, whyEntry, whyEntries, whyCount, next}
 use Rattle.optext.specs.declared.Op.{Op}
 use Rattle.assembler.specs.Source.{countOf, textAt, hereOf, wordsIn}
-use Rattle.assembler.specs.Section.{inserted, entryOf, entered, placed, pair, bytesOf, flat, sectionOf}
+use Rattle.assembler.specs.Section.{inserted, entryOf, entered, placed, bytesOf, flat, sectionOf, flat-length}
 use Rattle.assembler.specs.Answer.{assembled, asmOf}
 use Rattle.assembler.specs.Answer as asm
-use Rattle.assembler.specs.Good.{Good, good}
+use Rattle.assembler.specs.Good.{good}
 use Rattle.patches.specs.Rising.{addressIn, Rises, placed-rises}
 
 -- ---- bytes that stand from a place on
@@ -114,11 +114,6 @@ placed-few s (suc i) =
     let h = placed-few s i in
     let k = entered-few (wordsIn s (hereOf s i) (textAt s i)) (hereOf s i) (placed s i) in
     omega arith
-
-flat-length : (l : List ℕ) → length (flat l) ≡ 4 * length l
-unfolding flat
-flat-length [] = refl
-flat-length (e ∷ l) = let h = flat-length l in omega arith
 
 module _ (input rest l : List ℕ) (at : ℕ) (few : length l ≤ 4096) (q : drop at input ≡ sectionOf l ++ rest) where
   bytes : drop at input ≡ length l % 256 ∷ length l / 256 % 256 ∷ (flat l ++ rest)

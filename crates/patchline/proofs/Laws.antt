@@ -3,7 +3,7 @@
 use mathlib.Core.Path.{_≡_, refl, ap, sym, _∙_}
 use mathlib.Core.Bool.{Bool, true, false, cond, _&&_, true≢false}
 use mathlib.Core.List.{List, [], _∷_, _++_}
-use mathlib.Core.Logic.{_⊎_, inl, inr, ⊎-elim}
+use mathlib.Core.Logic.{_⊎_, ⊎-elim}
 use Prim.Native.Nat.{ℕ, zero, suc, _+_, _-_, _≤_, _<_}
 use native.Mathlib.Omega.{arith}
 use borrow.Author.Tests.{eq-eqb, ne-eqb, lt-ltb, le-ltb}
@@ -15,15 +15,11 @@ use Rattle.letters.specs.Over.{over, Left, left, written}
 use Rattle.optext.specs.declared.Op.{Op}
 use Rattle.optext.specs.Digits.{unHex4}
 use Rattle.optext.specs.Read.{same}
-use Rattle.patchline.specs.Search.{lt-cases, first-le}
+use Rattle.optext.specs.Choose.{lt-cases, bool-cases, first-le}
 use Rattle.patchline.specs.Text.{partOf, endFrom, gives, isName, pastOf, placeOf, isAt, nameIn, labelOf}
 use Rattle.patchline.specs.Line.{operandsAt, commaAt, firstIn, secondIn, bare, atOf, labelIn, filledIn, aliasOf, tailOf, filled, isDirective, opIn, says, op, saidOf, saidWith, isBranch, isSob}
 use Rattle.patchline.specs.declared.oneline.How.the-variants.{Origin, Plain}
 use Rattle.patchline.specs.declared.oneline.Said.{Said}
-
-pub bool-cases : (b : Bool) → (b ≡ false) ⊎ (b ≡ true)
-bool-cases true = inr refl
-bool-cases false = inl refl
 
 -- parts of a text
 pub part-none : (a e : ℕ) (t : List ℕ) → e ≤ a → [] ≡ partOf a e t

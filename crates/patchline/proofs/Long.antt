@@ -15,10 +15,11 @@ use Rattle.optext.specs.Guess.{guessOf}
 use Rattle.optext.specs.Words.{wordsOf}
 use Rattle.optext.specs.Longest.{line-le}
 use Rattle.optext.specs.Read.{same, same-eq, readFrom, readOf}
-use Rattle.patchline.specs.Search.{lt-cases, first-ge}
+use Rattle.optext.specs.Choose.{lt-cases, bool-cases}
+use Rattle.patchline.specs.Search.{first-ge}
 use Rattle.patchline.specs.Text.{partOf, placeOf, isAt, isName}
 use Rattle.patchline.specs.Line.{operandsAt, commaAt, firstIn, secondIn, bare, atOf, filledIn, aliasOf, tailOf, filled, opIn, op}
-use Rattle.patchline.proofs.Laws.{bool-cases, name-six, filled-label, filled-plain, tail-some, tail-none}
+use Rattle.patchline.proofs.Laws.{name-six, filled-label, filled-plain, tail-some, tail-none}
 
 -- no op code has a text over 24
 read-long : (s : List ℕ) → 24 < length s → readOf s ≡ []

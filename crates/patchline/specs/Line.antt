@@ -1,11 +1,10 @@
 -- What the rest of a line says. A label in it stands for digits: the text with zeros in its place is read by 01's reader, and what the label comes to is put in later.
 -- Assumes nothing.
-use mathlib.Core.Bool.{Bool, true, false, cond, not, _&&_, _||_}
+use mathlib.Core.Bool.{Bool, true, false, cond, _&&_, _||_}
 use mathlib.Core.List.{List, [], _∷_, _++_}
-use Prim.Native.Nat.{ℕ, zero, suc, _+_, _-_, _*_, _/_, _%_}
-use Prim.Native.Char.{code}
+use Prim.Native.Nat.{ℕ, _+_, _/_, _%_}
 use lib.Dec.{ltb, leb, eqb}
-use lib.ListN.{length, take, drop, getD}
+use lib.ListN.{length, drop, getD}
 use Rattle.letters.specs.Digits.{letters, hex4}
 use Rattle.optext.specs.declared.Op.{Op}
 use Rattle.optext.specs.Digits.{unHex4}

@@ -1,4 +1,4 @@
--- The refusal numbers of the page and of document 02, by what they refuse. 6 to 10 and 30 to 32 are the text's: optext Answer.
+-- The refusal numbers of the page and of document 02, by what they refuse. 6, 7, 9 and 30 to 32 are the text's alone: optext Answer has them, beside 8 and 10.
 use Prim.Native.Nat.{ℕ}
 
 -- ---- what the processor is lent
@@ -23,6 +23,15 @@ linesLength = 4
 
 abbrev pub lineBit : ℕ
 lineBit = 5
+
+-- ---- what is lent to be written is too short
+
+-- a text; an output, or the words of a text that is read
+abbrev pub textShort : ℕ
+textShort = 8
+
+abbrev pub outputShort : ℕ
+outputShort = 10
 
 -- ---- a job
 

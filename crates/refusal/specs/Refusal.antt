@@ -1,6 +1,6 @@
 -- Refusals 1, 2, 3, 35, 4 and 5 of what the processor is lent, 0 for none; in this order.
 use Prim.Native.Nat.{ℕ, _+_, _/_, _%_, _<_, _≤_}
-use mathlib.Core.Bool.{Bool, true, false, _&&_, cond}
+use mathlib.Core.Bool.{Bool, true, false, _&&_, cond, _||_, true≢false}
 use mathlib.Core.List.{List, [], _∷_}
 use mathlib.Core.Path.{_≡_, refl}
 use native.Mathlib.Numerals.{add-one}
@@ -68,7 +68,13 @@ pub record Sound (size : ℕ) (map : List ℕ) : Type 0 where
   pub bytes : size ≡ 65536
   pub pages : length map ≡ 256
 
-cond-none : (b : Bool) (k : ℕ) → (k ≡ 0 → ⊥) → cond b 0 k ≡ 0 → b ≡ true
+-- of two tests that don't refuse, neither does
+pub neither : (a b : Bool) → a || b ≡ false → (a ≡ false) × (b ≡ false)
+neither true b e = absurd (true≢false e)
+neither false b e = (refl, e)
+
+-- a number that is told where a test fails, and isn't told
+pub cond-none : (b : Bool) (k : ℕ) → (k ≡ 0 → ⊥) → cond b 0 k ≡ 0 → b ≡ true
 cond-none true k n e = refl
 cond-none false k n e = absurd (n e)
 

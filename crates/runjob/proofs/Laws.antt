@@ -1,7 +1,7 @@
 -- From the callees' promises to bench's line.
 use Prim.Native.Nat.{ℕ, zero, suc}
 use mathlib.Core.List.{List}
-use mathlib.Core.Path.{_≡_, refl, sym, ap, _∙_}
+use mathlib.Core.Path.{_≡_, sym, ap, _∙_}
 use lib.ListN.{length, take}
 use Rattle.state.specs.declared.State.{State}
 use Rattle.state.specs.declared.Settings.{Settings}
@@ -15,7 +15,7 @@ use Rattle.machine.specs.Entry.{left, runWhy, finishedPage, ended, runPage}
 use Rattle.machine.specs.Answered.{run-done}
 use Rattle.job.specs.declared.Answer.{Answer}
 use Rattle.job.specs.declared.Answer.the-variants as Answer
-use Rattle.job.specs.Job.{After, after, linesAt, imageOf, mapOf, linesOf, lineWords, whyRead, pageOf, jobOf}
+use Rattle.job.specs.Job.{after, linesAt, imageOf, mapOf, linesOf, lineWords, whyRead, pageOf, jobOf}
 use Rattle.letters.specs.Over.{Left, written}
 use Rattle.line.specs.Line.{refusedText}
 use Rattle.report.specs.Report.{benchBoard, endText}

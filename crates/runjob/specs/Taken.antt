@@ -18,7 +18,7 @@ use Rattle.machine.specs.Back.{state-one}
 use Rattle.machine.specs.Answered.{power-answer}
 use Rattle.job.specs.declared.Answer.{Answer}
 use Rattle.job.specs.declared.Answer.the-variants as Answer
-use Rattle.job.specs.Job.{After, after, linesAt, imageOf, mapOf, linesOf, lineWords, whyRead, pageOf, jobOf}
+use Rattle.job.specs.Job.{after, linesAt, imageOf, mapOf, linesOf, lineWords, whyRead, pageOf, jobOf}
 use Rattle.job.specs.Sound.{job-taken}
 use Rattle.report.specs.Report.{benchBoard}
 

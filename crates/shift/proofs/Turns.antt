@@ -1,5 +1,5 @@
 -- One turn more, and the bit that N is on a byte. Assumes nothing.
-use Prim.Native.Nat.{ℕ, suc, _+_}
+use Prim.Native.Nat.{ℕ, _+_}
 use mathlib.Core.Path.{_≡_, refl}
 use native.Mathlib.Numerals.{add-one}
 use Rattle.shift.specs.declared.Turn.{Turn}

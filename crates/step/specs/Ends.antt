@@ -1,7 +1,7 @@
 -- A step's ends: from what the work came to on the board to the step's definition on the image alone.
 use Prim.Native.Nat.{ℕ}
 use mathlib.Core.List.{List}
-use mathlib.Core.Path.{_≡_, refl, sym, ap, _∙_}
+use mathlib.Core.Path.{_≡_, refl, sym, ap}
 use native.Mathlib.Omega.{arith}
 use lib.ListN.{set, replicate}
 use Rattle.board.specs.Work.{value, blank, run}

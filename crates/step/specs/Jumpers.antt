@@ -3,7 +3,7 @@ use Prim.Native.Nat.{ℕ, _+_, _*_, _≤_}
 use native.Mathlib.Omega.{arith}
 use mathlib.Core.Bool.{Bool, true, false, cond}
 use mathlib.Core.List.{List}
-use mathlib.Core.Path.{_≡_, refl, ap, _∙_}
+use mathlib.Core.Path.{_≡_, refl, ap}
 use Rattle.board.specs.Work.{Came, value, blank, run, fitted, wordAt, found}
 use Rattle.board.specs.Bind.{_>>=_}
 use Rattle.word.specs.Number.{digit}
@@ -12,11 +12,11 @@ use Rattle.state.specs.declared.Outside.{Outside}
 use Rattle.state.specs.declared.Settings.{Settings}
 use Rattle.state.specs.declared.Mode.{Mode}
 use Rattle.state.specs.declared.Mode.the-variants.{Running, Waiting, PowerHalt, SwitchHalt, Locked, Saved}
-use Rattle.state.specs.State.{modeNumber, withPc, withMode, psOf, cleared, heard}
+use Rattle.state.specs.State.{modeNumber, withPc, withMode, psOf, cleared}
 use Rattle.state.specs.Stack.{fromLoc}
 use Rattle.step.specs.declared.Kind.{Kind}
 use Rattle.step.specs.declared.Kind.the-variants.{OpCode, HaltEnd, Restarts, Waits, Stuck}
-use Rattle.step.specs.Step.{After, Up, up, orElse, orLocked, haltOption, powerUpOption, raised, hears, kindIn, kindOf, restart, workOf, causeOf, errorOf, stepOf, powerUpOf}
+use Rattle.step.specs.Step.{After, up, orElse, orLocked, haltOption, powerUpOption, raised, hears, kindIn, workOf, causeOf, errorOf, stepOf, powerUpOf}
 
 pub record Eleven (settings : Settings) : Type 0 where
   pub powerup : settings .powerup ≡ 3

@@ -23,7 +23,7 @@ use Rattle.step.specs.declared.Kind.the-variants.{OpCode, NonVectored, V
 use Rattle.step.specs.declared.Cause.the-variants as Cause
 use Rattle.step.specs.Execute.{execute, byFormat, further}
 use Rattle.step.specs.Xct.{begun, trace, carry, traced, opWork}
-use Rattle.step.specs.Step.{After, after, haltOption, raised, asked, hears, kindIn, kindOf, workOf, stepOf}
+use Rattle.step.specs.Step.{after, haltOption, raised, asked, hears, kindIn, kindOf, workOf, stepOf}
 use Rattle.step.specs.Ends.{step-well}
 
 -- a running processor comes to the op code that stands at its PC

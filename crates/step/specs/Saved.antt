@@ -9,7 +9,7 @@ use lib.Dec.{eqb}
 use lib.ListN.{length, getD, set, length-set}
 use lib.Seq.{getD-set-same, getD-set-other}
 use borrow.Author.Tests.{eqb-true}
-use Rattle.board.specs.Work.{Work, word, value, run, fitted, writable, even, wordAt, withWord}
+use Rattle.board.specs.Work.{word, value, run, fitted, writable, even, wordAt, withWord}
 use Rattle.board.specs.Bind.{_>>=_}
 use Rattle.board.specs.Laws.{size-put}
 use Rattle.board.specs.Follows.{put-apart}
@@ -24,7 +24,7 @@ use Rattle.state.specs.Registers.{regOf, setReg}
 use Rattle.step.specs.declared.Kind.the-variants.{Saves, Restores, Waits}
 use Rattle.step.specs.declared.Cause.the-variants as Cause
 use Rattle.step.specs.Places.{placeOf, keep, pickUp, keepRegisters, pickUpRegisters, save, restore}
-use Rattle.step.specs.Step.{after, hears, kindIn, kindOf, workOf, stepOf}
+use Rattle.step.specs.Step.{after, kindIn, kindOf, workOf, stepOf}
 use Rattle.step.specs.Ends.{step-well}
 
 -- ---- the image after a save

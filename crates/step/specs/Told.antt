@@ -12,7 +12,6 @@ use Rattle.state.specs.State.{withMode}
 use Rattle.step.specs.declared.Kind.{Kind}
 use Rattle.step.specs.declared.Kind.the-variants.{OpCode, HaltEnd, Boots, Saves, LocksUp, Restarts, Restores, NonVectored, Vectored, Waits, Stuck}
 use Rattle.step.specs.declared.Cause.the-variants.{LockedAt}
-use Rattle.step.specs.declared.Told.{Told}
 use Rattle.step.specs.declared.Told.the-variants.{Nowhere, At}
 use Rattle.step.specs.Step.{After, after, addressOf, causeOf, errorCauseOf, kindOf, workOf, busError, orElse, errorOf, stepOf}
 use Rattle.step.specs.Ends.{step-well}

@@ -1,7 +1,8 @@
-// Reads the text of an op code, a line of standard input, and prints its words; a line of words in hex is written as text. A line that is refused is printed with a mark under its column and the reason in words.
+// Reads the text of an op code, a line of standard input, and prints its words; a line of words in hex is written as text. A line that is refused is printed with a mark under its column and the reason in words. An input of over 65,536 bytes is not answered: standard error says so.
 ghost use Prim.Native.Nat.{_≤_, _<_};
 ghost use lib.ListN.{length};
 use letters::put_hex4;
+use libc::STDERR_FILENO;
 use libc::STDIN_FILENO;
 use libc::STDOUT_FILENO;
 use optext::ReadBack;
@@ -208,8 +209,24 @@ fn answer_all(input: &[u8]) {
     }
 }
 
+// Is there a byte after those that were read?
+fn more() -> bool {
+    let mut next = [0u8; 1];
+    0 < io::read_full(STDIN_FILENO, &mut next)
+}
+
+fn say_long() {
+    io::write_all(STDERR_FILENO, b"the input is longer than 65536 bytes\n");
+}
+
 fn main() {
     let mut input = io::large_buffer();
     let got = io::read_full(STDIN_FILENO, &mut input);
+    if got == input.len() {
+        if more() {
+            say_long();
+            return;
+        }
+    }
     answer_all(&input[..got]);
 }

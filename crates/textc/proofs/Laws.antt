@@ -1,12 +1,12 @@
 -- From the code's facts to what the exported calls leave.
-use Prim.Native.Nat.{ℕ, zero, suc, _/_, _%_, _≤_, _<_}
+use Prim.Native.Nat.{ℕ, _/_, _%_, _≤_, _<_}
 use mathlib.Core.Bool.{Bool, true, false, cond}
-use mathlib.Core.List.{List, [], _∷_, _++_, append-nil}
+use mathlib.Core.List.{List, [], _∷_}
 use mathlib.Core.Path.{_≡_, refl, sym, ap, _∙_, subst}
 use native.Mathlib.Omega.{arith}
 use lib.Dec.{ltb}
-use lib.ListN.{length, take, drop, getD, length-take}
-use lib.Seq.{sets, take-length, drop-length, length-take-le}
+use lib.ListN.{length, take, getD, length-take}
+use lib.Seq.{sets, length-take-le}
 use borrow.Author.Tests.{eq-eqb, ne-eqb, lt-ltb, le-ltb}
 use Rattle.letters.specs.Over.{over}
 use Rattle.letters.specs.Laid.{over-sets}
@@ -17,13 +17,10 @@ use Rattle.optext.specs.declared.Written.the-variants.{Line}
 use Rattle.optext.specs.declared.ReadBack.{ReadBack}
 use Rattle.optext.specs.declared.ReadBack.the-variants.{Words, WordsShort}
 use Rattle.optext.specs.Line.{taken, textOf}
-use Rattle.optext.specs.Answer.{Answer, found, refusal, refusalAt, writtenAs, readAs, writeAnswer, writeBytes, Writes}
+use Rattle.optext.specs.Answer.{Answer, found, refusal, refusalAt, writtenAs, readAs, writeAnswer, Writes}
 use Rattle.optext.specs.Words.{Accepts, RefusedText, Reads}
-use Rattle.textc.specs.Calls.{lent, wordsIn, Left, left, writtenIn, writeCall, readIn, ReadWith, ReadCall}
-
--- a buffer that is as long as what is copied into it is what was copied
-pub copied : (from b b′ : List ℕ) → length b ≡ length from → b′ ≡ take (length from) from ++ drop (length from) b → b′ ≡ from
-copied from b b′ l e = e ∙ rw (take-length from, ← l, drop-length b, append-nil)
+use Rattle.optext.specs.Theorems.{len-3}
+use Rattle.textc.specs.Calls.{lent, wordsIn, Left, left, writtenIn, writeCall, ReadWith, ReadCall}
 
 -- ---- the words that are lent
 
@@ -78,13 +75,6 @@ module _ (b t a : List ℕ) where
   written-line ws e a′ r n m h k q w d z = ap (λ (l : List ℕ). left 0 e l) z ∙ written ws e r (Line n m) h k q w d
 
 -- ---- reading
-
-len-3 : (l : List ℕ) → length l ≡ 3 → getD l 0 0 ∷ getD l 1 0 ∷ getD l 2 0 ∷ [] ≡ l
-len-3 [] e = absurd (omega arith)
-len-3 (a ∷ []) e = absurd (omega arith)
-len-3 (a ∷ b ∷ []) e = absurd (omega arith)
-len-3 (a ∷ b ∷ c ∷ []) e = refl
-len-3 (a ∷ b ∷ c ∷ d ∷ l) e = absurd (omega arith)
 
 -- the first n of three words, stored byte by byte
 module _ (b : List ℕ) (n w x y : ℕ) (h : 6 ≤ length b) where

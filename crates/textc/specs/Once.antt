@@ -5,7 +5,7 @@ use mathlib.Core.List.{List}
 use mathlib.Core.Path.{_≡_, ap, sym, _∙_}
 use Rattle.optext.specs.Answer.{Answer}
 use Rattle.optext.specs.Once.{reads-one}
-use Rattle.textc.specs.Calls.{wordsIn, odd, notAnswer, Left, left, writeCall, readIn, ReadWith, ReadEven, ReadLent, ReadCall}
+use Rattle.textc.specs.Calls.{wordsIn, odd, notAnswer, Left, writeCall, readIn, ReadWith, ReadEven, ReadLent, ReadCall}
 
 -- WRITING HAS ONE OUTCOME
 pub one-written : (b t a : List ℕ) (x y : Left) → x ≡ writeCall b t a → y ≡ writeCall b t a → x ≡ y

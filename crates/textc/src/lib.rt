@@ -2,6 +2,8 @@
 use optext::ReadBack;
 use optext::Written;
 use refusal::number::NO_STATE;
+use refusal::number::OUTPUT_SHORT;
+use refusal::number::TEXT_SHORT;
 use refusal::number::WORDS_ODD;
 use words::high;
 use words::low;
@@ -14,14 +16,10 @@ ghost use Rattle.letters.specs.Over.{over};
 ghost use Rattle.words.specs.Words.{bytesIn};
 ghost use Rattle.textc.specs.Calls as Spec;
 
-// The text's refusals: the text buffer is under 32, no words, a needed next word is missing; the words' buffer is under 3.
-const TEXT_SHORT: u8 = 8;
-
+// The text's own refusals: no words, a needed next word is missing.
 const NO_WORDS: u8 = 6;
 
 const WORD_MISSING: u8 = 7;
-
-const WORDS_SHORT: u8 = 10;
 
 // And those with a column: an unknown mnemonic, a bad operand, a character after a whole text, an early end.
 const UNKNOWN_NAME: u8 = 9;
@@ -124,7 +122,7 @@ pub extern "C" fn wd16_read_text(text: &[u8], words: &mut [u8], answer: &mut [u8
         return WORDS_ODD;
     }
     if words.len() < 6 {
-        return WORDS_SHORT;
+        return OUTPUT_SHORT;
     }
     let mut given = [word_at(words, 0), word_at(words, 2), word_at(words, 4)];
     match optext::read(text, &mut given) {
@@ -133,7 +131,7 @@ pub extern "C" fn wd16_read_text(text: &[u8], words: &mut [u8], answer: &mut [u8
             put_answer(answer, n, 0, 0);
             0
         }
-        ReadBack::WordsShort => WORDS_SHORT,
+        ReadBack::WordsShort => OUTPUT_SHORT,
         ReadBack::EarlyEnd(column) => refused_at(answer, column, EARLY_END),
         ReadBack::AfterText(column) => refused_at(answer, column, AFTER_TEXT),
         ReadBack::UnknownName(column) => refused_at(answer, column, UNKNOWN_NAME),

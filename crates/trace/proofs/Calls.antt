@@ -1,6 +1,6 @@
 -- From a job's reading and its steps to what the public calls leave.
 use Prim.Native.Nat.{ℕ, zero, suc, _+_, _*_, _<_, _≤_}
-use mathlib.Core.List.{List, [], _∷_, _++_}
+use mathlib.Core.List.{List, [], _∷_}
 use mathlib.Core.Path.{_≡_, refl, sym, ap, _∙_}
 use native.Mathlib.Nat.{zero-add}
 use native.Mathlib.Omega.{arith}
@@ -10,16 +10,17 @@ use borrow.Author.Tests.{le-leb, lt-leb}
 use Rattle.words.specs.Words.{wordAt, bytesIn}
 use Rattle.letters.specs.Over.{over}
 use Rattle.step.specs.Step.{After}
+use Rattle.refusal.specs.Numbers.{outputShort}
 use Rattle.refusal.specs.Page.{refused, answered, apart}
 use Rattle.machine.specs.Counted.{trail-length}
 use Rattle.job.specs.declared.Answer.{Answer}
 use Rattle.job.specs.declared.Answer.the-variants as Answer
-use Rattle.job.specs.Job.{after, linesAt, imageOf, mapOf, linesOf, lineWords, whyRead, pageOf, jobOf}
+use Rattle.job.specs.Job.{after, linesAt, mapOf, linesOf, lineWords, whyRead, pageOf, jobOf}
 use Rattle.job.specs.Sound.{lines-length}
 use Rattle.report.specs.Report.{benchBoard}
 use Rattle.runjob.specs.Taken.{Read, read-taken}
 use Rattle.trace.specs.declared.Verdict.{Verdict}
-use Rattle.trace.specs.Trace.{entriesOf, upOf, stepsOf, rightTrace, imageAfter, joined, traceBytes, toldIn, whyTrace, compared, left, checkOf, outputShort, longest, put, makeOf}
+use Rattle.trace.specs.Trace.{entriesOf, upOf, stepsOf, rightTrace, imageAfter, joined, traceBytes, toldIn, whyTrace, compared, left, checkOf, longest, put, makeOf}
 use Rattle.trace.specs.Bytes.{trace-length}
 use Rattle.trace.specs.Walk.{trailUp, imageUp}
 

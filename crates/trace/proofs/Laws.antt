@@ -6,26 +6,24 @@ use mathlib.Core.Path.{_≡_, refl, sym, ap, _∙_}
 use native.Mathlib.Nat.{sub-zero}
 use native.Mathlib.Numerals.{add-one}
 use native.Mathlib.Omega.{arith}
-use lib.Dec.{eqb, leb}
-use lib.ListN.{length, getD, drop, take, set, length-set}
-use lib.Seq.{drop-cons, drop-length, sets, sets-eq, length-take-le}
+use lib.Dec.{leb}
+use lib.ListN.{length, getD, drop, set}
+use lib.Seq.{drop-cons, drop-length, sets}
 use borrow.Author.Tests.{eq-eqb, ne-eqb, le-leb, lt-leb}
-use Rattle.words.specs.Words.{wordAt, low, high, bytesIn}
-use Rattle.letters.specs.Over.{over}
+use Rattle.words.specs.Words.{wordAt, bytesIn}
 use Rattle.state.specs.declared.State.{State}
 use Rattle.state.specs.declared.Settings.{Settings}
 use Rattle.state.specs.State.{heard}
 use Rattle.step.specs.declared.Turn.{Turn}
 use Rattle.step.specs.declared.Cause.{Cause}
 use Rattle.step.specs.declared.Cause.the-variants as Cause
-use Rattle.step.specs.Step.{After, after, stepOf, turnOf, Up, up, powerUpOf}
+use Rattle.step.specs.Step.{After, after, stepOf, up}
 use Rattle.refusal.specs.Numbers.{lineBit, traceCut}
-use Rattle.refusal.specs.Page.{Page, refused, answered, first, first-both, unless, apart, answered-one}
-use Rattle.refusal.specs.Refusal.{allOf, plain, powerRefusal, stepRefusal, linesRefusal, runRefusal, run-sound}
+use Rattle.refusal.specs.Page.{first-both, apart, answered-one}
+use Rattle.refusal.specs.Refusal.{allOf, plain, stepRefusal, linesRefusal, runRefusal, run-sound}
 use Rattle.machine.specs.declared.Stepped.{Stepped}
 use Rattle.machine.specs.declared.Stepped.the-variants as Stepped
-use Rattle.machine.specs.Numbers.{turnPage}
-use Rattle.machine.specs.Entry.{left, powerWhy, stepWhy, runWhy, steppedPage, stepPage, turned}
+use Rattle.machine.specs.Entry.{left, powerWhy, stepWhy, runWhy, steppedPage, stepPage}
 use Rattle.machine.specs.Back.{turn-one}
 use Rattle.machine.specs.Answered.{step-answer}
 use Rattle.machine.specs.Trail.{trailOf, lastOf}

@@ -1,14 +1,15 @@
 -- A trace's bytes and its entries: each gives the other back.
-use Prim.Native.Nat.{ℕ, zero, suc, _+_, _*_, _/_, _%_, _<_, _≤_}
+use Prim.Native.Nat.{ℕ, zero, suc, _+_, _*_, _<_, _≤_}
 use mathlib.Core.Bool.{Bool, true, false, cond}
 use mathlib.Core.List.{List, [], _∷_, _++_, append-assoc, append-nil}
-use mathlib.Core.Path.{_≡_, refl, sym, ap, _∙_}
+use mathlib.Core.Path.{_≡_, refl, ap, _∙_}
 use native.Mathlib.Omega.{arith}
-use lib.ListN.{length, getD, drop, length-append}
+use lib.ListN.{length, drop, length-append}
 use lib.Dec.{leb, eqb}
 use lib.Seq.{drop-cons, drop-length, getD-append-add}
-use borrow.Author.Tests.{le-leb, eq-eqb, leb-true, eqb-true}
+use borrow.Author.Tests.{le-leb, eq-eqb, eqb-true}
 use Rattle.words.specs.Words.{byteAt, wordAt, low, high, bytesIn}
+use Rattle.words.specs.Laws.{word-again, low-of, high-of}
 use Rattle.state.specs.declared.State.{State}
 use Rattle.step.specs.Step.{After}
 use Rattle.refusal.specs.Numbers.{traceCut}
@@ -16,15 +17,6 @@ use Rattle.refusal.specs.Page.{first-both}
 use Rattle.trace.specs.Trace.{entryOf, entriesOf, joined, traceBytes, wordsFrom, entriesFrom, toldIn, whyTrace}
 
 -- ---- words and their bytes
-
-word-again : (v : ℕ) → low v + high v * 256 ≡ v
-word-again v = omega arith
-
-low-of : (x y : ℕ) → x < 256 → (x + y * 256) % 256 ≡ x
-low-of x y h = omega arith
-
-high-of : (x y : ℕ) → x < 256 → (x + y * 256) / 256 ≡ y
-high-of x y h = omega arith
 
 pub bytes-append : (xs ys : List ℕ) → bytesIn (xs ++ ys) ≡ bytesIn xs ++ bytesIn ys
 bytes-append [] ys = refl

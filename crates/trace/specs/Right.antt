@@ -1,17 +1,17 @@
 -- A TRACE IS ACCEPTED IF AND ONLY IF IT IS THE MANUAL'S; what is made is accepted; no call has two outcomes.
-use Prim.Native.Nat.{ℕ, zero, suc, _+_, _*_, _<_, _≤_}
+use Prim.Native.Nat.{ℕ, zero, suc, _+_, _<_}
 use mathlib.Core.Bool.{Bool, true, false, cond}
-use mathlib.Core.List.{List, [], _∷_, _++_}
+use mathlib.Core.List.{List, [], _∷_}
 use mathlib.Core.Path.{_≡_, refl, sym, ap, _∙_}
 use native.Mathlib.Omega.{arith}
-use lib.Dec.{eqb, leb}
+use lib.Dec.{eqb}
 use lib.ListN.{length, take}
 use lib.Seq.{take-append-seam}
 use borrow.Author.Tests.{eqb-true, eq-eqb}
 use Rattle.words.specs.Words.{byteAt}
 use Rattle.letters.specs.Over.{over}
 use Rattle.step.specs.Step.{After}
-use Rattle.refusal.specs.Page.{Page, refused, answered, first, unless, apart, answered-one, first-both}
+use Rattle.refusal.specs.Page.{refused, answered, unless, apart, answered-one, first-both}
 use Rattle.job.specs.Job.{whyRead, mapOf, linesOf}
 use Rattle.trace.specs.declared.Verdict.{Verdict}
 use Rattle.trace.specs.declared.Verdict.the-variants.{Accepted, Wrong, Missing, Extra}
@@ -19,7 +19,7 @@ use Rattle.trace.specs.declared.Checked.{Checked}
 use Rattle.trace.specs.declared.Checked.the-variants as Checked
 use Rattle.trace.specs.declared.Made.{Made}
 use Rattle.trace.specs.declared.Made.the-variants as Made
-use Rattle.trace.specs.Trace.{entryOf, entriesOf, stepsOf, rightTrace, imageAfter, traceBytes, wordsFrom, entriesFrom, toldIn, whyTrace, orElse, differ, compared, verdictOf, Left, left, checkedPage, whyCheck, checkOf, madePage, whyMake, outputShort, longest, Put, put, makeOf}
+use Rattle.trace.specs.Trace.{entryOf, entriesOf, stepsOf, rightTrace, imageAfter, traceBytes, wordsFrom, entriesFrom, toldIn, whyTrace, orElse, differ, compared, verdictOf, Left, left, checkedPage, whyCheck, checkOf, madePage, whyMake, put, makeOf}
 use Rattle.trace.specs.Bytes.{right-ten, words-length, told-again, taken-again, bytes-back}
 
 -- ---- entries that are the same, and only those, are accepted

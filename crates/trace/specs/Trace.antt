@@ -11,7 +11,7 @@ use Rattle.state.specs.State.{modeNumber, psOf, heard}
 use Rattle.step.specs.declared.Cause.the-variants as Cause
 use Rattle.step.specs.Step.{After, after, Up, powerUpOf}
 use Rattle.letters.specs.Over.{over}
-use Rattle.refusal.specs.Numbers.{traceCut}
+use Rattle.refusal.specs.Numbers.{outputShort, traceCut}
 use Rattle.refusal.specs.Page.{Page, refused, answered, first, unless}
 use Rattle.machine.specs.Numbers.{registers}
 use Rattle.machine.specs.Trail.{trailOf, lastOf}
@@ -144,9 +144,6 @@ madePage (Made.Bytes n) = answered n
 madePage (Made.Refused why) = refused why
 
 -- 10: fewer bytes are lent than the longest trace has, of 4,096 entries
-abbrev pub outputShort : ℕ
-outputShort = 10
-
 abbrev pub longest : ℕ
 longest = 81922
 

@@ -40,10 +40,8 @@ pub enum Made {
     Refused(u8),
 }
 
-// The bytes of the longest trace, of 4,096 entries, and the refusal of fewer.
+// The bytes of the longest trace, of 4,096 entries.
 const LONGEST: usize = 81922;
-
-const OUTPUT_SHORT: u8 = 10;
 
 // ---- the right trace
 
@@ -301,7 +299,7 @@ pub fn make(
         return Made::Refused(why);
     }
     if out.len() < LONGEST {
-        return Made::Refused(OUTPUT_SHORT);
+        return Made::Refused(number::OUTPUT_SHORT);
     }
     match job::read_job(input, image, map, lines) {
         Answer::Lines(count) => {

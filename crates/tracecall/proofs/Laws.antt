@@ -1,13 +1,12 @@
 -- From the check's promise to what the exported call leaves.
 use Prim.Native.Nat.{ℕ, zero, suc}
-use mathlib.Core.List.{List, [], _∷_, _++_, append-nil}
-use mathlib.Core.Path.{_≡_, refl, sym, ap, _∙_}
-use lib.ListN.{length, take, drop}
-use lib.Seq.{take-length, drop-length}
+use mathlib.Core.List.{List}
+use mathlib.Core.Path.{_≡_, refl}
+use lib.ListN.{length}
 use borrow.Author.Tests.{eq-eqb, ne-eqb}
 use Rattle.words.specs.Words.{bytesIn}
 use Rattle.refusal.specs.Numbers.{noState}
-use Rattle.refusal.specs.Page.{Page, refused, answered, first, unless}
+use Rattle.refusal.specs.Page.{refused, answered, first, unless}
 use Rattle.job.specs.Job.{mapOf, linesOf, whyJob, whyRead}
 use Rattle.trace.specs.declared.Verdict.{Verdict}
 use Rattle.trace.specs.declared.Verdict.the-variants.{Accepted, Wrong, Missing, Extra}
@@ -15,10 +14,6 @@ use Rattle.trace.specs.declared.Checked.{Checked}
 use Rattle.trace.specs.declared.Checked.the-variants as Checked
 use Rattle.trace.specs.Trace.{imageAfter, whyTrace, verdictOf, left, checkedPage, checkOf}
 use Rattle.tracecall.specs.Calls.{verdictWords, checkPage, went, checkCall}
-
--- a buffer that is as long as what is copied into it is what was copied
-pub copied : (from b b′ : List ℕ) → length b ≡ length from → b′ ≡ take (length from) from ++ drop (length from) b → b′ ≡ from
-copied from b b′ l e = e ∙ rw (take-length from, ← l, drop-length b, append-nil)
 
 pub verdict-six : (v : Verdict) → length (bytesIn (verdictWords v)) ≡ 6
 verdict-six Accepted = refl

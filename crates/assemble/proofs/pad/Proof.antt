@@ -2,7 +2,6 @@ use mathlib.Core.Path.{_≡_, refl, _∙_}
 use Prim.Native.Nat.{_-_, _≤_}
 use native.Mathlib.Omega.{arith}
 use lib.ListN.{length, length-take, length-drop}
-use borrow.Author.Needs.{needs}
 use Rattle.assemble.proofs.pad.Statement.{statement}
 use Rattle.assemble.proofs.pad.Tie as tie
 
@@ -18,11 +17,14 @@ loop-holds c = (omega arith, refl)
 line-end-requires : tie.Need-line-end-requires Inv-loop μ-loop
 line-end-requires c κs = omega arith
 
+before-cr-requires : tie.Need-before-cr-requires Inv-loop μ-loop
+before-cr-requires c κs = (omega arith, omega arith)
+
 sub-if2 : tie.Need-sub-if2 Inv-loop μ-loop
 sub-if2 c = omega arith
 
 same-length : tie.Need-same-length Inv-loop μ-loop
-same-length c = c .before .before .before .before .loop .inv .1
+same-length c = c .before .before .before .before .before .loop .inv .1
 
 returns : tie.Need-returns Inv-loop μ-loop
 returns c = omega arith
@@ -37,7 +39,7 @@ part-put-line-end : tie.Need-part-put-line-end Inv-loop μ-loop
 part-put-line-end c = omega arith
 
 put-line-requires : tie.Need-put-line-requires Inv-loop μ-loop
-put-line-requires c κs = (omega (arith, c .before .before .before .before .if1 .left), c .before .before .before .before .before .before .loop .inv .1 ∙ c .before .before .before .before .before .before .before .before .before .pre, simp (length-take, length-drop) (omega (arith, c .before .before .if2 .left)))
+put-line-requires c κs = (omega (arith, c .before .before .before .before .before .if1 .left), c .before .before .before .before .before .before .before .loop .inv .1 ∙ c .before .before .before .before .before .before .before .before .before .before .pre, simp (length-take, length-drop) (omega (arith, c .before .before .if2 .left)))
 
 add-k : tie.Need-add-k Inv-loop μ-loop
 add-k c = omega arith
@@ -49,7 +51,7 @@ loop-less : tie.Need-loop-less Inv-loop μ-loop
 loop-less c = omega arith
 
 loop-again : tie.Need-loop-again Inv-loop μ-loop
-loop-again c = (omega arith, c .before .before .before .put-line .kept .0 ∙ c .before .before .before .before .before .before .before .before .before .before .loop .inv .1)
+loop-again c = (omega arith, c .before .before .before .put-line .kept .0 ∙ c .before .before .before .before .before .before .before .before .before .before .before .loop .inv .1)
 
 same-length-2 : tie.Need-same-length-2 Inv-loop μ-loop
 same-length-2 c = c .before .loop .inv .1
@@ -64,7 +66,7 @@ returns-3 : tie.Need-returns-3 Inv-loop μ-loop
 returns-3 c = omega arith
 
 same-length-4 : tie.Need-same-length-4 Inv-loop μ-loop
-same-length-4 c = c .before .before .before .put-line .kept .0 ∙ c .before .before .before .before .before .before .before .before .before .before .loop .inv .1
+same-length-4 c = c .before .before .before .put-line .kept .0 ∙ c .before .before .before .before .before .before .before .before .before .before .before .loop .inv .1
 
 returns-4 : tie.Need-returns-4 Inv-loop μ-loop
 returns-4 c = omega arith
@@ -77,6 +79,7 @@ pad-spec =
     μ-loop
     loop-holds
     line-end-requires
+    before-cr-requires
     sub-if2
     same-length
     returns

@@ -1,7 +1,6 @@
 use Prim.Native.Nat.{ℕ}
 use mathlib.Core.Path.{sym}
 use lib.ListN.{length-replicate}
-use borrow.Author.Needs.{needs}
 use Rattle.check_trace.proofs.trace_buffer.Statement.{statement}
 use Rattle.check_trace.proofs.trace_buffer.Tie as tie
 

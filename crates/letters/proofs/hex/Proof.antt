@@ -1,5 +1,4 @@
 use mathlib.Core.Path.{sym}
-use native.Mathlib.Omega.{arith}
 use lib.ListN.{List·getD-eq-default}
 use Rattle.letters.specs.Digits.{digits, hexOf}
 use borrow.Author.Needs.{needs}

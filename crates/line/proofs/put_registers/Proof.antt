@@ -2,7 +2,7 @@
 -- Assumes nothing.
 use borrow.Author.Needs.{needs}
 use Rattle.letters.specs.Laid.{then, wrote-none}
-use Rattle.line.proofs.Laws.{field-length, fields-more}
+use Rattle.line.specs.Lengths.{field-length, fields-more}
 use Rattle.letters.specs.Over.{Wrote}
 use Rattle.line.specs.Line.{fields}
 use lib.ListN.{length, getD}

@@ -1,10 +1,10 @@
 -- The parts of the line stand one after the other; each has its room, since the buffer has 61 characters.
 -- Assumes nothing.
 use Rattle.letters.specs.Laid.{then, written-is, written-none}
-use Rattle.line.proofs.Laws.{field-length, fields-length, mode-length, line-length}
+use Rattle.line.specs.Lengths.{field-length, fields-length}
+use Rattle.line.proofs.Laws.{mode-length, line-length}
 use Rattle.line.specs.Line.{lineText}
 use native.Mathlib.Omega.{arith}
-use Prim.Native.Nat.{_%_}
 use borrow.Author.Needs.{needs}
 use Rattle.line.proofs.write_line.Statement.{statement}
 use Rattle.line.proofs.write_line.Tie as tie

@@ -1,6 +1,6 @@
 use native.Mathlib.Omega.{arith}
 use Rattle.letters.specs.Laid.{at-part}
-use Rattle.listing.proofs.Laws.{field-length}
+use Rattle.line.specs.Lengths.{field-length}
 use borrow.Author.Needs.{needs}
 use Rattle.listing.proofs.field_at.Statement.{statement}
 use Rattle.listing.proofs.field_at.Tie as tie

@@ -5,7 +5,7 @@ use lib.ListN.{length, getD}
 use Rattle.letters.specs.Over.{Wrote}
 use Rattle.letters.specs.Laid.{then, wrote-none}
 use Rattle.line.specs.Line.{fields}
-use Rattle.listing.proofs.Laws.{field-length, fields-more}
+use Rattle.line.specs.Lengths.{field-length, fields-more}
 use borrow.Author.Needs.{needs}
 use Rattle.listing.proofs.put_fields.Statement.{statement}
 use Rattle.listing.proofs.put_fields.Tie as tie

@@ -4,7 +4,8 @@ use Prim.Native.Nat.{_+_}
 use native.Mathlib.Omega.{arith}
 use lib.Seq.{length-take-le}
 use Rattle.letters.specs.Laid.{then}
-use Rattle.listing.proofs.Laws.{fields-length, whole-count}
+use Rattle.line.specs.Lengths.{fields-length}
+use Rattle.listing.proofs.Laws.{whole-count}
 use borrow.Author.Needs.{needs}
 use Rattle.listing.proofs.put_whole.Statement.{statement}
 use Rattle.listing.proofs.put_whole.Tie as tie

@@ -1,5 +1,4 @@
 use mathlib.Core.Path.{refl}
-use Prim.Native.Nat.{_≤_}
 use native.Mathlib.Omega.{arith}
 use borrow.Author.Tests.{lt-ltb, le-ltb}
 use Rattle.board.specs.Laws.{got-then, got-gone, got-give, word-is, word-none, unread-at}

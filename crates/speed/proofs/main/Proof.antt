@@ -1,7 +1,6 @@
 -- `speed::main` is safe and ends. The measure is what is left of the input. Assumes nothing.
 use borrow.Author.Needs.{needs}
 use Prim.Native.Nat.{_≤_, _-_}
-use lib.ListN.{length}
 use Rattle.speed.proofs.main.Statement.{statement}
 use Rattle.speed.proofs.main.Tie as tie
 

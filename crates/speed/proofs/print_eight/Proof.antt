@@ -1,7 +1,6 @@
 -- `speed::print_eight` is safe and ends. From the last digit to the first. Assumes nothing.
 use borrow.Author.Needs.{needs}
 use Prim.Native.Nat.{_≤_, _-_}
-use lib.ListN.{length}
 use Rattle.speed.proofs.print_eight.Statement.{statement}
 use Rattle.speed.proofs.print_eight.Tie as tie
 

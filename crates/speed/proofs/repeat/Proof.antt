@@ -1,7 +1,6 @@
 -- `speed::repeat` is safe and ends. The measure is the runs that are left. Assumes nothing.
 use borrow.Author.Needs.{needs}
 use Prim.Native.Nat.{_≤_, _-_}
-use lib.ListN.{length}
 use Rattle.speed.proofs.repeat.Statement.{statement}
 use Rattle.speed.proofs.repeat.Tie as tie
 

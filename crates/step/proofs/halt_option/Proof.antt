@@ -4,7 +4,6 @@ use native.Mathlib.Omega.{arith}
 use Rattle.codes.specs.Past.{past}
 use Rattle.step.specs.declared.Kind.the-variants.{Boots, Saves, LocksUp, Restarts}
 use Rattle.step.specs.Step.{haltOption}
-use borrow.Author.Needs.{needs}
 use Rattle.step.proofs.halt_option.Statement.{statement}
 use Rattle.step.proofs.halt_option.Tie as tie
 

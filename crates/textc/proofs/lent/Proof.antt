@@ -1,6 +1,5 @@
 use native.Mathlib.Omega.{arith}
 use Rattle.textc.proofs.Laws.{lent-small, lent-large}
-use borrow.Author.Needs.{needs}
 use Rattle.textc.proofs.lent.Statement.{statement}
 use Rattle.textc.proofs.lent.Tie as tie
 

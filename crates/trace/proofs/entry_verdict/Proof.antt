@@ -1,7 +1,7 @@
-use Prim.Native.Nat.{_≤_, _<_, _-_}
+use Prim.Native.Nat.{_≤_, _-_}
 use mathlib.Core.Path.{_≡_, refl, sym, _∙_}
 use native.Mathlib.Omega.{arith}
-use lib.ListN.{length, drop}
+use lib.ListN.{drop}
 use Rattle.trace.specs.Trace.{wordsFrom, differ}
 use Rattle.trace.specs.Bytes.{words-length}
 use Rattle.trace.proofs.Laws.{words-at, differ-more, differ-here, differ-end}

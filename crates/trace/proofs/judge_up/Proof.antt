@@ -1,6 +1,5 @@
 use mathlib.Core.Path.{_∙_}
 use Rattle.runjob.specs.Taken.{power-taken}
-use borrow.Author.Needs.{needs}
 use Rattle.trace.proofs.judge_up.Statement.{statement}
 use Rattle.trace.proofs.judge_up.Tie as tie
 

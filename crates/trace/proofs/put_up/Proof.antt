@@ -1,4 +1,4 @@
-use mathlib.Core.Path.{refl, _∙_}
+use mathlib.Core.Path.{_∙_}
 use Rattle.runjob.specs.Taken.{power-taken}
 use borrow.Author.Needs.{needs}
 use Rattle.trace.proofs.put_up.Statement.{statement}
