@@ -190,6 +190,10 @@ printf 'pages 00\nscan%s lines%s 0000 x4095\nscan%s\n' "$sixteen" "$most" "$sixt
 printf 'pages 00\nscan%s\n' "$sixteen" >"$made/next.scans"
 after="scan 1: there are over 4,096 line words (refusal 4)"$'\n'$(record "$made/next.scans" 2>/dev/null)
 ends 1 "$after" "$recorded" record "$made/most.scans"
+# More scans than a word can count.
+{ echo 'pages 00'; printf "scan 501${sixteen# 7}\n%.0s" $(seq 65535); echo "scan$sixteen"; } >"$made/many.scans"
+last=$(record "$made/many.scans" 2>/dev/null | tail -18) || true
+[ "$last" = "scan 65535: a reading is not from -500 to 500 (refusal 33)"$'\n'"${after#*$'\n'}" ] || { echo "the scan after 65,535 WRONG: $last"; wrong=1; }
 printf 'pages 10\npages 10\n' >"$made/pages.scans"
 ends 1 'the job is refused (refusal 13)' "$recorded"$'\nhitch: 13: a page is not above the one before it' \
     record "$made/pages.scans"
