@@ -146,6 +146,12 @@ printf 'ADD #0005,R0\n0E0A\n' >"$made/good.text"
 printf 'MOV  R0\n' >"$made/bad.text"
 ends 0 $'15C0 0005\nMBWU R1,R2' "$spoken" ./hitch text --unproved "$made/good.text"
 ends 1 $'MOV  R0\n    ^ bad operand (refusal 30 at column 4)' "$spoken" ./hitch text --unproved <"$made/bad.text"
+# As many bytes as are answered, and one more; no bytes have no answer.
+printf 'NOP\n%.0s' $(seq 16384) >"$made/full.text"
+ends 0 "$(printf '0000\n%.0s' $(seq 16384))" "$spoken" ./hitch text --unproved "$made/full.text"
+echo >>"$made/full.text"
+ends 1 '' "$spoken"$'\nthe input is longer than 65536 bytes' ./hitch text --unproved "$made/full.text"
+ends 0 '' "$spoken" ./hitch text --unproved </dev/null
 
 # A listing: of a sample, by two addresses; refused by number, and wrong use.
 listed() { "$root/hitch" list --unproved "$@"; }
