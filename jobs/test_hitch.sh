@@ -146,6 +146,12 @@ printf 'ADD #0005,R0\n0E0A\n' >"$made/good.text"
 printf 'MOV  R0\n' >"$made/bad.text"
 ends 0 $'15C0 0005\nMBWU R1,R2' "$spoken" ./hitch text --unproved "$made/good.text"
 ends 1 $'MOV  R0\n    ^ bad operand (refusal 30 at column 4)' "$spoken" ./hitch text --unproved <"$made/bad.text"
+# As many bytes as are answered, and one more; no bytes have no answer.
+printf 'NOP\n%.0s' $(seq 16384) >"$made/full.text"
+ends 0 "$(printf '0000\n%.0s' $(seq 16384))" "$spoken" ./hitch text --unproved "$made/full.text"
+echo >>"$made/full.text"
+ends 1 '' "$spoken"$'\nthe input is longer than 65536 bytes' ./hitch text --unproved "$made/full.text"
+ends 0 '' "$spoken" ./hitch text --unproved </dev/null
 
 # A listing: of a sample, by two addresses; refused by number, and wrong use.
 listed() { "$root/hitch" list --unproved "$@"; }
@@ -190,6 +196,10 @@ printf 'pages 00\nscan%s lines%s 0000 x4095\nscan%s\n' "$sixteen" "$most" "$sixt
 printf 'pages 00\nscan%s\n' "$sixteen" >"$made/next.scans"
 after="scan 1: there are over 4,096 line words (refusal 4)"$'\n'$(record "$made/next.scans" 2>/dev/null)
 ends 1 "$after" "$recorded" record "$made/most.scans"
+# More scans than a word can count.
+{ echo 'pages 00'; printf "scan 501${sixteen# 7}\n%.0s" $(seq 65535); echo "scan$sixteen"; } >"$made/many.scans"
+last=$(record "$made/many.scans" 2>/dev/null | tail -18) || true
+[ "$last" = "scan 65535: a reading is not from -500 to 500 (refusal 33)"$'\n'"${after#*$'\n'}" ] || { echo "the scan after 65,535 WRONG: $last"; wrong=1; }
 printf 'pages 10\npages 10\n' >"$made/pages.scans"
 ends 1 'the job is refused (refusal 13)' "$recorded"$'\nhitch: 13: a page is not above the one before it' \
     record "$made/pages.scans"
