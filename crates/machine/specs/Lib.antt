@@ -1,5 +1,6 @@
 pub mod Numbers
 pub mod Run
+pub mod Leg
 pub mod Entry
 pub mod Back
 pub mod Alike

@@ -1,9 +1,10 @@
 -- A step's ends: from what the work came to on the board to the step's definition on the image alone.
-use Prim.Native.Nat.{ℕ}
-use mathlib.Core.List.{List}
-use mathlib.Core.Path.{_≡_, refl, sym, ap}
+use Prim.Native.Nat.{ℕ, zero, suc}
+use mathlib.Core.Bool.{true, false}
+use mathlib.Core.List.{List, [], _∷_}
+use mathlib.Core.Path.{_≡_, refl, sym, ap, _∙_}
 use native.Mathlib.Omega.{arith}
-use lib.ListN.{set, replicate}
+use lib.ListN.{set, replicate, getD}
 use Rattle.board.specs.Work.{value, blank, run}
 use Rattle.board.specs.Exec.{beside, Lent, Board}
 use Rattle.board.specs.Ended.{Fresh}
@@ -14,9 +15,10 @@ use Rattle.state.specs.declared.Settings.{Settings}
 use Rattle.state.specs.declared.Mode.the-variants.{Locked}
 use Rattle.state.specs.State.{withMode, cleared, heard}
 use Rattle.step.specs.declared.Kind.{Kind}
+use Rattle.step.specs.declared.Kind.the-variants.{OpCode, HaltEnd, Boots, Saves, LocksUp, Restarts, Restores, NonVectored, Vectored, Waits, Stuck}
 use Rattle.step.specs.declared.Cause.{Cause}
 use Rattle.step.specs.declared.Cause.the-variants.{LockedAt}
-use Rattle.step.specs.Step.{After, after, kindOf, workOf, busError, causeOf, errorCauseOf, errorOf, stepOf, powerUpOption, up, orLocked, powerUpOf}
+use Rattle.step.specs.Step.{After, after, kindOf, workOf, busError, causeOf, errorCauseOf, errorOf, stepOf, isCode, haltOption, powerUpOption, up, orLocked, powerUpOf}
 
 pub fresh-clear : {map m l l′ : List ℕ} → Board map (beside m l) → l′ ≡ set l 0 0 → Fresh map (beside m l′)
 fresh-clear {l = l} b e = rw e (record { board = board-fresh {l = l} b; empty = none-left l (b .whole) })
@@ -57,3 +59,41 @@ module _ (settings : Settings) (map m : List ℕ) {s t : State} {out : Outside} 
   pub unpowered : {a : ℕ} → s ≡ cleared → out ≡ heard settings 0 → k ≡ powerUpOption settings → run map (workOf k out s) m ≡ blank a → n ≡ m → t ≡ withMode s Locked → up t n ≡ powerUpOf settings map m
   unfolding powerUpOf
   unpowered e o h r f d = rw (f, d, e) (sym (ap (λ c. orLocked c m) (rw (e, o, h) at r)))
+
+-- ---- a step is an op code, or it is not
+
+unlike : true ≡ false → ⊥
+unlike e = let z : _≡_ {A = ℕ} 0 1 = cc in absurd (omega arith)
+
+pub no-code : {k : Kind} → k ≡ OpCode → isCode k ≡ false → ⊥
+no-code e h = unlike (sym (ap isCode e) ∙ h)
+
+pub code-is : (k : Kind) → isCode k ≡ true → k ≡ OpCode
+code-is OpCode e = refl
+code-is HaltEnd e = absurd (unlike (sym e))
+code-is Boots e = absurd (unlike (sym e))
+code-is Saves e = absurd (unlike (sym e))
+code-is LocksUp e = absurd (unlike (sym e))
+code-is Restarts e = absurd (unlike (sym e))
+code-is Restores e = absurd (unlike (sym e))
+code-is NonVectored e = absurd (unlike (sym e))
+code-is Vectored e = absurd (unlike (sym e))
+code-is Waits e = absurd (unlike (sym e))
+code-is Stuck e = absurd (unlike (sym e))
+
+-- no option is an op code
+halt-no-code : (n : ℕ) → isCode (getD (Boots ∷ Saves ∷ LocksUp ∷ []) n Restarts) ≡ false
+halt-no-code zero = refl
+halt-no-code (suc zero) = refl
+halt-no-code (suc (suc zero)) = refl
+halt-no-code (suc (suc (suc n))) = refl
+
+power-no-code : (n : ℕ) (k : Kind) → isCode k ≡ false → isCode (getD (Boots ∷ Restores ∷ k ∷ []) n Restarts) ≡ false
+power-no-code zero k h = refl
+power-no-code (suc zero) k h = refl
+power-no-code (suc (suc zero)) k h = h
+power-no-code (suc (suc (suc n))) k h = refl
+
+pub option-no-code : (settings : Settings) {k : Kind} → k ≡ powerUpOption settings → isCode k ≡ false
+unfolding powerUpOption haltOption
+option-no-code settings e = ap isCode e ∙ power-no-code (settings .powerup) _ (halt-no-code (settings .halt))

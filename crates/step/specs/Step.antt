@@ -7,10 +7,13 @@ use lib.ListN.{getD}
 use Rattle.board.specs.Work.{Work, give, Came, value, blank, run}
 use Rattle.board.specs.Bind.{_>>=_, _>>_}
 use Rattle.board.specs.Exec.{Store, Lent, Board}
+use Rattle.board.specs.Undo.{undone}
 use Rattle.state.specs.declared.State.{State}
 use Rattle.state.specs.declared.Outside.{Outside}
 use Rattle.state.specs.declared.Settings.{Settings}
 use Rattle.state.specs.declared.Mode.{Mode}
+use Rattle.state.specs.declared.Went.{Went}
+use Rattle.state.specs.declared.Went.the-variants as Went
 use Rattle.state.specs.declared.Mode.the-variants.{Running, Waiting, PowerHalt, SwitchHalt, Locked, Saved}
 use Rattle.state.specs.State.{withPc, withMode, psOf, cleared, heard}
 use Rattle.word.specs.Address.{plus, twice}
@@ -249,3 +252,25 @@ pub record Stepped (map : List ℕ) (a : After) (r : Turn) (st : Store) : Type 0
 pub record Powered (map : List ℕ) (u : Up) (s : State) (m : List ℕ) : Type 0 where
   pub came : up s m ≡ u
   pub lent : Lent map m
+
+-- ---- a step that is an op code, and the others
+
+abbrev pub isCode : Kind → Bool
+isCode OpCode = true
+isCode HaltEnd = false
+isCode Boots = false
+isCode Saves = false
+isCode LocksUp = false
+isCode Restarts = false
+isCode Restores = false
+isCode NonVectored = false
+isCode Vectored = false
+isCode Waits = false
+isCode Stuck = false
+
+-- what an op code's work on a board promises: what it comes to; where it was not answered, the log takes back what was done
+pub record Coded (map : List ℕ) (out : Outside) (s : State) (m : List ℕ) (r : Went) (st : Store) : Type 0 where
+  pub done : {t : State} → r ≡ Went.Done t → run map (opWork out s) m ≡ value t (st .image)
+  pub lost : {a : ℕ} → r ≡ Went.Blank a → run map (opWork out s) m ≡ blank a
+  pub back : {a : ℕ} → r ≡ Went.Blank a → undone st ≡ m
+  pub board : Board map st

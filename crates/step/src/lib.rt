@@ -8,7 +8,7 @@ use state::State;
 use state::Went;
 use word::address::plus;
 use xct::op_work;
-ghost use mathlib.Core.Bool.{cond};
+ghost use mathlib.Core.Bool.{cond, false};
 ghost use mathlib.Core.Path.{_≡_};
 ghost use Rattle.board.specs.Exec.{beside, Lent, Board, Saw};
 ghost use Rattle.state.specs.Answer.{Works, wentAs};
@@ -28,7 +28,7 @@ pub(crate) enum Begun {
 }
 
 // What a line word makes of a step: an op code; the end of a halt on power fail; bootstrap, save, lock-up, a fetch from 16, the end of a save; I1, I0; nothing is done; locked.
-pub(crate) enum Kind {
+pub enum Kind {
     OpCode,
     HaltEnd,
     Boots,
@@ -211,7 +211,7 @@ fn kind_in(mode: Mode, hearing: bool, out: Outside) -> Kind
 }
 
 // I0 and I1 are heard where I2 is set and no mark holds them off.
-fn kind_of(s: State, out: Outside) -> Kind
+pub fn kind_of(s: State, out: Outside) -> Kind
     ensures { λ r. ⌜ r ≡ Spec.kindOf s out ⌝ }
 {
     let mode = s.mode;
@@ -253,20 +253,20 @@ fn bootstrap(settings: Settings, s: State) -> State
         .with_pc(0xc000 + settings.register as u16 % 64 * 256)
 }
 
-fn work(
+// The work of a step that is no op code.
+fn seldom(
     s: State,
     image: &mut [u8],
     map: &[u8],
     log: &mut [u16; 32],
     out: Outside,
-    sheet: &[u8; 256],
     k: Kind,
 ) -> Went
-    requires { ⌜ (Board (now map) (beside (now image) (now log))) × (now sheet ≡ table) ⌝ }
+    requires { ⌜ (Board (now map) (beside (now image) (now log))) × (Spec.isCode k ≡ false) ⌝ }
     ensures { λ r. ⌜ Works (now (map .entry)) (Spec.workOf k out s) (now (image .entry)) (now (log .entry)) r (now (image .exit)) (now (log .exit)) ⌝ }
 {
     match k {
-        Kind::OpCode => op_work(s, image, map, log, out, sheet),
+        Kind::OpCode => Went::Done(s),
         Kind::HaltEnd => restart(s, image, map),
         Kind::Boots => Went::Done(bootstrap(out.settings, s)),
         // Options and interrupts are seldom: their work stays out of line.
@@ -297,6 +297,25 @@ fn work(
         }
         Kind::Waits => Went::Done(s),
         Kind::Stuck => Went::Done(s),
+    }
+}
+
+// Is the step an op code?
+pub fn is_code(k: Kind) -> bool
+    ensures { λ r. ⌜ r ≡ Spec.isCode k ⌝ }
+{
+    match k {
+        Kind::OpCode => true,
+        Kind::HaltEnd => false,
+        Kind::Boots => false,
+        Kind::Saves => false,
+        Kind::LocksUp => false,
+        Kind::Restarts => false,
+        Kind::Restores => false,
+        Kind::NonVectored => false,
+        Kind::Vectored => false,
+        Kind::Waits => false,
+        Kind::Stuck => false,
     }
 }
 
@@ -373,7 +392,7 @@ fn bus_error(
 }
 
 // All the work is dropped, which was not answered at `a`; then the bus error, from the state before.
-fn error(
+pub fn error(
     s: State,
     image: &mut [u8],
     map: &[u8],
@@ -399,21 +418,36 @@ fn error(
     }
 }
 
-// One step on a board, with a log that may hold an earlier step's entries, and the plate.
-pub fn step_on(
+// The work of a step that is an op code, with a log that may hold an earlier step's entries, and the plate.
+pub fn op_code(
     s: State,
     image: &mut [u8],
     map: &[u8],
     log: &mut [u16; 32],
     out: Outside,
     sheet: &[u8; 256],
-) -> Turn
+) -> Went
     requires { ⌜ (Board (now map) (beside (now image) (now log))) × (now sheet ≡ table) ⌝ }
+    ensures { λ r. ⌜ Spec.Coded (now (map .entry)) out s (now (image .entry)) r (beside (now (image .exit)) (now (log .exit))) ⌝ }
+{
+    board::clear(log);
+    op_work(s, image, map, log, out, sheet)
+}
+
+// A step that is no op code, with a log that may hold an earlier step's entries.
+pub fn other(
+    s: State,
+    image: &mut [u8],
+    map: &[u8],
+    log: &mut [u16; 32],
+    out: Outside,
+    k: Kind,
+) -> Turn
+    requires { ⌜ (Board (now map) (beside (now image) (now log))) × (k ≡ Spec.kindOf s out) × (Spec.isCode k ≡ false) ⌝ }
     ensures { λ r. ⌜ Spec.Stepped (now (map .entry)) (Spec.stepOf (now (map .entry)) out s (now (image .entry))) r (beside (now (image .exit)) (now (log .exit))) ⌝ }
 {
     board::clear(log);
-    let k = kind_of(s, out);
-    match work(s, image, map, log, out, sheet, k) {
+    match seldom(s, image, map, log, out, k) {
         Went::Done(t) => Turn {
             state: t,
             cause: cause_of(k),
@@ -428,11 +462,10 @@ pub fn power(image: &mut [u8], map: &[u8], settings: Settings) -> State
     ensures { λ r. ⌜ Spec.Powered (now (map .entry)) (Spec.powerUpOf settings (now (map .entry)) (now (image .entry))) r (now (image .exit)) ⌝ }
 {
     let mut log = [0u16; 32];
-    let sheet = plate::PLATE;
     let s = state::cleared();
     let out = state::hear(settings, 0);
     let k = power_up_option(settings);
-    if let Went::Done(t) = work(s, image, map, &mut log, out, &sheet, k) {
+    if let Went::Done(t) = seldom(s, image, map, &mut log, out, k) {
         return t;
     }
     board::rollback(image, &mut log);

@@ -1,40 +1,38 @@
-use mathlib.Core.Path.{refl, sym, _∙_}
-use Rattle.plate.specs.Plate.{formatOf, entries, table}
+use mathlib.Core.Path.{sym, _∙_}
 use Rattle.board.specs.Ended.{ended-well, ended-blank, taken-back}
 use Rattle.state.specs.Answer.{went-is, went-none}
 use Rattle.step.specs.Bounds.{bounded-step}
-use Rattle.step.specs.Ends.{fresh-none, fresh-back, powered, unpowered}
+use Rattle.step.specs.Ends.{fresh-none, fresh-back, powered, unpowered, option-no-code}
 use borrow.Author.Needs.{needs}
 use Rattle.step.proofs.power.Statement.{statement}
 use Rattle.step.proofs.power.Tie as tie
 
-work-requires : tie.Need-work-requires
-unfolding table entries formatOf
-work-requires c κs = ((fresh-none (c .before .before .before .before .before .before .before .before .pre)) .board, refl)
+seldom-requires : tie.Need-seldom-requires
+seldom-requires c κs = ((fresh-none (c .before .before .before .before .before .before .before .pre)) .board, option-no-code _ (c .before .before .power-up-option .ensures))
 
 same-length : tie.Need-same-length
-same-length c = c .before .before .before .before .before .work .ensures .board .lent .size ∙ sym (c .before .before .before .before .before .before .before .before .before .before .before .before .before .before .pre .size)
+same-length c = c .before .before .before .before .before .seldom .ensures .board .lent .size ∙ sym (c .before .before .before .before .before .before .before .before .before .before .before .before .before .pre .size)
 
 returns : tie.Need-returns
 returns c = record {
-  came = powered _ _ _ (c .before .before .before .before .before .before .before .before .before .before .before .cleared .ensures) (c .before .before .before .before .before .before .before .before .before .before .hear .ensures) (c .before .before .before .before .before .before .before .before .before .power-up-option .ensures)
-      (ended-well (fresh-none (c .before .before .before .before .before .before .before .before .before .before .before .before .before .before .pre)) (bounded-step _ _ _) (c .before .before .before .before .before .work .ensures .got) (went-is (c .before .t .given .1)));
-  lent = c .before .before .before .before .before .work .ensures .board .lent;
+  came = powered _ _ _ (c .before .before .before .before .before .before .before .before .before .before .cleared .ensures) (c .before .before .before .before .before .before .before .before .before .hear .ensures) (c .before .before .before .before .before .before .before .before .power-up-option .ensures)
+      (ended-well (fresh-none (c .before .before .before .before .before .before .before .before .before .before .before .before .before .pre)) (bounded-step _ _ _) (c .before .before .before .before .before .seldom .ensures .got) (went-is (c .before .t .given .1)));
+  lent = c .before .before .before .before .before .seldom .ensures .board .lent;
 }
 
 rollback-requires : tie.Need-rollback-requires
-rollback-requires c κs = (c .before .before .before .before .before .before .work .ensures .board .lent .size, c .before .before .before .before .before .before .work .ensures .board .few)
+rollback-requires c κs = (c .before .before .before .before .before .before .seldom .ensures .board .lent .size, c .before .before .before .before .before .before .seldom .ensures .board .few)
 
 same-length-2 : tie.Need-same-length-2
-same-length-2 c = (fresh-back (c .before .before .before .before .before .before .before .before .before .before .work .ensures .board) (c .before .before .before .rollback .ensures .0) (c .before .before .before .rollback .ensures .1)) .board .lent .size ∙ sym (c .before .before .before .before .before .before .before .before .before .before .before .before .before .before .before .before .before .before .before .pre .size)
+same-length-2 c = (fresh-back (c .before .before .before .before .before .before .before .before .before .before .seldom .ensures .board) (c .before .before .before .rollback .ensures .0) (c .before .before .before .rollback .ensures .1)) .board .lent .size ∙ sym (c .before .before .before .before .before .before .before .before .before .before .before .before .before .before .before .before .before .before .pre .size)
 
 returns-2 : tie.Need-returns-2
 returns-2 c = record {
-  came = unpowered _ _ _ (c .before .before .before .before .before .before .before .before .before .before .before .before .before .before .before .before .cleared .ensures) (c .before .before .before .before .before .before .before .before .before .before .before .before .before .before .before .hear .ensures) (c .before .before .before .before .before .before .before .before .before .before .before .before .before .before .power-up-option .ensures)
-      (ended-blank (fresh-none (c .before .before .before .before .before .before .before .before .before .before .before .before .before .before .before .before .before .before .before .pre)) (bounded-step _ _ _) (c .before .before .before .before .before .before .before .before .before .before .work .ensures .got) (went-none (c .before .before .before .before .before .before .enum-told .given .1)))
-      (c .before .before .before .rollback .ensures .0 ∙ taken-back (fresh-none (c .before .before .before .before .before .before .before .before .before .before .before .before .before .before .before .before .before .before .before .pre)) (c .before .before .before .before .before .before .before .before .before .before .work .ensures .got) (went-none (c .before .before .before .before .before .before .enum-told .given .1)))
+  came = unpowered _ _ _ (c .before .before .before .before .before .before .before .before .before .before .before .before .before .before .before .cleared .ensures) (c .before .before .before .before .before .before .before .before .before .before .before .before .before .before .hear .ensures) (c .before .before .before .before .before .before .before .before .before .before .before .before .before .power-up-option .ensures)
+      (ended-blank (fresh-none (c .before .before .before .before .before .before .before .before .before .before .before .before .before .before .before .before .before .before .pre)) (bounded-step _ _ _) (c .before .before .before .before .before .before .before .before .before .before .seldom .ensures .got) (went-none (c .before .before .before .before .before .before .enum-told .given .1)))
+      (c .before .before .before .rollback .ensures .0 ∙ taken-back (fresh-none (c .before .before .before .before .before .before .before .before .before .before .before .before .before .before .before .before .before .before .pre)) (c .before .before .before .before .before .before .before .before .before .before .seldom .ensures .got) (went-none (c .before .before .before .before .before .before .enum-told .given .1)))
       (c .with-mode .ensures);
-  lent = (fresh-back (c .before .before .before .before .before .before .before .before .before .before .work .ensures .board) (c .before .before .before .rollback .ensures .0) (c .before .before .before .rollback .ensures .1)) .board .lent;
+  lent = (fresh-back (c .before .before .before .before .before .before .before .before .before .before .seldom .ensures .board) (c .before .before .before .rollback .ensures .0) (c .before .before .before .rollback .ensures .1)) .board .lent;
 }
 
 pub power-spec : {M : Type 1} → statement M
@@ -44,7 +42,7 @@ power-spec =
     (λ c κs. search needs)
     (λ c κs. search needs)
     (λ c κs. search needs)
-    work-requires
+    seldom-requires
     (λ c. search needs)
     same-length
     returns

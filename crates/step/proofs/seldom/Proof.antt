@@ -1,12 +1,10 @@
 use mathlib.Core.Path.{refl, sym, _∙_}
 use Rattle.board.specs.Laws.{got-give, did}
 use Rattle.step.specs.Step.{workOf}
+use Rattle.step.specs.Ends.{no-code}
 use borrow.Author.Needs.{needs}
-use Rattle.step.proofs.work.Statement.{statement}
-use Rattle.step.proofs.work.Tie as tie
-
-op-work-requires : tie.Need-op-work-requires
-op-work-requires c κs = c .before .before .before .before .before .before .pre
+use Rattle.step.proofs.seldom.Statement.{statement}
+use Rattle.step.proofs.seldom.Tie as tie
 
 restart-requires : tie.Need-restart-requires
 restart-requires c κs = c .before .before .before .before .before .pre .0 .lent
@@ -26,13 +24,8 @@ trap-now-requires c κs = c .before .before .before .before .before .before .bef
 vectored-requires : tie.Need-vectored-requires
 vectored-requires c κs = c .before .before .before .before .before .before .pre .0
 
-same-length : tie.Need-same-length
-same-length c = c .before .before .op-work .ensures .board .lent .size ∙ sym (c .before .before .before .before .before .before .before .before .before .pre .0 .lent .size)
-
 returns : tie.Need-returns
-unfolding workOf
-returns c = rw (c .before .before .before .before .before .enum-told .given .1)
-    (record { got = c .before .before .op-work .ensures .got; board = c .before .before .op-work .ensures .board })
+returns c = absurd (no-code (c .enum-told .given .1) (c .before .before .before .before .pre .1))
 
 returns-2 : tie.Need-returns-2
 unfolding workOf
@@ -44,8 +37,8 @@ unfolding workOf
 returns-3 c = rw (c .before .enum-told3 .given .1)
     (did refl (c .before .before .before .before .before .pre .0) (got-give (c .bootstrap .ensures)))
 
-same-length-3 : tie.Need-same-length-3
-same-length-3 c = c .before .before .before .save .ensures .board .lent .size ∙ sym (c .before .before .before .before .before .before .before .before .before .before .pre .0 .lent .size)
+same-length-2 : tie.Need-same-length-2
+same-length-2 c = c .before .before .before .save .ensures .board .lent .size ∙ sym (c .before .before .before .before .before .before .before .before .before .before .pre .0 .lent .size)
 
 returns-4 : tie.Need-returns-4
 unfolding workOf
@@ -67,16 +60,16 @@ unfolding workOf
 returns-7 c = rw (c .before .before .before .enum-told7 .given .1, c .apart2 .ensures)
     (record { got = c .before .restore .ensures .got; board = c .before .before .before .before .before .before .before .pre .0 })
 
-same-length-6 : tie.Need-same-length-6
-same-length-6 c = c .before .before .before .trap-now .ensures .board .lent .size ∙ sym (c .before .before .before .before .before .before .before .before .before .before .before .pre .0 .lent .size)
+same-length-5 : tie.Need-same-length-5
+same-length-5 c = c .before .before .before .trap-now .ensures .board .lent .size ∙ sym (c .before .before .before .before .before .before .before .before .before .before .before .pre .0 .lent .size)
 
 returns-8 : tie.Need-returns-8
 unfolding workOf
 returns-8 c = rw (c .before .before .before .before .before .before .before .enum-told8 .given .1, c .apart3 .ensures)
     (record { got = (rw (c .before .before .before .before .vector .ensures) at (c .before .before .before .trap-now .ensures)) .got; board = c .before .before .before .trap-now .ensures .board })
 
-same-length-7 : tie.Need-same-length-7
-same-length-7 c = c .before .before .before .vectored .ensures .board .lent .size ∙ sym (c .before .before .before .before .before .before .before .before .before .before .pre .0 .lent .size)
+same-length-6 : tie.Need-same-length-6
+same-length-6 c = c .before .before .before .vectored .ensures .board .lent .size ∙ sym (c .before .before .before .before .before .before .before .before .before .before .pre .0 .lent .size)
 
 returns-9 : tie.Need-returns-9
 unfolding workOf
@@ -93,12 +86,11 @@ unfolding workOf
 returns-11 c = rw (c .enum-told11 .given .1)
     (did refl (c .before .before .before .before .pre .0) (got-give refl))
 
-pub work-spec : {M : Type 1} → statement M
-work-spec =
+pub seldom-spec : {M : Type 1} → statement M
+seldom-spec =
     tie.close
     (tie.spec
     (λ c. search needs)
-    op-work-requires
     (λ c. search needs)
     restart-requires
     (λ c. search needs)
@@ -122,21 +114,20 @@ work-spec =
     (λ c κs. search needs)
     (λ c. search needs)
     (λ c. search needs)
-    same-length
     returns
     (λ c. search needs)
     returns-2
     returns-3
-    same-length-3
+    same-length-2
     returns-4
     returns-5
     (λ c. search needs)
     returns-6
     (λ c. search needs)
     returns-7
-    same-length-6
+    same-length-5
     returns-8
-    same-length-7
+    same-length-6
     returns-9
     returns-10
     returns-11)

@@ -1,0 +1,24 @@
+use Rattle.board.specs.Ended.{ended-well, ended-blank, taken-back}
+use Rattle.state.specs.Answer.{went-is, went-none}
+use Rattle.step.specs.declared.Kind.the-variants.{OpCode}
+use Rattle.step.specs.Step.{workOf}
+use Rattle.step.specs.Bounds.{bounded-step}
+use Rattle.step.specs.Ends.{fresh-clear}
+use borrow.Author.Needs.{needs}
+use Rattle.step.proofs.op_code.Statement.{statement}
+use Rattle.step.proofs.op_code.Tie as tie
+
+op-work-requires : tie.Need-op-work-requires
+op-work-requires c κs = ((fresh-clear (c .before .before .before .before .before .before .pre .0) (c .before .before .clear .ensures)) .board, c .before .before .before .before .before .before .pre .1)
+
+returns : tie.Need-returns
+unfolding workOf
+returns c = record {
+  done = λ e. ended-well (fresh-clear (c .before .before .before .before .before .before .before .before .before .pre .0) (c .before .before .before .before .before .clear .ensures)) (bounded-step OpCode _ _) (c .before .before .op-work .ensures .got) (went-is e);
+  lost = λ e. ended-blank (fresh-clear (c .before .before .before .before .before .before .before .before .before .pre .0) (c .before .before .before .before .before .clear .ensures)) (bounded-step OpCode _ _) (c .before .before .op-work .ensures .got) (went-none e);
+  back = λ e. taken-back (fresh-clear (c .before .before .before .before .before .before .before .before .before .pre .0) (c .before .before .before .before .before .clear .ensures)) (c .before .before .op-work .ensures .got) (went-none e);
+  board = c .before .before .op-work .ensures .board;
+}
+
+pub op-code-spec : {M : Type 1} → statement M
+op-code-spec = tie.close (tie.spec (λ c κs. search needs) op-work-requires (λ c. search needs) returns)
