@@ -1,2 +1,3 @@
 pub mod Format10
+pub mod Direct
 pub mod Bounds

@@ -70,29 +70,25 @@ fn settle(
     Went::Done(s)
 }
 
-// The op code b on words.
-fn on_words(s: State, image: &mut [u8], map: &[u8], log: &mut [u16; 32], b: Binary, op: u16) -> Went
+// The op code on words, with the source x: MOV, which does not read its destination, is told first.
+fn onto_words(s: State, image: &mut [u8], map: &[u8], log: &mut [u16; 32], op: u16, x: u16) -> Went
     requires { ⌜ Board (now map) (beside (now image) (now log)) ⌝ }
-    ensures { λ r. ⌜ Works (now (map .entry)) (Spec.onWords b s op) (now (image .entry)) (now (log .entry)) r (now (image .exit)) (now (log .exit)) ⌝ }
+    ensures { λ r. ⌜ Works (now (map .entry)) (Spec.ontoWords (Spec.binaryCode op) s op x) (now (image .entry)) (now (log .entry)) r (now (image .exit)) (now (log .exit)) ⌝ }
 {
-    let from = op / 64 % 8;
-    let found = locate(image, map, 2, from, s.reg(from), s.regs.pc, op / 512 % 8);
-    let Found::At(source) = found else {
-        return unfound(found);
-    };
-    let t = moved(s, source);
-    let Word::Value(x) = read_word(image, map, source, t.reg(from)) else {
-        return unanswered(source);
-    };
     let to = op % 8;
-    let found = locate(image, map, 2, to, t.reg(to), t.regs.pc, op / 8 % 8);
+    let found = locate(image, map, 2, to, s.reg(to), s.regs.pc, op / 8 % 8);
     let Found::At(place) = found else {
         return unfound(found);
     };
-    let u = moved(t, place);
+    let u = moved(s, place);
+    if op / 4096 == 11 {
+        let done = word::result::mov16(x, u.flags);
+        return operand::write_word(u.with_flags(done.flags), image, map, log, to, place, x);
+    }
     let Word::Value(y) = read_word(image, map, place, u.reg(to)) else {
         return unanswered(place);
     };
+    let b = codes::binary_at(binary_number(op));
     let done = arith::binary::binary(b, x, y, u.flags);
     settle(
         u.with_flags(done.flags),
@@ -104,6 +100,23 @@ fn on_words(s: State, image: &mut [u8], map: &[u8], log: &mut [u16; 32], b: Bina
         place,
         done.value,
     )
+}
+
+// Two operands of a word op code: the source is decoded and read first.
+fn on_words(s: State, image: &mut [u8], map: &[u8], log: &mut [u16; 32], op: u16) -> Went
+    requires { ⌜ Board (now map) (beside (now image) (now log)) ⌝ }
+    ensures { λ r. ⌜ Works (now (map .entry)) (Spec.onWords (Spec.binaryCode op) s op) (now (image .entry)) (now (log .entry)) r (now (image .exit)) (now (log .exit)) ⌝ }
+{
+    let from = op / 64 % 8;
+    let found = locate(image, map, 2, from, s.reg(from), s.regs.pc, op / 512 % 8);
+    let Found::At(source) = found else {
+        return unfound(found);
+    };
+    let t = moved(s, source);
+    let Word::Value(x) = read_word(image, map, source, t.reg(from)) else {
+        return unanswered(source);
+    };
+    onto_words(t, image, map, log, op, x)
 }
 
 // MOVB to a register extends the sign through bit 15.
@@ -145,17 +158,43 @@ fn settle_byte(
     }
 }
 
-// The op code b on bytes.
-fn on_bytes(
-    s: State,
-    image: &mut [u8],
-    map: &[u8],
-    log: &mut [u16; 32],
-    b: ByteBinary,
-    op: u16,
-) -> Went
+// The op code on bytes, with the source x: MOVB, which does not read its destination, is told first.
+fn onto_bytes(s: State, image: &mut [u8], map: &[u8], log: &mut [u16; 32], op: u16, x: u8) -> Went
     requires { ⌜ Board (now map) (beside (now image) (now log)) ⌝ }
-    ensures { λ r. ⌜ Works (now (map .entry)) (Spec.onBytes b s op) (now (image .entry)) (now (log .entry)) r (now (image .exit)) (now (log .exit)) ⌝ }
+    ensures { λ r. ⌜ Works (now (map .entry)) (Spec.ontoBytes (Spec.byteCode op) s op x) (now (image .entry)) (now (log .entry)) r (now (image .exit)) (now (log .exit)) ⌝ }
+{
+    let to = op % 8;
+    let step = byte_step(to);
+    let found = locate(image, map, step, to, s.reg(to), s.regs.pc, op / 8 % 8);
+    let Found::At(place) = found else {
+        return unfound(found);
+    };
+    let u = moved(s, place);
+    if op / 4096 == 13 {
+        let done = word::result::mov8(x, u.flags);
+        return move_byte(
+            u.with_flags(done.flags),
+            image,
+            map,
+            log,
+            to,
+            place,
+            done.value,
+        );
+    }
+    let Byte::Value(y) = read_byte(image, map, place, u.reg(to)) else {
+        return unanswered(place);
+    };
+    let b = codes::byte_binary_at(minus(op / 4096, 12));
+    let done = arith::binary::byte_binary(b, x, y, u.flags);
+    let w = u.with_flags(done.flags);
+    settle_byte(w, image, map, log, b, to, place, done.value)
+}
+
+// Two operands of a byte op code: the source is decoded and read first.
+fn on_bytes(s: State, image: &mut [u8], map: &[u8], log: &mut [u16; 32], op: u16) -> Went
+    requires { ⌜ Board (now map) (beside (now image) (now log)) ⌝ }
+    ensures { λ r. ⌜ Works (now (map .entry)) (Spec.onBytes (Spec.byteCode op) s op) (now (image .entry)) (now (log .entry)) r (now (image .exit)) (now (log .exit)) ⌝ }
 {
     let from = op / 64 % 8;
     let step = byte_step(from);
@@ -168,20 +207,7 @@ fn on_bytes(
     let Byte::Value(x) = read_byte(image, map, source, t.reg(from)) else {
         return unanswered(source);
     };
-    let to = op % 8;
-    let step = byte_step(to);
-    let mode = op / 8 % 8;
-    let found = locate(image, map, step, to, t.reg(to), t.regs.pc, mode);
-    let Found::At(place) = found else {
-        return unfound(found);
-    };
-    let u = moved(t, place);
-    let Byte::Value(y) = read_byte(image, map, place, u.reg(to)) else {
-        return unanswered(place);
-    };
-    let done = arith::binary::byte_binary(b, x, y, u.flags);
-    let w = u.with_flags(done.flags);
-    settle_byte(w, image, map, log, b, to, place, done.value)
+    onto_bytes(t, image, map, log, op, x)
 }
 
 // CMPB C000, MOVB D000, BISB E000 on bytes, the others on words.
@@ -190,14 +216,7 @@ pub fn format10(s: State, image: &mut [u8], map: &[u8], log: &mut [u16; 32], op:
     ensures { λ r. ⌜ Works (now (map .entry)) (Spec.format10 s op) (now (image .entry)) (now (log .entry)) r (now (image .exit)) (now (log .exit)) ⌝ }
 {
     if op < 0xc000 {
-        return on_words(s, image, map, log, codes::binary_at(binary_number(op)), op);
+        return on_words(s, image, map, log, op);
     }
-    on_bytes(
-        s,
-        image,
-        map,
-        log,
-        codes::byte_binary_at(minus(op / 4096, 12)),
-        op,
-    )
+    on_bytes(s, image, map, log, op)
 }

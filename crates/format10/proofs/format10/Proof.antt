@@ -1,4 +1,3 @@
-use mathlib.Core.Path.{sym, _∙_}
 use borrow.Author.Tests.{lt-ltb, le-ltb}
 use Rattle.format10.specs.Format10.{format10}
 use borrow.Author.Needs.{needs}
@@ -6,40 +5,28 @@ use Rattle.format10.proofs.format10.Statement.{statement}
 use Rattle.format10.proofs.format10.Tie as tie
 
 on-words-requires : tie.Need-on-words-requires
-on-words-requires c κs = c .before .before .before .before .before .before .before .pre
+on-words-requires c κs = search needs
 
 same-length : tie.Need-same-length
-same-length c = c .before .before .on-words .ensures .board .lent .size ∙ sym (c .before .before .before .before .before .before .before .before .before .before .pre .lent .size)
+same-length c = search needs
 
 returns : tie.Need-returns
 unfolding format10
-returns c =
-    rw (lt-ltb _ _ (c .before .before .before .before .before .before .before .if1 .taken))
-    (record { got = (rw (c .before .before .before .binary-at .ensures, c .before .before .before .before .binary-number .ensures) at (c .before .before .on-words .ensures)) .got; board = c .before .before .on-words .ensures .board })
+returns c = rw (lt-ltb _ _ (c .before .before .before .before .before .if1 .taken))
+    (record { got = c .before .before .on-words .ensures .got; board = c .before .before .on-words .ensures .board })
 
 on-bytes-requires : tie.Need-on-bytes-requires
-on-bytes-requires c κs = c .before .before .before .before .before .before .before .pre
+on-bytes-requires c κs = search needs
 
 same-length-2 : tie.Need-same-length-2
-same-length-2 c = c .before .before .on-bytes .ensures .board .lent .size ∙ sym (c .before .before .before .before .before .before .before .before .before .before .pre .lent .size)
+same-length-2 c = search needs
 
 returns-2 : tie.Need-returns-2
 unfolding format10
-returns-2 c =
-    rw (le-ltb _ _ (c .before .before .before .before .before .before .before .if1 .left))
-    (record { got = (rw (c .before .before .before .byte-binary-at .ensures, c .before .before .before .before .minus .ensures) at (c .before .before .on-bytes .ensures)) .got; board = c .before .before .on-bytes .ensures .board })
+returns-2 c = rw (le-ltb _ _ (c .before .before .before .before .before .if1 .left))
+    (record { got = c .before .before .on-bytes .ensures .got; board = c .before .before .on-bytes .ensures .board })
 
 pub format10-spec : {M : Type 1} → statement M
 format10-spec =
     tie.close
-    (tie.spec
-    (λ c κs. search needs)
-    (λ c κs. search needs)
-    on-words-requires
-    same-length
-    returns
-    (λ c κs. search needs)
-    (λ c κs. search needs)
-    on-bytes-requires
-    same-length-2
-    returns-2)
+    (tie.spec on-words-requires same-length returns on-bytes-requires same-length-2 returns-2)

@@ -1,104 +1,94 @@
-use mathlib.Core.Path.{refl, sym, _∙_}
-use Rattle.board.specs.Work.{word}
-use Rattle.board.specs.Laws.{got-then, got-gone, did, word-is, word-none}
+use mathlib.Core.Path.{refl, sym, ap, _∙_}
+use Rattle.board.specs.Work.{word, byte}
+use Rattle.board.specs.Laws.{got-then, got-gone, did, word-is, word-none, byte-is, byte-none}
 use Rattle.state.specs.Answer.{went-none, went-store}
-use Rattle.operand.specs.Operand.{found-lost}
+use Rattle.operand.specs.Operand.{located, decoded, writeTo, found-lost}
 use Rattle.operand.specs.Destination.{never-found, never-read, held}
-use Rattle.format10.specs.Format10.{onOperands}
+use Rattle.codes.specs.declared.Binary.the-variants.{Mov}
+use Rattle.format10.specs.Format10.{onOperands, onto, settle-yes, settleByte}
 use borrow.Author.Needs.{needs}
 use Rattle.format10.proofs.on_words.Statement.{statement}
 use Rattle.format10.proofs.on_words.Tie as tie
 
+reg-requires : tie.Need-reg-requires
+reg-requires c κs = search needs
+
 locate-requires : tie.Need-locate-requires
 locate-requires c κs = c .before .before .before .before .pre .lent
 
+enum-known-found : tie.Need-enum-known-found
+enum-known-found c = search needs
+
+enum-told : tie.Need-enum-told
+enum-told c = search needs
+
+unfound-requires : tie.Need-unfound-requires
+unfound-requires c κs = search needs
+
+same-length : tie.Need-same-length
+same-length c = search needs
+
 returns : tie.Need-returns
 unfolding onOperands
-returns c =
-    did (went-store (c .unfound .result)) (c .before .before .before .before .before .before .before .before .pre)
-    (got-gone _ (never-found word _ _ _ refl (c .before .before .before .before .reg .ensures) (c .before .before .before .locate .ensures) (c .before .enum-told .given .1)) refl (found-lost (c .unfound .ensures) (c .before .enum-told .given .1)))
+returns c = did (went-store (c .unfound .result)) (c .before .before .before .before .before .before .before .before .pre) (got-gone _ (never-found word _ _ _ refl (c .before .before .before .before .reg .ensures) (c .before .before .before .locate .ensures) (c .before .enum-told .given .1)) refl (found-lost (c .unfound .ensures) (c .before .enum-told .given .1)))
+
+moved-requires : tie.Need-moved-requires
+moved-requires c κs = search needs
+
+reg-requires-2 : tie.Need-reg-requires-2
+reg-requires-2 c κs = search needs
 
 read-word-requires : tie.Need-read-word-requires
 read-word-requires c κs = c .before .before .before .before .before .before .before .before .before .before .before .pre .lent
 
+enum-known-x : tie.Need-enum-known-x
+enum-known-x c = search needs
+
+enum-told-2 : tie.Need-enum-told-2
+enum-told-2 c = search needs
+
+unanswered-requires : tie.Need-unanswered-requires
+unanswered-requires c κs = search needs
+
+same-length-2 : tie.Need-same-length-2
+same-length-2 c = search needs
+
 returns-2 : tie.Need-returns-2
 unfolding onOperands
-returns-2 c =
-    did (went-store (c .unanswered .result)) (c .before .before .before .before .before .before .before .before .before .before .before .before .before .before .before .pre)
-    (got-gone _ (never-read word _ _ _ refl (c .before .before .before .before .before .before .before .before .before .before .before .reg .ensures) (c .before .before .before .before .before .before .before .before .before .before .locate .ensures) (c .before .before .before .before .before .before .before .before .found .given .1) (c .before .before .before .before .before .before .moved .ensures) (c .before .before .before .before .reg2 .ensures) (c .before .before .before .read-word .ensures) (word-none (c .before .enum-told2 .given .1))) refl (went-none (c .unanswered .ensures)))
+returns-2 c = did (went-store (c .unanswered .result)) (c .before .before .before .before .before .before .before .before .before .before .before .before .before .before .before .pre) (got-gone _ (never-read word _ _ _ refl (c .before .before .before .before .before .before .before .before .before .before .before .reg .ensures) (c .before .before .before .before .before .before .before .before .before .before .locate .ensures) (c .before .before .before .before .before .before .before .before .found .given .1) (c .before .before .before .before .before .before .moved .ensures) (c .before .before .before .before .reg2 .ensures) (c .before .before .before .read-word .ensures) (word-none (c .before .enum-told2 .given .1))) refl (went-none (c .unanswered .ensures)))
 
-locate-requires-2 : tie.Need-locate-requires-2
-locate-requires-2 c κs = c .before .before .before .before .before .before .before .before .before .before .before .before .before .before .before .before .before .pre .lent
+onto-words-requires : tie.Need-onto-words-requires
+onto-words-requires c κs = search needs
+
+same-length-3 : tie.Need-same-length-3
+same-length-3 c = search needs
 
 returns-3 : tie.Need-returns-3
-unfolding onOperands
-returns-3 c =
-    did (went-store (c .unfound2 .result)) (c .before .before .before .before .before .before .before .before .before .before .before .before .before .before .before .before .before .before .before .before .before .pre)
-    (got-then _ (held word _ _ _ refl (c .before .before .before .before .before .before .before .before .before .before .before .before .before .before .before .before .before .reg .ensures) (c .before .before .before .before .before .before .before .before .before .before .before .before .before .before .before .before .locate .ensures) (c .before .before .before .before .before .before .before .before .before .before .before .before .before .before .found .given .1) (c .before .before .before .before .before .before .before .before .before .before .before .before .moved .ensures) (c .before .before .before .before .before .before .before .before .before .before .reg2 .ensures) (c .before .before .before .before .before .before .before .before .before .read-word .ensures) (word-is (c .before .before .before .before .before .before .before .x .given .1))) refl
-    (got-gone _ (never-found word _ _ _ refl (c .before .before .before .before .reg3 .ensures) (c .before .before .before .locate2 .ensures) (c .before .enum-told3 .given .1)) refl (found-lost (c .unfound2 .ensures) (c .before .enum-told3 .given .1))))
-
-read-word-requires-2 : tie.Need-read-word-requires-2
-read-word-requires-2 c κs = c .before .before .before .before .before .before .before .before .before .before .before .before .before .before .before .before .before .before .before .before .before .before .before .before .pre .lent
-
-returns-4 : tie.Need-returns-4
-unfolding onOperands
-returns-4 c =
-    did (went-store (c .unanswered2 .result)) (c .before .before .before .before .before .before .before .before .before .before .before .before .before .before .before .before .before .before .before .before .before .before .before .before .before .before .before .before .pre)
-    (got-then _ (held word _ _ _ refl (c .before .before .before .before .before .before .before .before .before .before .before .before .before .before .before .before .before .before .before .before .before .before .before .before .reg .ensures) (c .before .before .before .before .before .before .before .before .before .before .before .before .before .before .before .before .before .before .before .before .before .before .before .locate .ensures) (c .before .before .before .before .before .before .before .before .before .before .before .before .before .before .before .before .before .before .before .before .before .found .given .1) (c .before .before .before .before .before .before .before .before .before .before .before .before .before .before .before .before .before .before .before .moved .ensures) (c .before .before .before .before .before .before .before .before .before .before .before .before .before .before .before .before .before .reg2 .ensures) (c .before .before .before .before .before .before .before .before .before .before .before .before .before .before .before .before .read-word .ensures) (word-is (c .before .before .before .before .before .before .before .before .before .before .before .before .before .before .x .given .1))) refl
-    (got-gone _ (never-read word _ _ _ refl (c .before .before .before .before .before .before .before .before .before .before .before .reg3 .ensures) (c .before .before .before .before .before .before .before .before .before .before .locate2 .ensures) (c .before .before .before .before .before .before .before .before .found2 .given .1) (c .before .before .before .before .before .before .moved2 .ensures) (c .before .before .before .before .reg4 .ensures) (c .before .before .before .read-word2 .ensures) (word-none (c .before .enum-told4 .given .1))) refl (went-none (c .unanswered2 .ensures))))
-
-settle-requires : tie.Need-settle-requires
-settle-requires c κs = c .before .before .before .before .before .before .before .before .before .before .before .before .before .before .before .before .before .before .before .before .before .before .before .before .before .before .before .before .before .before .before .before .pre
-
-same-length-5 : tie.Need-same-length-5
-same-length-5 c = c .before .before .settle .ensures .board .lent .size ∙ sym (c .before .before .before .before .before .before .before .before .before .before .before .before .before .before .before .before .before .before .before .before .before .before .before .before .before .before .before .before .before .before .before .before .before .before .before .pre .lent .size)
-
-returns-5 : tie.Need-returns-5
-unfolding onOperands
-returns-5 c =
-    record {
-      got = got-then _ (held word _ _ _ refl (c .before .before .before .before .before .before .before .before .before .before .before .before .before .before .before .before .before .before .before .before .before .before .before .before .before .before .before .before .before .before .before .reg .ensures) (c .before .before .before .before .before .before .before .before .before .before .before .before .before .before .before .before .before .before .before .before .before .before .before .before .before .before .before .before .before .before .locate .ensures) (c .before .before .before .before .before .before .before .before .before .before .before .before .before .before .before .before .before .before .before .before .before .before .before .before .before .before .before .before .found .given .1) (c .before .before .before .before .before .before .before .before .before .before .before .before .before .before .before .before .before .before .before .before .before .before .before .before .before .before .moved .ensures) (c .before .before .before .before .before .before .before .before .before .before .before .before .before .before .before .before .before .before .before .before .before .before .before .before .reg2 .ensures) (c .before .before .before .before .before .before .before .before .before .before .before .before .before .before .before .before .before .before .before .before .before .before .before .read-word .ensures) (word-is (c .before .before .before .before .before .before .before .before .before .before .before .before .before .before .before .before .before .before .before .before .before .x .given .1))) refl
-          (got-then _ (held word _ _ _ refl (c .before .before .before .before .before .before .before .before .before .before .before .before .before .before .before .before .before .before .reg3 .ensures) (c .before .before .before .before .before .before .before .before .before .before .before .before .before .before .before .before .before .locate2 .ensures) (c .before .before .before .before .before .before .before .before .before .before .before .before .before .before .before .found2 .given .1) (c .before .before .before .before .before .before .before .before .before .before .before .before .before .moved2 .ensures) (c .before .before .before .before .before .before .before .before .before .before .before .reg4 .ensures) (c .before .before .before .before .before .before .before .before .before .before .read-word2 .ensures) (word-is (c .before .before .before .before .before .before .before .before .y .given .1))) refl
-          ((rw (c .before .before .before .before .before .with-flags .ensures, c .before .before .before .before .before .before .binary .ensures) at (c .before .before .settle .ensures)) .got));
-      board = c .before .before .settle .ensures .board;
-    }
+unfolding onOperands onto
+returns-3 c = record {
+  got = got-then _ (held word _ _ _ refl (c .before .before .before .before .before .before .before .before .before .before .before .before .before .before .before .before .reg .ensures) (c .before .before .before .before .before .before .before .before .before .before .before .before .before .before .before .locate .ensures) (c .before .before .before .before .before .before .before .before .before .before .before .before .before .found .given .1) (c .before .before .before .before .before .before .before .before .before .before .before .moved .ensures) (c .before .before .before .before .before .before .before .before .before .reg2 .ensures) (c .before .before .before .before .before .before .before .before .read-word .ensures) (word-is (c .before .before .before .before .before .before .x .given .1))) refl (c .before .before .onto-words .ensures .got);
+  board = c .before .before .onto-words .ensures .board;
+}
 
 pub on-words-spec : {M : Type 1} → statement M
 on-words-spec =
     tie.close
     (tie.spec
-    (λ c κs. search needs)
+    reg-requires
     locate-requires
-    (λ c. search needs)
-    (λ c. search needs)
-    (λ c κs. search needs)
-    (λ c. search needs)
+    enum-known-found
+    enum-told
+    unfound-requires
+    same-length
     returns
-    (λ c κs. search needs)
-    (λ c κs. search needs)
+    moved-requires
+    reg-requires-2
     read-word-requires
-    (λ c. search needs)
-    (λ c. search needs)
-    (λ c κs. search needs)
-    (λ c. search needs)
+    enum-known-x
+    enum-told-2
+    unanswered-requires
+    same-length-2
     returns-2
-    (λ c κs. search needs)
-    locate-requires-2
-    (λ c. search needs)
-    (λ c. search needs)
-    (λ c κs. search needs)
-    (λ c. search needs)
-    returns-3
-    (λ c κs. search needs)
-    (λ c κs. search needs)
-    read-word-requires-2
-    (λ c. search needs)
-    (λ c. search needs)
-    (λ c κs. search needs)
-    (λ c. search needs)
-    returns-4
-    (λ c κs. search needs)
-    (λ c κs. search needs)
-    settle-requires
-    same-length-5
-    returns-5)
+    onto-words-requires
+    same-length-3
+    returns-3)

@@ -1,0 +1,137 @@
+use mathlib.Core.Path.{refl, sym, ap, _∙_}
+use Rattle.board.specs.Work.{word, byte}
+use Rattle.board.specs.Laws.{got-then, got-gone, did, word-is, word-none, byte-is, byte-none}
+use Rattle.state.specs.Answer.{went-none, went-store}
+use Rattle.operand.specs.Operand.{located, decoded, writeTo, found-lost}
+use Rattle.operand.specs.Destination.{never-found, never-read, held}
+use Rattle.codes.specs.declared.Binary.the-variants.{Mov}
+use Rattle.format10.specs.Format10.{onOperands, onto, settle-yes, settleByte}
+use Rattle.format10.specs.Direct.{placed, mov-code, word-there}
+use borrow.Author.Needs.{needs}
+use Rattle.format10.proofs.onto_words.Statement.{statement}
+use Rattle.format10.proofs.onto_words.Tie as tie
+
+reg-requires : tie.Need-reg-requires
+reg-requires c κs = search needs
+
+locate-requires : tie.Need-locate-requires
+locate-requires c κs = c .before .before .before .before .pre .lent
+
+enum-known-found : tie.Need-enum-known-found
+enum-known-found c = search needs
+
+enum-told : tie.Need-enum-told
+enum-told c = search needs
+
+unfound-requires : tie.Need-unfound-requires
+unfound-requires c κs = search needs
+
+same-length : tie.Need-same-length
+same-length c = search needs
+
+returns : tie.Need-returns
+unfolding onto
+returns c = did (went-store (c .unfound .result)) (c .before .before .before .before .before .before .before .before .pre) (got-gone _ (never-found word _ _ _ refl (c .before .before .before .before .reg .ensures) (c .before .before .before .locate .ensures) (c .before .enum-told .given .1)) refl (found-lost (c .unfound .ensures) (c .before .enum-told .given .1)))
+
+moved-requires : tie.Need-moved-requires
+moved-requires c κs = search needs
+
+mov16-requires : tie.Need-mov16-requires
+mov16-requires c κs = search needs
+
+with-flags-requires : tie.Need-with-flags-requires
+with-flags-requires c κs = search needs
+
+write-word-requires : tie.Need-write-word-requires
+write-word-requires c κs = c .before .before .before .before .before .before .before .before .before .before .before .before .before .before .pre
+
+same-length-2 : tie.Need-same-length-2
+same-length-2 c = c .before .before .write-word .ensures .board .lent .size ∙ sym (c .before .before .before .before .before .before .before .before .before .before .before .before .before .before .before .before .before .pre .lent .size)
+
+returns-2 : tie.Need-returns-2
+unfolding onto
+returns-2 c = rw (mov-code _ (c .before .before .before .before .before .before .before .if1 .taken))
+    (record {
+      got = placed word _ _ _ _ _ _ _ _ (decoded word _ _ _ (located word _ _ _ (c .before .before .before .before .before .before .before .before .before .before .before .before .locate .result) refl (c .before .before .before .before .before .before .before .before .before .before .before .before .before .reg .ensures) (c .before .before .before .before .before .before .before .before .before .before .before .before .locate .ensures)) (c .before .before .before .before .before .before .before .before .before .before .found .given .1) (c .before .before .before .before .before .before .before .before .moved .ensures)) (λ y. settle-yes Mov _ _ _ _ refl) (λ a which w e. word-there _ _ _ a which w _ e) ((rw (c .before .before .before .before .before .with-flags .ensures, c .before .before .before .before .before .before .mov16 .ensures) at (c .before .before .write-word .ensures)) .got);
+      board = c .before .before .write-word .ensures .board;
+    })
+
+reg-requires-2 : tie.Need-reg-requires-2
+reg-requires-2 c κs = search needs
+
+read-word-requires : tie.Need-read-word-requires
+read-word-requires c κs = c .before .before .before .before .before .before .before .before .before .before .before .before .pre .lent
+
+enum-known-y : tie.Need-enum-known-y
+enum-known-y c = search needs
+
+enum-told-2 : tie.Need-enum-told-2
+enum-told-2 c = search needs
+
+unanswered-requires : tie.Need-unanswered-requires
+unanswered-requires c κs = search needs
+
+same-length-3 : tie.Need-same-length-3
+same-length-3 c = search needs
+
+returns-3 : tie.Need-returns-3
+unfolding onto
+returns-3 c = did (went-store (c .unanswered .result)) (c .before .before .before .before .before .before .before .before .before .before .before .before .before .before .before .before .pre) (got-gone _ (never-read word _ _ _ refl (c .before .before .before .before .before .before .before .before .before .before .before .before .reg .ensures) (c .before .before .before .before .before .before .before .before .before .before .before .locate .ensures) (c .before .before .before .before .before .before .before .before .before .found .given .1) (c .before .before .before .before .before .before .before .moved .ensures) (c .before .before .before .before .reg2 .ensures) (c .before .before .before .read-word .ensures) (word-none (c .before .enum-told2 .given .1))) refl (went-none (c .unanswered .ensures)))
+
+binary-number-requires : tie.Need-binary-number-requires
+binary-number-requires c κs = search needs
+
+binary-at-requires : tie.Need-binary-at-requires
+binary-at-requires c κs = search needs
+
+binary-requires : tie.Need-binary-requires
+binary-requires c κs = search needs
+
+with-flags-requires-2 : tie.Need-with-flags-requires-2
+with-flags-requires-2 c κs = search needs
+
+settle-requires : tie.Need-settle-requires
+settle-requires c κs = c .before .before .before .before .before .before .before .before .before .before .before .before .before .before .before .before .before .before .before .before .before .before .pre
+
+same-length-4 : tie.Need-same-length-4
+same-length-4 c = c .before .before .settle .ensures .board .lent .size ∙ sym (c .before .before .before .before .before .before .before .before .before .before .before .before .before .before .before .before .before .before .before .before .before .before .before .before .before .pre .lent .size)
+
+returns-4 : tie.Need-returns-4
+unfolding onto
+returns-4 c = record {
+  got = got-then _ (held word _ _ _ refl (c .before .before .before .before .before .before .before .before .before .before .before .before .before .before .before .before .before .before .before .before .before .reg .ensures) (c .before .before .before .before .before .before .before .before .before .before .before .before .before .before .before .before .before .before .before .before .locate .ensures) (c .before .before .before .before .before .before .before .before .before .before .before .before .before .before .before .before .before .before .found .given .1) (c .before .before .before .before .before .before .before .before .before .before .before .before .before .before .before .before .moved .ensures) (c .before .before .before .before .before .before .before .before .before .before .before .before .before .reg2 .ensures) (c .before .before .before .before .before .before .before .before .before .before .before .before .read-word .ensures) (word-is (c .before .before .before .before .before .before .before .before .before .before .y .given .1))) refl
+      ((rw (c .before .before .before .before .before .with-flags2 .ensures, c .before .before .before .before .before .before .binary .ensures, c .before .before .before .before .before .before .before .binary-at .ensures, c .before .before .before .before .before .before .before .before .binary-number .ensures) at (c .before .before .settle .ensures)) .got);
+  board = c .before .before .settle .ensures .board;
+}
+
+pub onto-words-spec : {M : Type 1} → statement M
+onto-words-spec =
+    tie.close
+    (tie.spec
+    reg-requires
+    locate-requires
+    enum-known-found
+    enum-told
+    unfound-requires
+    same-length
+    returns
+    moved-requires
+    mov16-requires
+    with-flags-requires
+    write-word-requires
+    same-length-2
+    returns-2
+    reg-requires-2
+    read-word-requires
+    enum-known-y
+    enum-told-2
+    unanswered-requires
+    same-length-3
+    returns-3
+    binary-number-requires
+    binary-at-requires
+    binary-requires
+    with-flags-requires-2
+    settle-requires
+    same-length-4
+    returns-4)
