@@ -41,13 +41,15 @@ def other_items(text):
 
 
 def gather():
-    specs, source, names = {}, {}, set()
+    specs, laws, source, names = {}, {}, {}, set()
     for path in files("crates", ".antt"):
         crate, kind, file = path.split(os.sep)[1], path.split(os.sep)[2], os.path.basename(path)[: -len(".antt")]
         here = defined(read(path))
         names |= here | {file}
         if kind == "specs":
             specs[crate, file] = here
+        elif path.split(os.sep)[3] in ("Laws", "Laws.antt"):
+            laws[crate, file] = here
     for path in files("crates", ".rt"):
         crate, module = path.split(os.sep)[1], os.path.basename(path)[: -len(".rt")]
         text = read(path)
@@ -57,7 +59,7 @@ def gather():
         names |= functions(read(path)) | other_items(read(path))
     for path in list(files("crates", ".edit")) + list(files("edits", ".edit")):
         names.add(os.path.basename(path)[: -len(".edit")])
-    return specs, source, names
+    return specs, laws, source, names
 
 
 def function_there(source, crate, path):
@@ -89,14 +91,15 @@ def wrong_files(text):
             yield f"{path}: no such file"
 
 
-def wrong_places(text, specs):
-    """In `crate File: name, name` and `File: name` each name is defined in that file."""
-    titles = {file for _, file in specs}
-    crates = {crate for crate, _ in specs}
+def wrong_places(text, specs, laws):
+    """In `crate File: name, name` and `File: name` each name is defined in that file, of specs/ or of proofs/Laws/."""
+    both = {place: specs.get(place, set()) | laws.get(place, set()) for place in specs | laws}
+    titles = {file for _, file in both}
+    crates = {crate for crate, _ in both}
     for crate, file, listed in re.findall(rf"(?:\b([a-z]\w*) )?\b([A-Z]\w*): ((?:`{NAME}`(?:, | and )?)+)", text):
         if file not in titles:
             continue
-        homes = [found for (c, f), found in specs.items() if f == file and (crate not in crates or c == crate)]
+        homes = [found for (c, f), found in both.items() if f == file and (crate not in crates or c == crate)]
         for name in quoted(listed):
             if not any(name in home for home in homes):
                 yield f"{crate} {file}: `{name}` is not defined there"
@@ -135,11 +138,11 @@ def wrong_rows(text, specs, source):
                 yield f"{name}: no proof in crates/{folder}"
 
 
-def wrong_in(paper, specs, source, names):
+def wrong_in(paper, specs, laws, source, names):
     text = read(paper)
     yield from wrong_names(text, names)
     yield from wrong_files(text)
-    yield from wrong_places(text, specs)
+    yield from wrong_places(text, specs, laws)
     if paper == PROOFS:
         yield from wrong_rows(text, specs, source)
 

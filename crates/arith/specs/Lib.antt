@@ -3,5 +3,3 @@ pub mod Wide
 pub mod Binary
 pub mod Immediate
 pub mod Branch
-pub mod Printed
-pub mod Within

@@ -2,3 +2,4 @@ pub mod Origins
 pub mod Sorted
 pub mod Checked
 pub mod Theorems
+pub mod Laws

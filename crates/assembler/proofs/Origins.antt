@@ -10,7 +10,7 @@ use lib.ListN.{length, take, drop, getD, set}
 use lib.Seq.{getD-set-same, getD-set-other}
 use Rattle.assembler.specs.Source.{lineAt, saidAt, originAt, endAt, nextFrom, endFrom}
 use Rattle.patchline.specs.declared.oneline.Said.{Said}
-use Rattle.optext.specs.Choose.{eq-cases}
+use Rattle.optext.proofs.Laws.Choose.{eq-cases}
 
 pub line-is : (s : List ℕ) (i : ℕ) → take (32 * i + 32 - 32 * i) (drop (32 * i) s) ≡ lineAt s i
 unfolding lineAt

@@ -11,10 +11,11 @@ use lib.Seq.{take-suc-set, take-set-lt, drop-set-lt, drop-cons, getD-take, appen
 use Rattle.word.specs.Address.{plus}
 use Rattle.optext.specs.declared.Op.{Op}
 use Rattle.letters.specs.Over.{Wrote, WroteAt}
-use Rattle.letters.specs.Laid.{then}
-use Rattle.patchline.specs.Joined.{then-at, none-at}
+use Rattle.letters.proofs.Laws.Laid.{then}
+use Rattle.patchline.proofs.Laws.Joined.{then-at, none-at}
 use Rattle.assembler.specs.Source.{textAt, hereOf, wordsIn}
-use Rattle.assembler.specs.Section.{lowerOf, higherOf, inserted, entryOf, entered, placed, pair, bytesOf, flat, sectionOf, Inserts, Enters, flat-length}
+use Rattle.assembler.specs.Section.{lowerOf, higherOf, inserted, entryOf, entered, placed, pair, bytesOf, flat, sectionOf, Inserts, Enters}
+use Rattle.assembler.proofs.Laws.Section.{flat-length}
 
 -- the loop of an insertion: the places before i are done, the carried entry goes into those from i on
 pub insert-none : (t : List ℕ) (n x : ℕ) → take 0 t ++ inserted x (drop 0 (take n t)) ≡ inserted x (take n t)

@@ -4,8 +4,7 @@ use mathlib.Core.Bool.{cond}
 use mathlib.Core.List.{List, [], _∷_, _++_}
 use Prim.Native.Nat.{ℕ, zero, suc, _+_, _*_, _/_, _%_, _≤_}
 use lib.Dec.{ltb}
-use mathlib.Core.Path.{_≡_, refl}
-use native.Mathlib.Omega.{arith}
+use mathlib.Core.Path.{_≡_}
 use lib.ListN.{length, take}
 use Rattle.word.specs.Address.{plus}
 use Rattle.optext.specs.declared.Op.{Op}
@@ -49,12 +48,6 @@ bytesOf e = e / 65536 % 256 ∷ e / 16777216 % 256 ∷ e % 256 ∷ e / 256 % 256
 unfoldable pub flat : List ℕ → List ℕ
 flat [] = []
 flat (e ∷ l) = bytesOf e ++ flat l
-
--- four bytes an entry
-pub flat-length : (l : List ℕ) → length (flat l) ≡ 4 * length l
-unfolding flat
-flat-length [] = refl
-flat-length (e ∷ l) = let h = flat-length l in omega arith
 
 unfoldable pub sectionOf : List ℕ → List ℕ
 sectionOf l = pair (length l) ++ flat l

@@ -53,11 +53,6 @@ format4Code op = op / 64
 abbrev pub argument : ℕ → ℕ
 argument op = op % 64
 
--- ---- format 5: DISPLACEMENT in bits 7 to 0
-
-abbrev pub displacementByte : ℕ → ℕ
-displacementByte op = op % 256
-
 -- ---- format 10: OPC in bits 15 to 12
 
 abbrev pub highDigit : ℕ → ℕ

@@ -1,8 +1,7 @@
 -- Format 2, 0010 to 002F: a register k; and format 3, 0030 to 003F.
-use Prim.Native.Nat.{ℕ, _+_, _/_, _%_, _≤_}
+use Prim.Native.Nat.{ℕ, _+_, _/_, _%_}
 use mathlib.Core.List.{List, [], _∷_}
-use mathlib.Core.Path.{_≡_}
-use lib.ListN.{getD, List·getD-eq-default}
+use lib.ListN.{getD}
 use Rattle.codes.specs.Fields.{onlyRegister}
 use Rattle.word.specs.Status.{flagsOf}
 use Rattle.board.specs.Work.{Work, give, load}
@@ -39,7 +38,7 @@ prtn s k = do
   rtn (withSp s (plus (s .regs .sp) (twice tmp))) k
 
 -- IAK, RTN, MSKO, PRTN, by bits 5 to 3, from 2
-abbrev codes2 : Outside → State → ℕ → List (Work State)
+abbrev pub codes2 : Outside → State → ℕ → List (Work State)
 codes2 out s k = give (iak out s k) ∷ rtn s k ∷ msko s k ∷ []
 
 abbrev pub number2 : ℕ → ℕ
@@ -47,10 +46,6 @@ number2 op = (op / 8 + 6) % 8
 
 unfoldable pub format2 : Outside → State → ℕ → Work State
 format2 out s op = getD (codes2 out s (onlyRegister op)) (number2 op) (prtn s (onlyRegister op))
-
-pub format2-last : (out : Outside) (s : State) (op : ℕ) → 3 ≤ number2 op → format2 out s op ≡ prtn s (onlyRegister op)
-unfolding format2
-format2-last out s op h = List·getD-eq-default (codes2 out s (onlyRegister op)) (prtn s (onlyRegister op)) h
 
 -- LCC: N Z V C from bits 3 to 0 of the op code
 abbrev pub lcc : State → ℕ → State

@@ -1,4 +1,3 @@
 pub mod Format2
 pub mod Format4
 pub mod Low
-pub mod Bounds

@@ -1,16 +1,12 @@
 -- The op codes whose high byte is 00: formats 1 to 4.
-use Prim.Native.Nat.{ℕ, _/_}
+use Prim.Native.Nat.{ℕ}
 use mathlib.Core.Bool.{cond}
-use mathlib.Core.Path.{_≡_}
-use native.Mathlib.Omega.{arith}
-use borrow.Author.Tests.{lt-ltb, le-ltb}
 use lib.Dec.{ltb}
-use Rattle.codes.specs.Fields.{onlyRegister}
 use Rattle.board.specs.Work.{Work, give}
 use Rattle.state.specs.declared.State.{State}
 use Rattle.state.specs.declared.Outside.{Outside}
 use Rattle.format1.specs.Format1.{format1}
-use Rattle.control.specs.Format2.{rtn, format2, lcc}
+use Rattle.control.specs.Format2.{format2, lcc}
 use Rattle.control.specs.Format4.{format4}
 
 unfoldable pub formats2to4 : Outside → State → ℕ → Work State
@@ -18,8 +14,3 @@ formats2to4 out s op = cond (ltb op 0x30) (format2 out s op) (cond (ltb op 0x40)
 
 unfoldable pub lowCodes : Outside → State → ℕ → Work State
 lowCodes out s op = cond (ltb op 0x10) (format1 out s op) (formats2to4 out s op)
-
--- 0018 to 001F
-pub low-rtn : (out : Outside) (s : State) (op : ℕ) → op / 8 ≡ 3 → lowCodes out s op ≡ rtn s (onlyRegister op)
-unfolding lowCodes formats2to4 format2
-low-rtn out s op e = rw (le-ltb op 0x10 (omega (arith, e)), lt-ltb op 0x30 (omega (arith, e)), e)

@@ -4,7 +4,7 @@
 -- again, is optext's theorem.
 use Prim.Native.Nat.{ℕ, _<_}
 use mathlib.Core.List.{List}
-use mathlib.Core.Path.{_≡_, sym, ap, _∙_}
+use mathlib.Core.Path.{_≡_}
 use lib.ListN.{length, getD, take}
 use Rattle.state.specs.declared.State.{State}
 use Rattle.state.specs.declared.Settings.{Settings}
@@ -18,27 +18,26 @@ use Rattle.machine.specs.declared.Finished.{Finished}
 use Rattle.machine.specs.Numbers.{StatePage, TurnPage, RanPage}
 use Rattle.machine.specs.Entry.{poweredPage, powered, powerUpPage, left, steppedPage, turned, stepPage, finishedPage, runPage}
 use Rattle.machine.specs.Trail.{trailOf, lastOf}
-use Rattle.machine.specs.Counted.{trail-length, trail-at}
-use Rattle.machine.specs.Answered.{power-answer, step-answer, shown, run-answer}
+use Rattle.machine.specs.Answered.{shown}
 
 -- POWER-UP: the state and the image after it
-pub power-up-is : (settings : Settings) (m map : List ℕ) (r : Powered) (m′ : List ℕ) (p : StatePage) → left (poweredPage r) m′ ≡ powerUpPage settings m map → poweredPage r ≡ answered p
+abbrev pub PowerUpIs : Type 0
+PowerUpIs = (settings : Settings) (m map : List ℕ) (r : Powered) (m′ : List ℕ) (p : StatePage) → left (poweredPage r) m′ ≡ powerUpPage settings m map → poweredPage r ≡ answered p
     → left (answered p) m′ ≡ powered (powerUpOf settings map m)
-power-up-is settings m map r m′ p e d = power-answer settings m map (ap (λ z. left z m′) (sym d) ∙ e) .1
 
 -- A STEP: the state, the cause and the image after it
-pub step-is : (settings : Settings) (m map : List ℕ) (line : ℕ) (s : State) (r : Stepped) (m′ : List ℕ) (p : TurnPage) → left (steppedPage r) m′ ≡ stepPage settings m map line s → steppedPage r ≡ answered p
+abbrev pub StepIs : Type 0
+StepIs = (settings : Settings) (m map : List ℕ) (line : ℕ) (s : State) (r : Stepped) (m′ : List ℕ) (p : TurnPage) → left (steppedPage r) m′ ≡ stepPage settings m map line s → steppedPage r ≡ answered p
     → left (answered p) m′ ≡ turned (stepOf map (heard settings line) s m)
-step-is settings m map line s r m′ p e d = step-answer settings m map line s (ap (λ z. left z m′) (sym d) ∙ e) .1
 
 -- A RUN: what its trail shows, the state and the image at its end, and its blanks
-pub run-is : (settings : Settings) (m map lines : List ℕ) (s : State) (r : Finished) (m′ : List ℕ) (p : RanPage) → left (finishedPage r) m′ ≡ runPage settings m map lines s → finishedPage r ≡ answered p
+abbrev pub RunIs : Type 0
+RunIs = (settings : Settings) (m map lines : List ℕ) (s : State) (r : Finished) (m′ : List ℕ) (p : RanPage) → left (finishedPage r) m′ ≡ runPage settings m map lines s → finishedPage r ≡ answered p
     → left (answered p) m′ ≡ shown settings map lines s m
-run-is settings m map lines s r m′ p e d = run-answer settings m map lines s (ap (λ z. left z m′) (sym d) ∙ e) .1
 
 -- ITS TRAIL has a step for each line word, and each is the step over its line word from where the steps before it end
-pub trail-is : (settings : Settings) (map lines : List ℕ) (s : State) (m : List ℕ)
+abbrev pub TrailIs : Type 0
+TrailIs = (settings : Settings) (map lines : List ℕ) (s : State) (m : List ℕ)
     → (length (trailOf settings map lines s m) ≡ length lines)
     × ((k : ℕ) → k < length lines → (let b = lastOf (after s m Cause.Nothing) (take k (trailOf settings map lines s m)) in
     (d : After) → getD (trailOf settings map lines s m) k d ≡ stepOf map (heard settings (getD lines k 0)) (b .state) (b .image)))
-trail-is settings map lines s m = (trail-length settings map lines s m, λ k h d. trail-at settings map lines s m Cause.Nothing d k h)

@@ -2,8 +2,8 @@
 -- Whatever calls answer and leave, as their contracts promise.
 use Prim.Native.Nat.{ℕ}
 use mathlib.Core.Bool.{false}
-use mathlib.Core.List.{List, []}
-use mathlib.Core.Path.{_≡_, refl, sym, ap, _∙_}
+use mathlib.Core.List.{List}
+use mathlib.Core.Path.{_≡_}
 use lib.ListN.{length}
 use Rattle.board.specs.Work.{blank, value}
 use Rattle.board.specs.Alike.{Agree}
@@ -11,120 +11,87 @@ use Rattle.state.specs.declared.State.{State}
 use Rattle.state.specs.declared.Settings.{Settings}
 use Rattle.state.specs.State.{heard}
 use Rattle.step.specs.Step.{stepOf, causeNumber, isBlank}
-use Rattle.step.specs.Causes.{value-no-blank}
-use Rattle.step.specs.Told.{accesses, StopsAt, stops}
-use Rattle.refusal.specs.Page.{refused, answered, answered-one}
+use Rattle.step.specs.Told.{accesses, StopsAt}
+use Rattle.refusal.specs.Page.{answered}
 use Rattle.machine.specs.declared.Powered.{Powered}
 use Rattle.machine.specs.declared.Stepped.{Stepped}
 use Rattle.machine.specs.declared.Finished.{Finished}
 use Rattle.machine.specs.Numbers.{TurnPage, RanPage}
 use Rattle.machine.specs.Entry.{poweredPage, powerUpPage, left, steppedPage, stepPage, finishedPage, runPage}
-use Rattle.machine.specs.Back.{powered-one, stepped-one, finished-one}
-use Rattle.machine.specs.Blind.{Blind, blind, power-same, power-kept, step-same, step-kept, run-same, run-kept}
+use Rattle.machine.specs.Blind.{Blind}
 use Rattle.machine.specs.Trail.{trailOf, blanksIn, Least}
-use Rattle.machine.specs.Counted.{first-least}
-use Rattle.machine.specs.Answered.{step-answer, run-answer}
-use Rattle.firmware.specs.Layout.{stateFrom, settingsFrom, refusedUp, refusedStep, refusedRun}
-use Rattle.firmware.specs.Calls.{upBytes, stepBytes, powerUpCall, went, stepCall, ended, runCall}
+use Rattle.firmware.specs.Calls.{powerUpCall, went, stepCall, ended, runCall}
 use Rattle.listing.specs.declared.Listed.{Listed}
-use Rattle.listing.specs.Calls.{listedPage, lineCall, one-listed}
+use Rattle.listing.specs.Calls.{listedPage, lineCall}
 use Rattle.listing.specs.Calls as Listing
-use Rattle.listing.specs.Alike.{call-alike}
 use Rattle.trace.specs.declared.Checked.{Checked}
 use Rattle.trace.specs.declared.Made.{Made}
 use Rattle.trace.specs.Trace.{checkedPage, whyCheck, checkOf, madePage, whyMake, put, makeOf}
 use Rattle.trace.specs.Trace as Trace
-use Rattle.trace.specs.Right.{one-check, one-make}
-use Rattle.demands.specs.Pages.{same-unless}
 use Rattle.demands.specs.Terms.{workAt, cameAt, Blanked}
-use Rattle.demands.specs.Calls.{went-blind, ended-blind}
-use Rattle.demands.specs.Blanks.{blanked, cause-is}
 
 -- ---- TWO CALLS OVER IMAGES THAT AGREE ON FITTED BYTES: the same answer, fitted bytes that agree again, and every byte that
 -- can't be written, of an unfitted or a read-only page, as lent
 
 module _ (settings : Settings) (map m n : List ℕ) (l : length m ≡ length n) (g : Agree map m n) where
-  pub power-up-blind : (r q : Powered) (m′ n′ : List ℕ) → left (poweredPage r) m′ ≡ powerUpPage settings m map → left (poweredPage q) n′ ≡ powerUpPage settings n map → Blind map m n r q m′ n′
-  power-up-blind r q m′ n′ e d = blind poweredPage r q (powered-one r q) e d (power-same settings map m n l g) (power-kept settings map m) (power-kept settings map n)
+  abbrev pub PowerUpBlind : Type 0
+  PowerUpBlind = (r q : Powered) (m′ n′ : List ℕ) → left (poweredPage r) m′ ≡ powerUpPage settings m map → left (poweredPage q) n′ ≡ powerUpPage settings n map → Blind map m n r q m′ n′
 
-  pub step-blind : (line : ℕ) (s : State) (r q : Stepped) (m′ n′ : List ℕ)
+  abbrev pub StepBlind : Type 0
+  StepBlind = (line : ℕ) (s : State) (r q : Stepped) (m′ n′ : List ℕ)
       → left (steppedPage r) m′ ≡ stepPage settings m map line s → left (steppedPage q) n′ ≡ stepPage settings n map line s → Blind map m n r q m′ n′
-  step-blind line s r q m′ n′ e d = blind steppedPage r q (stepped-one r q) e d (step-same settings map line s m n l g) (step-kept settings map line s m) (step-kept settings map line s n)
 
-  pub run-blind : (lines : List ℕ) (s : State) (r q : Finished) (m′ n′ : List ℕ)
+  abbrev pub RunBlind : Type 0
+  RunBlind = (lines : List ℕ) (s : State) (r q : Finished) (m′ n′ : List ℕ)
       → left (finishedPage r) m′ ≡ runPage settings m map lines s → left (finishedPage q) n′ ≡ runPage settings n map lines s → Blind map m n r q m′ n′
-  run-blind lines s r q m′ n′ e d = blind finishedPage r q (finished-one r q) e d (run-same settings map lines s m n l g) (run-kept settings map lines s m) (run-kept settings map lines s n)
 
 -- the same for C: the number, the state's bytes, the tally's; w are the settings' bytes
 module _ (w map m n : List ℕ) (l : length m ≡ length n) (g : Agree map m n) where
-  pub wd16-power-up-blind : (b : List ℕ) (k j : ℕ) (b₁ b₂ m′ n′ : List ℕ) → went k b₁ m′ ≡ powerUpCall b m map w → went j b₂ n′ ≡ powerUpCall b n map w
+  abbrev pub Wd16PowerUpBlind : Type 0
+  Wd16PowerUpBlind = (b : List ℕ) (k j : ℕ) (b₁ b₂ m′ n′ : List ℕ) → went k b₁ m′ ≡ powerUpCall b m map w → went j b₂ n′ ≡ powerUpCall b n map w
       → Blind {A = ℕ × List ℕ} map m n (k, b₁) (j, b₂) m′ n′
-  unfolding powerUpCall
-  wd16-power-up-blind b k j b₁ b₂ m′ n′ e d =
-      rw (ap (λ z. z .number) e, ap (λ z. z .state) e, ap (λ z. z .image) e, ap (λ z. z .number) d, ap (λ z. z .state) d, ap (λ z. z .image) d)
-      (went-blind map m n g upBytes (refusedUp b w) b (powerUpPage (settingsFrom w) m map) (powerUpPage (settingsFrom w) n map) (power-same (settingsFrom w) map m n l g) (power-kept (settingsFrom w) map m) (power-kept (settingsFrom w) map n))
 
-  pub wd16-step-blind : (b : List ℕ) (line k j : ℕ) (b₁ b₂ m′ n′ : List ℕ) → went k b₁ m′ ≡ stepCall b m map w line → went j b₂ n′ ≡ stepCall b n map w line
+  abbrev pub Wd16StepBlind : Type 0
+  Wd16StepBlind = (b : List ℕ) (line k j : ℕ) (b₁ b₂ m′ n′ : List ℕ) → went k b₁ m′ ≡ stepCall b m map w line → went j b₂ n′ ≡ stepCall b n map w line
       → Blind {A = ℕ × List ℕ} map m n (k, b₁) (j, b₂) m′ n′
-  unfolding stepCall
-  wd16-step-blind b line k j b₁ b₂ m′ n′ e d =
-      rw (ap (λ z. z .number) e, ap (λ z. z .state) e, ap (λ z. z .image) e, ap (λ z. z .number) d, ap (λ z. z .state) d, ap (λ z. z .image) d)
-      (went-blind map m n g stepBytes (refusedStep b w) b (stepPage (settingsFrom w) m map line (stateFrom b)) (stepPage (settingsFrom w) n map line (stateFrom b)) (step-same (settingsFrom w) map line (stateFrom b) m n l g) (step-kept (settingsFrom w) map line (stateFrom b) m) (step-kept (settingsFrom w) map line (stateFrom b) n))
 
-  pub wd16-run-blind : (b t lines : List ℕ) (k j : ℕ) (b₁ b₂ t₁ t₂ m′ n′ : List ℕ) → ended k b₁ t₁ m′ ≡ runCall b t m map w lines → ended j b₂ t₂ n′ ≡ runCall b t n map w lines
+  abbrev pub Wd16RunBlind : Type 0
+  Wd16RunBlind = (b t lines : List ℕ) (k j : ℕ) (b₁ b₂ t₁ t₂ m′ n′ : List ℕ) → ended k b₁ t₁ m′ ≡ runCall b t m map w lines → ended j b₂ t₂ n′ ≡ runCall b t n map w lines
       → Blind {A = ℕ × List ℕ × List ℕ} map m n (k, b₁, t₁) (j, b₂, t₂) m′ n′
-  unfolding runCall
-  wd16-run-blind b t lines k j b₁ b₂ t₁ t₂ m′ n′ e d =
-      rw (ap (λ z. z .number) e, ap (λ z. z .state) e, ap (λ z. z .tally) e, ap (λ z. z .image) e, ap (λ z. z .number) d, ap (λ z. z .state) d, ap (λ z. z .tally) d, ap (λ z. z .image) d)
-      (ended-blind map m n g (refusedRun b t w) b t (runPage (settingsFrom w) m map lines (stateFrom b)) (runPage (settingsFrom w) n map lines (stateFrom b)) (run-same (settingsFrom w) map lines (stateFrom b) m n l g) (run-kept (settingsFrom w) map lines (stateFrom b) m) (run-kept (settingsFrom w) map lines (stateFrom b) n))
 
 -- a line of a listing: the same answer, and the same text
-pub list-line-blind : (map m n : List ℕ) → length m ≡ length n → Agree map m n → (a last : ℕ) (text : List ℕ) (r q : Listed) (text₁ text₂ : List ℕ)
+abbrev pub ListLineBlind : Type 0
+ListLineBlind = (map m n : List ℕ) → length m ≡ length n → Agree map m n → (a last : ℕ) (text : List ℕ) (r q : Listed) (text₁ text₂ : List ℕ)
     → Listing.left (listedPage r) text₁ ≡ lineCall m map a last text → Listing.left (listedPage q) text₂ ≡ lineCall n map a last text → (r ≡ q) × (text₁ ≡ text₂)
-list-line-blind map m n l g a last text r q text₁ text₂ e d = one-listed n map a last text text₁ text₂ r q (e ∙ call-alike map m n g last l a text) d
 
 -- ---- A TRACE IS OF A JOB, which fills the lent image, the map and the line words from its own bytes: whatever stands in them before,
 -- the answer is the same, and where nothing is refused, so is what is left in them
 
 module _ (input i₁ i₂ m₁ m₂ l₁ l₂ : List ℕ) (hi : length i₁ ≡ length i₂) (hm : length m₁ ≡ length m₂) (hl : length l₁ ≡ length l₂) where
-  pub check-blind : (t : List ℕ) (r q : Checked) (i₁′ m₁′ l₁′ i₂′ m₂′ l₂′ : List ℕ)
+  abbrev pub CheckBlind : Type 0
+  CheckBlind = (t : List ℕ) (r q : Checked) (i₁′ m₁′ l₁′ i₂′ m₂′ l₂′ : List ℕ)
       → Trace.left (checkedPage r) i₁′ m₁′ l₁′ ≡ checkOf input t i₁ m₁ l₁ → Trace.left (checkedPage q) i₂′ m₂′ l₂′ ≡ checkOf input t i₂ m₂ l₂
       → (r ≡ q) × (whyCheck input t (length i₁) (length m₁) (length l₁) ≡ 0 → (i₁′ ≡ i₂′) × (m₁′ ≡ m₂′) × (l₁′ ≡ l₂′))
-  unfolding checkOf
-  check-blind t r q i₁′ m₁′ l₁′ i₂′ m₂′ l₂′ e d =
-      let why = whyCheck input t (length i₁) (length m₁) (length l₁) in
-      let h = same-unless (λ z. z .page) why _ (Trace.left (refused why) i₁ m₁ l₁) (Trace.left (refused why) i₂ m₂ l₂) refl e (rw (← hi, ← hm, ← hl) at d) in
-      (one-check r q [] [] [] [] [] [] (ap (λ z. Trace.left z [] [] []) (h .0)) .0, λ z. (ap (λ z. z .image) (h .1 z), ap (λ z. z .map) (h .1 z), ap (λ z. z .lines) (h .1 z)))
 
-  pub make-blind : (out : List ℕ) (r q : Made) (out₁ out₂ i₁′ m₁′ l₁′ i₂′ m₂′ l₂′ : List ℕ)
+  abbrev pub MakeBlind : Type 0
+  MakeBlind = (out : List ℕ) (r q : Made) (out₁ out₂ i₁′ m₁′ l₁′ i₂′ m₂′ l₂′ : List ℕ)
       → put out₁ (Trace.left (madePage r) i₁′ m₁′ l₁′) ≡ makeOf input out i₁ m₁ l₁ → put out₂ (Trace.left (madePage q) i₂′ m₂′ l₂′) ≡ makeOf input out i₂ m₂ l₂
       → (r ≡ q) × (out₁ ≡ out₂) × (whyMake input (length out) (length i₁) (length m₁) (length l₁) ≡ 0 → (i₁′ ≡ i₂′) × (m₁′ ≡ m₂′) × (l₁′ ≡ l₂′))
-  unfolding makeOf
-  make-blind out r q out₁ out₂ i₁′ m₁′ l₁′ i₂′ m₂′ l₂′ e d =
-      let why = whyMake input (length out) (length i₁) (length m₁) (length l₁) in
-      let h = same-unless (λ z. put (z .bytes) (Trace.left (z .rest .page) [] [] [])) why _ (put out (Trace.left (refused why) i₁ m₁ l₁)) (put out (Trace.left (refused why) i₂ m₂ l₂)) refl e (rw (← hi, ← hm, ← hl) at d) in
-      let one = one-make r q out₁ [] [] [] out₂ [] [] [] (h .0) in
-      (one .0, one .1, λ z. (ap (λ z. z .rest .image) (h .1 z), ap (λ z. z .rest .map) (h .1 z), ap (λ z. z .rest .lines) (h .1 z)))
 
 -- ---- A STEP WHOSE WORK REACHES A BLANK, where nothing is fitted or a read-only page was to be written, is a bus error, told by its
 -- cause, or ends locked, and it tells the first such address that it reached; one whose work reaches none is no blank
 
 module _ (settings : Settings) (m map : List ℕ) (line : ℕ) (s : State) (r : Stepped) (m′ : List ℕ) (p : TurnPage)
     (e : left (steppedPage r) m′ ≡ stepPage settings m map line s) (d : steppedPage r ≡ answered p) where
-  pub step-blanked : {a : ℕ} → cameAt settings map line s m ≡ blank a → StopsAt map a (accesses map (workAt settings line s) m) × Blanked settings line s m a p m′
-  step-blanked {a} h = (
-    stops map (workAt settings line s) m h,
-    blanked settings line s m map h (step-answer settings m map line s (ap (λ z. left z m′) (sym d) ∙ e) .1),
-  )
+  abbrev pub StepBlanked : Type 0
+  StepBlanked = (a : ℕ) → cameAt settings map line s m ≡ blank a → StopsAt map a (accesses map (workAt settings line s) m) × Blanked settings line s m a p m′
 
-  pub step-fitted : {t : State} {n : List ℕ} → cameAt settings map line s m ≡ value t n → (isBlank (stepOf map (heard settings line) s m .cause) ≡ false) × (p .cause ≡ causeNumber (stepOf map (heard settings line) s m .cause))
-  step-fitted h = (value-no-blank map (heard settings line) s m h, cause-is (stepOf map (heard settings line) s m) (step-answer settings m map line s (ap (λ z. left z m′) (sym d) ∙ e) .1))
+  abbrev pub StepFitted : Type 0
+  StepFitted = (t : State) (n : List ℕ) → cameAt settings map line s m ≡ value t n → (isBlank (stepOf map (heard settings line) s m .cause) ≡ false) × (p .cause ≡ causeNumber (stepOf map (heard settings line) s m .cause))
 
 -- ---- A RUN'S COUNT OF BLANKS is the number of its steps with cause 5, 6 or 9, its first place the least of theirs, with the address told there
 
-pub run-counted : (settings : Settings) (m map lines : List ℕ) (s : State) (r : Finished) (m′ : List ℕ) (p : RanPage)
+abbrev pub RunCounted : Type 0
+RunCounted = (settings : Settings) (m map lines : List ℕ) (s : State) (r : Finished) (m′ : List ℕ) (p : RanPage)
     → left (finishedPage r) m′ ≡ runPage settings m map lines s → finishedPage r ≡ answered p
     → (p .blanks ≡ blanksIn (trailOf settings map lines s m)) × Least (trailOf settings map lines s m) (p .first)
-run-counted settings m map lines s r m′ p e d =
-    let h = answered-one (ap (λ z. z .page) (run-answer settings m map lines s (ap (λ z. left z m′) (sym d) ∙ e) .1)) in
-    (ap (λ z. z .blanks) h, rw (ap (λ z. z .first) h) (first-least (trailOf settings map lines s m)))

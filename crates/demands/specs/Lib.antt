@@ -1,9 +1,4 @@
 pub mod Terms
-pub mod Pages
-pub mod Calls
-pub mod Texts
-pub mod Sources
-pub mod Blanks
 pub mod Demand1
 pub mod Demand2
 pub mod Demand3

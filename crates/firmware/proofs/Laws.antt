@@ -1,4 +1,7 @@
 -- From the code's facts to what the exported calls leave.
+pub mod Again
+pub mod Laid
+pub mod Next
 use Prim.Native.Nat.{ℕ}
 use mathlib.Core.Bool.{true, false}
 use mathlib.Core.List.{List, _++_, append-nil}
@@ -19,11 +22,11 @@ use Rattle.machine.specs.declared.Stepped.the-variants as Stepped
 use Rattle.machine.specs.declared.Finished.{Finished}
 use Rattle.machine.specs.declared.Finished.the-variants as Finished
 use Rattle.refusal.specs.Numbers.{noState}
-use Rattle.refusal.specs.Refusal.{neither}
+use Rattle.refusal.proofs.Laws.Refusal.{neither}
 use Rattle.machine.specs.Numbers.{statePage, nowhere, toldOf, placeOf}
 use Rattle.machine.specs.Entry.{left, poweredPage, steppedPage, finishedPage, powerUpPage, stepPage, runPage}
 use Rattle.firmware.specs.Layout.{bytesOf, tallyBytes, stateFrom, settingsFrom, over, notState, notTally, refusedState, refusedSettings, refusedUp, refusedStep, refusedRun, laid}
-use Rattle.firmware.specs.Laid.{laid-all, laid-state, laid-tally}
+use Rattle.firmware.proofs.Laws.Laid.{laid-all, laid-state, laid-tally}
 use Rattle.firmware.specs.Calls.{powerUpCall, went, stepCall, ended, runCall}
 
 -- bytes are copied over a buffer of as many, and another is left as lent

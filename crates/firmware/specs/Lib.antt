@@ -1,5 +1,2 @@
 pub mod Layout
-pub mod Laid
 pub mod Calls
-pub mod Again
-pub mod Next

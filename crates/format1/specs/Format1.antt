@@ -1,11 +1,10 @@
 -- Format 1, 0000 to 000F: one word, no arguments (SAVS has its mask in the next word).
-use Prim.Native.Nat.{ℕ, _≤_}
+use Prim.Native.Nat.{ℕ}
 use mathlib.Core.Bool.{true, false, not, cond}
 use mathlib.Core.List.{List, [], _∷_}
-use mathlib.Core.Path.{_≡_}
 use lib.Bits.{bitOr}
 use lib.Dec.{ltb}
-use lib.ListN.{getD, List·getD-eq-default}
+use lib.ListN.{getD}
 use Rattle.board.specs.Work.{Work, give, load}
 use Rattle.board.specs.Work as Work
 use Rattle.board.specs.Bind.{_>>=_, _>>_}
@@ -112,7 +111,7 @@ abbrev pub numberOf : ℕ → ℕ
 numberOf op = cond (ltb op 5) op (minus op 1)
 
 -- NOP, RESET, IEN, IDS, HALT, BPT, WFI, RSVC, RRTT, SAVE, SAVS, REST, RRTN, RSTS; the last is RTT
-abbrev codes1 : Outside → State → List (Work State)
+abbrev pub codes1 : Outside → State → List (Work State)
 codes1 out s =
     give (nop s)
     ∷ give (nop s)
@@ -132,10 +131,6 @@ codes1 out s =
 
 unfoldable pub byNumber : Outside → State → ℕ → Work State
 byNumber out s number = getD (codes1 out s) number (rtt s)
-
-pub byNumber-last : (out : Outside) (s : State) (number : ℕ) → 14 ≤ number → byNumber out s number ≡ rtt s
-unfolding byNumber
-byNumber-last out s number h = List·getD-eq-default (codes1 out s) (rtt s) h
 
 unfoldable pub format1 : Outside → State → ℕ → Work State
 format1 out s op = byNumber out s (numberOf op)

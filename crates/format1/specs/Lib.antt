@@ -1,2 +1,1 @@
 pub mod Format1
-pub mod Bounds

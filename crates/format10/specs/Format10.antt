@@ -1,7 +1,6 @@
 -- Format 10, 1000 to 6FFF and 9000 to EFFF: two operands. The source is decoded and read in full before the destination is decoded.
 use Prim.Native.Nat.{ℕ, _%_}
 use mathlib.Core.Bool.{Bool, true, false, cond}
-use mathlib.Core.Path.{_≡_}
 use lib.Dec.{ltb}
 use Rattle.codes.specs.declared.Binary.{Binary}
 use Rattle.codes.specs.declared.Binary.the-variants.{Add, Sub, And, Bic, Bis, Xor, Cmp, Bit, Mov}
@@ -14,7 +13,7 @@ use Rattle.arith.specs.Ops.{extended}
 use Rattle.board.specs.Work.{Work, give, Size, word, byte}
 use Rattle.board.specs.Bind.{_>>=_, _>>_}
 use Rattle.state.specs.declared.State.{State}
-use Rattle.state.specs.State.{withReg, withFlags, cond-yes, cond-no}
+use Rattle.state.specs.State.{withReg, withFlags}
 use Rattle.word.specs.Address.{minus}
 use Rattle.operand.specs.declared.Place.{Place}
 use Rattle.operand.specs.declared.Place.the-variants.{Reg, Mem}
@@ -45,14 +44,6 @@ settled settle s k p d = settle (withFlags s (d .flags)) k p (d .value)
 
 unfoldable pub settle : Binary → State → ℕ → Place → ℕ → Work State
 settle b s k p v = cond (stores b) (writeTo word s k p v) (give s)
-
-pub settle-yes : (b : Binary) (s : State) (k : ℕ) (p : Place) (v : ℕ) → stores b ≡ true → settle b s k p v ≡ writeTo word s k p v
-unfolding settle
-settle-yes b s k p v e = cond-yes (give s) e
-
-pub settle-no : (b : Binary) (s : State) (k : ℕ) (p : Place) (v : ℕ) → stores b ≡ false → settle b s k p v ≡ give s
-unfolding settle
-settle-no b s k p v e = cond-no (writeTo word s k p v) e
 
 -- MOVB to a register extends the sign through bit 15
 unfoldable pub moveByte : State → ℕ → Place → ℕ → Work State

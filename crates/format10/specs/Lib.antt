@@ -1,3 +1,1 @@
 pub mod Format10
-pub mod Direct
-pub mod Bounds

@@ -1,2 +1,1 @@
 pub mod Format7
-pub mod Bounds

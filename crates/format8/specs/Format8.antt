@@ -2,13 +2,10 @@
 use Prim.Native.Nat.{ℕ, _/_, _%_}
 use mathlib.Core.Bool.{Bool, true, false, cond}
 use mathlib.Core.List.{List, [], _∷_}
-use mathlib.Core.Path.{_≡_, ap, _∙_}
 use lib.Dec.{eqb}
 use lib.ListN.{getD}
 use Rattle.board.specs.Work.{Work, give, readAt, write, Size, word, byte}
 use Rattle.board.specs.Bind.{_>>=_, _>>_}
-use Rattle.board.specs.Exec.{Store, gone, keptAs}
-use Rattle.board.specs.Laws.{kept-none}
 use Rattle.board.specs.declared.Word.{Word}
 use Rattle.board.specs.declared.Word.the-variants as Word
 use Rattle.board.specs.declared.Byte.{Byte}
@@ -17,7 +14,6 @@ use Rattle.board.specs.declared.Kept.{Kept}
 use Rattle.board.specs.declared.Kept.the-variants as Kept
 use Rattle.word.specs.Address.{plus, minus}
 use Rattle.state.specs.declared.State.{State}
-use Rattle.state.specs.declared.Went.the-variants as Went
 use Rattle.state.specs.State.{reg, withReg, withPc}
 use Rattle.format8.specs.declared.Row.{Row}
 
@@ -95,9 +91,3 @@ unmoved (Word.Blank a) = Kept.Blank a
 abbrev pub unmovedByte : Byte → Kept
 unmovedByte (Byte.Value v) = Kept.Done
 unmovedByte (Byte.Blank a) = Kept.Blank a
-
-pub word-unmoved : {r : Kept} {w : Word} {a : ℕ} {st : Store} → r ≡ unmoved w → w ≡ Word.Blank a → keptAs r st ≡ gone a st
-word-unmoved e h = kept-none (e ∙ ap unmoved h)
-
-pub byte-unmoved : {r : Kept} {b : Byte} {a : ℕ} {st : Store} → r ≡ unmovedByte b → b ≡ Byte.Blank a → keptAs r st ≡ gone a st
-byte-unmoved e h = kept-none (e ∙ ap unmovedByte h)

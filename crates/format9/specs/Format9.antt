@@ -1,10 +1,10 @@
 -- Format 9, 7000 to 7FFF: REG and DST. All but SOB preset N1 Z0 V0 C1. REG is read after DST is decoded.
-use Prim.Native.Nat.{ℕ, _*_, _%_, _≤_}
+use Prim.Native.Nat.{ℕ, _*_, _%_}
 use mathlib.Core.Bool.{cond}
 use mathlib.Core.List.{List, [], _∷_}
 use mathlib.Core.Path.{_≡_}
 use lib.Dec.{eqb}
-use lib.ListN.{getD, List·getD-eq-default}
+use lib.ListN.{getD}
 use Rattle.codes.specs.Fields.{destinationMode, destinationRegister, register, format9Code, offset}
 use Rattle.shift.specs.Shifted.{ashOf, ashcOf, preset}
 use Rattle.arith.specs.Wide.{mulOf, divOf}
@@ -93,7 +93,7 @@ div s op = do
       (divOf (reg (o .state) (register op)) (reg (o .state) (next (register op))) (o .operand)))
 
 -- with the indicators preset: JSR 7000, LEA 7200, ASH 7400; SOB 7600 leaves them; XCH 7800, ASHC 7A00, MUL 7C00, DIV 7E00
-abbrev codes9 : Outside → State → State → ℕ → List (Work State)
+abbrev pub codes9 : Outside → State → State → ℕ → List (Work State)
 codes9 out s t op =
     jsr out t op ∷ lea out t op ∷ ash t op ∷ give (sob s op) ∷ xch t op ∷ ashc t op ∷ mul t op ∷ []
 
@@ -104,7 +104,3 @@ pub record Other (op : ℕ) : Type 0 where
 
 unfoldable pub format9 : Outside → State → ℕ → Work State
 format9 out s op = getD (codes9 out s (withFlags s preset) op) (format9Code op) (div (withFlags s preset) op)
-
-pub format9-last : (out : Outside) (s : State) (op : ℕ) → 7 ≤ format9Code op → format9 out s op ≡ div (withFlags s preset) op
-unfolding format9
-format9-last out s op h = List·getD-eq-default (codes9 out s (withFlags s preset) op) (div (withFlags s preset) op) h

@@ -1,2 +1,1 @@
 pub mod Format9
-pub mod Bounds

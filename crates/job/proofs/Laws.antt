@@ -1,5 +1,6 @@
 -- Laws of the job's definitions, in the order in which the proofs use them.
 -- Assumes nothing.
+pub mod Sound
 use Prim.Native.Nat.{ℕ, zero, suc, _+_, _-_, _*_, _<_, _≤_}
 use mathlib.Core.Bool.{true, false, cond}
 use mathlib.Core.List.{List, _++_, append-nil}
@@ -18,9 +19,10 @@ use borrow.Author.Fill.{fill-more}
 use lib.Seq.{drop-cons, drop-length}
 use Rattle.words.specs.Words.{byteAt, wordAt}
 use Rattle.refusal.specs.Numbers.{imageLength, mapLength, linesLength, jobEnds}
-use Rattle.refusal.specs.Page.{refused, answered, first, first-both, unless-some}
-use Rattle.refusal.specs.Refusal.{cond-none}
-use Rattle.refusal.specs.Page as Page
+use Rattle.refusal.specs.Page.{refused, answered, first}
+use Rattle.refusal.proofs.Laws.Page.{first-both, unless-some}
+use Rattle.refusal.proofs.Laws.Refusal.{cond-none}
+use Rattle.refusal.proofs.Laws.Page as Page
 use Rattle.job.specs.Job.{sections, sizeOf, mostOf, overOf, keyAt, note, cut, whyKey, whyEntry, whyEntries, noted, whyCount, whyLeft, whySections, stored, listed, marked, absent, wordsAt, linesAt, readOnlyAt, imageOf, mapOf, linesOf, Filled, pageOf, After, after, whyRead, jobOf}
 
 -- from the fourth on, a section is the read-only pages

@@ -7,44 +7,31 @@
 -- "Doesn't end locked" is needed, because a lock-up met by a blank counts as no blank, and a card would spare it (locked-row,
 -- spared-row; lock-needed). A lock-up by the jumpers' option alone would be the same with a card, and isn't told apart.
 use Prim.Native.Nat.{ℕ}
-use native.Mathlib.Omega.{arith}
 use mathlib.Core.Bool.{true, false}
 use mathlib.Core.List.{List, [], _∷_, _++_}
-use mathlib.Core.Path.{_≡_, refl, sym, ap, _∙_}
-use lib.ListN.{length, getD, length-set, replicate, length-replicate, set}
-use Rattle.board.specs.Work.{run, fitted, writable, even, wordAt, withWord}
-use Rattle.board.specs.Bind.{_>>=_}
+use mathlib.Core.Path.{_≡_}
+use lib.ListN.{replicate, set, length}
+use Rattle.board.specs.Work.{withWord}
 use Rattle.state.specs.declared.State.{State}
 use Rattle.state.specs.declared.Settings.{Settings}
 use Rattle.state.specs.declared.Mode.the-variants.{Locked}
-use Rattle.state.specs.Registers.{regOf, setReg}
-use Rattle.state.specs.State.{heard, modeNumber, reg, withReg, withPc, withSp, withI2, withMode, withMark, cleared, psOf}
-use Rattle.state.specs.Stack.{push, fromLoc, pushBoth, trap, tabled}
-use Rattle.step.specs.declared.Turn.{Turn}
-use Rattle.step.specs.declared.Cause.the-variants as Cause
-use Rattle.step.specs.Step.{After, after, stepOf, errorOf, kindIn, haltOption, workOf, vectored, busError, causeNumber, addressOf, isBlank}
-use Rattle.refusal.specs.Page.{answered-one}
-use Rattle.refusal.specs.Refusal.{allOf, plain, boardRefusal, powerRefusal}
-use Rattle.words.specs.Words.{byteAt}
-use Rattle.words.specs.Words as Words
+use Rattle.state.specs.State.{modeNumber, withPc, withSp, withI2, cleared}
 use Rattle.machine.specs.declared.Ran.{Ran}
 use Rattle.machine.specs.declared.First.the-variants.{Never}
-use Rattle.machine.specs.declared.Stepped.{Stepped}
-use Rattle.machine.specs.declared.Stepped.the-variants as Stepped
 use Rattle.machine.specs.declared.Finished.{Finished}
 use Rattle.machine.specs.declared.Finished.the-variants as Finished
-use Rattle.machine.specs.Numbers.{statePage, nowhere, toldOf, placeOf}
-use Rattle.machine.specs.Run.{End, end, rest, noted, runOf, ranOf}
-use Rattle.machine.specs.Trail.{trailOf, lastOf, blanksIn, tallyIn}
-use Rattle.machine.specs.Counted.{run-trail}
-use Rattle.machine.specs.Back.{turn-one, one-step}
-use Rattle.machine.specs.Entry.{powerWhy, left, turned, steppedPage, finishedPage, stepPage, runPage, run-answered}
-use Rattle.machine.specs.Answered.{step-answer, run-done}
-use Rattle.firmware.specs.Layout.{bytesOf, stateFrom, settingsFrom}
+use Rattle.machine.specs.Run.{End, end, runOf}
+use Rattle.machine.specs.Trail.{trailOf}
+use Rattle.machine.specs.Entry.{powerWhy, left, finishedPage, runPage, steppedPage, stepPage}
+use Rattle.laws.specs.More.{Plugged}
+use Rattle.step.specs.declared.Turn.{Turn}
+use Rattle.step.specs.Step.{isBlank}
+use Rattle.words.specs.Words.{byteAt}
+use Rattle.words.specs.Words as Words
+use Rattle.machine.specs.declared.Stepped.{Stepped}
+use Rattle.machine.specs.declared.Stepped.the-variants as Stepped
+use Rattle.firmware.specs.Layout.{settingsFrom}
 use Rattle.firmware.specs.Calls.{went, stepCall, ended, runCall}
-use Rattle.laws.specs.Taken.{taken-run, run-taken, run-answer-of, step-page-is, step-taken, ran-is}
-use Rattle.laws.specs.Calls.{bytesFor, call-answered, run-not-refused, step-not-refused, tally-taken, stepped, step-call-is, blanks-word, mode-byte, cause-byte, number-no-blank}
-use Rattle.laws.specs.More.{Plugged, plugged-one, plugged-more, SoundStep, step-more, trail-more, run-more, none-first}
 
 -- ---- A RUN
 
@@ -60,225 +47,100 @@ pub record Same (settings : Settings) (map big lines : List ℕ) (s : State) (m 
   pub image : m₂ ≡ m₁
   pub steps : trailOf settings big lines s m ≡ trailOf settings map lines s m
 
-pub run-plugged : (settings : Settings) (map big lines : List ℕ) (s : State) (m m₁ m₂ : List ℕ) (a : Ran) (q : Finished)
-    → Plugged map big → powerWhy settings m big ≡ 0 → Sound a
-    → left (finishedPage (Finished.Done a)) m₁ ≡ runPage settings m map lines s
-    → left (finishedPage q) m₂ ≡ runPage settings m big lines s
-    → Same settings map big lines s m a m₁ q m₂
-run-plugged settings map big lines s m m₁ m₂ a q p h sound f g =
-    let one = run-done settings m map lines s a m₁ f in
-    let t = run-taken settings m map lines (one .0) in
-    let two = run-answer-of settings m big lines s q m₂ (taken-run settings m big lines (record { board = h; few = t .few; unused = t .unused })) g in
-    let rs = trailOf settings map lines s m in
-    let last : a ≡ record { state = lastOf (after s m Cause.Nothing) rs .state; tally = tallyIn rs } = ran-is (one .1 ∙ run-trail settings map lines s m Cause.Nothing) .0 in
-    let blanks : blanksIn rs ≡ 0 = sym (ap (λ z. z .tally .blanks) last) ∙ sound .noBlank in
-    let unlocked : lastOf (after s m Cause.Nothing) rs .state .mode ≡ Locked → ⊥ = λ l. sound .unlocked (ap (λ z. z .state .mode) last ∙ l) in
-    let more = plugged-more map big p in
-    let same = ran-is (two .2 ∙ run-more settings map big more lines s m Cause.Nothing blanks unlocked ∙ sym (one .1)) in
-    record {
-      answer = two .1 ∙ ap Finished.Done (same .0);
-      noPlace = ap (λ z. z .tally .first) last ∙ none-first rs blanks;
-      image = same .1;
-      steps = trail-more settings map big more lines s m Cause.Nothing blanks unlocked;
-    }
-
--- ---- A STEP: with no blank, and not locked after it
-
-sound-turn : (t : Turn) (a : After) → t ≡ record { state = a .state; cause = a .cause } → isBlank (t .cause) ≡ false → (t .state .mode ≡ Locked → ⊥) → SoundStep a
-sound-turn t a same e u = record { noBlank = sym (ap (λ z. isBlank (z .cause)) same) ∙ e; unlocked = λ l. u (ap (λ z. z .state .mode) same ∙ l) }
-
-pub step-plugged : (settings : Settings) (map big : List ℕ) (line : ℕ) (s : State) (m m₁ m₂ : List ℕ) (t : Turn) (q : Stepped)
-    → Plugged map big → powerWhy settings m big ≡ 0 → isBlank (t .cause) ≡ false → (t .state .mode ≡ Locked → ⊥)
-    → left (steppedPage (Stepped.Done t)) m₁ ≡ stepPage settings m map line s
-    → left (steppedPage q) m₂ ≡ stepPage settings m big line s
-    → (q ≡ Stepped.Done t) × (m₂ ≡ m₁)
-step-plugged settings map big line s m m₁ m₂ t q p h e u f g =
-    let one = step-answer settings m map line s f in
-    let a = stepOf map (heard settings line) s m in
-    let same : t ≡ record { state = a .state; cause = a .cause } = turn-one t (record { state = a .state; cause = a .cause }) (answered-one (ap (λ z. z .page) (one .1))) in
-    let sound : SoundStep a = sound-turn t a same e u in
-    one-step q (Stepped.Done t) m₂ m₁
-    (g ∙ step-page-is settings m big line s (step-taken settings m map big line h (one .0)) ∙ ap turned (step-more map (heard settings line) s m big (plugged-more map big p) sound) ∙ sym (one .1))
-
--- ---- THE SAME FOR C, on the bytes that the calls leave: w are the settings' bytes
-
--- a step that leaves no cause 5, 6 or 9 and not mode 4
-pub wd16-step-plugged : (b m map big w : List ℕ) (line k : ℕ) (b₁ m₁ b₂ m₂ : List ℕ)
-    → Plugged map big → powerWhy (settingsFrom w) m big ≡ 0
-    → went 0 b₁ m₁ ≡ stepCall b m map w line
-    → (byteAt b₁ 19 ≡ 5 → ⊥) → (byteAt b₁ 19 ≡ 6 → ⊥) → (byteAt b₁ 19 ≡ 9 → ⊥) → (byteAt b₁ 18 ≡ 4 → ⊥)
-    → went k b₂ m₂ ≡ stepCall b m big w line
-    → (k ≡ 0) × (b₂ ≡ b₁) × (m₂ ≡ m₁)
-wd16-step-plugged b m map big w line k b₁ m₁ b₂ m₂ p h e five six nine four f =
-    let settings = settingsFrom w in
-    let free = step-not-refused b m map w line b₁ m₁ e in
-    let a = stepOf map (heard settings line) (stateFrom b) m in
-    let left₁ : went 0 b₁ m₁ ≡ stepped a = e ∙ step-call-is b m map w line (free .0) (free .1) in
-    let bytes : b₁ ≡ bytesOf (statePage (a .state)) (causeNumber (a .cause)) (toldOf (addressOf (a .cause))) = ap (λ z. z .state) left₁ in
-    let mode : byteAt b₁ 18 ≡ modeNumber (a .state .mode) = ap (λ z. byteAt z 18) bytes ∙ mode-byte (a .state) (causeNumber (a .cause)) (toldOf (addressOf (a .cause))) in
-    let cause : byteAt b₁ 19 ≡ causeNumber (a .cause) = ap (λ z. byteAt z 19) bytes ∙ cause-byte (a .state) (causeNumber (a .cause)) (toldOf (addressOf (a .cause))) in
-    let sound : SoundStep a = record {
-      noBlank = number-no-blank (a .cause) (λ z. five (cause ∙ z)) (λ z. six (cause ∙ z)) (λ z. nine (cause ∙ z));
-      unlocked = λ l. four (mode ∙ ap modeNumber l);
-    } in
-    let left₂ : went k b₂ m₂ ≡ went 0 b₁ m₁ =
-    f ∙ step-call-is b m big w line (free .0) (step-taken settings m map big line h (free .1)) ∙ ap stepped (step-more map (heard settings line) (stateFrom b) m big (plugged-more map big p) sound) ∙ sym left₁ in
-    (ap (λ z. z .number) left₂, ap (λ z. z .state) left₂, ap (λ z. z .image) left₂)
-
-done-one : {a b : Ran} → Finished.Done a ≡ Finished.Done b → a ≡ b
-done-one {a} {b} e = cc
-
-same-bytes : (a c : Ran) {b₁ b₂ t₁ t₂ : List ℕ} → c ≡ a → b₁ ≡ bytesOf (statePage (a .state)) 0 nowhere → b₂ ≡ bytesOf (statePage (c .state)) 0 nowhere → t₁ ≡ bytesFor a → t₂ ≡ bytesFor c → (b₂ ≡ b₁) × (t₂ ≡ t₁)
-same-bytes a c e f g h i = (g ∙ ap (λ z. bytesOf (statePage (z .state)) 0 nowhere) e ∙ sym f, i ∙ ap bytesFor e ∙ sym h)
-
--- a run that leaves a count of 0 and not mode 4; t and t′ are what the two calls are lent for the tally
-pub wd16-run-plugged : (b t t′ m map big w lines : List ℕ) (k : ℕ) (b₁ t₁ m₁ b₂ t₂ m₂ : List ℕ)
-    → Plugged map big → powerWhy (settingsFrom w) m big ≡ 0 → length t′ ≡ 6
-    → ended 0 b₁ t₁ m₁ ≡ runCall b t m map w lines
-    → Words.wordAt t₁ 0 ≡ 0 → (byteAt b₁ 18 ≡ 4 → ⊥)
-    → ended k b₂ t₂ m₂ ≡ runCall b t′ m big w lines
-    → (k ≡ 0) × (b₂ ≡ b₁) × (t₂ ≡ t₁) × (m₂ ≡ m₁)
-wd16-run-plugged b t t′ m map big w lines k b₁ t₁ m₁ b₂ t₂ m₂ p h l e none four f =
-    let settings = settingsFrom w in
-    let free = run-not-refused b t m map w lines b₁ t₁ m₁ e in
-    let lines-taken = run-taken settings m map lines (free .1) in
-    let one = call-answered b t m map w lines 0 b₁ t₁ m₁ (free .0) (free .1) e .1 in
-    let a = one .ran in
-    let two = call-answered b t′ m big w lines k b₂ t₂ m₂ (tally-taken b t t′ w (free .0) l) (taken-run settings m big lines (record { board = h; few = lines-taken .few; unused = lines-taken .unused })) f in
-    let mode : byteAt b₁ 18 ≡ modeNumber (a .state .mode) = ap (λ z. byteAt z 18) (one .state) ∙ mode-byte (a .state) 0 nowhere in
-    let blanks : Words.wordAt t₁ 0 ≡ a .tally .blanks = ap (λ z. Words.wordAt z 0) (one .tally) ∙ blanks-word (a .tally .blanks) (placeOf (a .tally .first)) in
-    let sound : Sound a = record { noBlank = sym blanks ∙ none; unlocked = λ l. four (mode ∙ ap modeNumber l) } in
-    let same = run-plugged settings map big lines (stateFrom b) m m₁ m₂ a (Finished.Done (two .1 .ran)) p h sound (one .page) (two .1 .page) in
-    let bytes = same-bytes a (two .1 .ran) (done-one (same .answer)) (one .state) (two .1 .state) (one .tally) (two .1 .tally) in
-    (two .0, bytes .0, bytes .1, same .image)
-
 -- ---- WHY BOTH CONDITIONS ARE NEEDED
 
 -- bench's settings
-abbrev settings : Settings
+abbrev pub settings : Settings
 settings = record { blocks = true; powerup = 3; halt = 3; register = 0 }
 
 -- pages 0 to 3 are fitted; with the card, page 4 too
-abbrev bare : List ℕ
+abbrev pub bare : List ℕ
 bare = replicate 4 1 ++ replicate 252 0
 
-abbrev card : List ℕ
+abbrev pub card : List ℕ
 card = set bare 4 1
 
 -- 0200 at 12, 0400 at 28, 0300 at 2A
-abbrev image : List ℕ
+abbrev pub image : List ℕ
 image = withWord (withWord (withWord (replicate 65536 0) 0x12 0x200) 0x28 0x400) 0x2a 0x300
 
 -- running at 0100 with I2 set
-abbrev before : ℕ → State
+abbrev pub before : ℕ → State
 before sp = withI2 (withSp (withPc cleared 0x100) sp) true
 
-abbrev ranIn : End → Ran
+abbrev pub ranIn : End → Ran
 ranIn (end s m t) = record { state = s; tally = t }
 
-abbrev imageIn : End → List ℕ
-imageIn (end s m t) = m
-
 -- PC, SP, the mode and the blanks at the end
-abbrev seen : Ran → List ℕ
+abbrev pub seen : Ran → List ℕ
 seen a = a .state .regs .pc ∷ a .state .regs .sp ∷ modeNumber (a .state .mode) ∷ a .tally .blanks ∷ []
 
 -- A BLANK THAT A CARD HEALS. I0, device code 0: the table at 0400 isn't fitted, so the interrupt is dropped and its bus error goes
 -- through 12 to 0200. With page 4 the table's word, 0, leads to 0400.
-abbrev heals : List ℕ → End
+abbrev pub heals : List ℕ → End
 heals map = runOf settings map (1 ∷ []) (before 0x200) image
-
-blank-row : seen (ranIn (heals bare)) ≡ 0x200 ∷ 0x1fc ∷ 0 ∷ 1 ∷ []
-unfolding rest noted stepOf errorOf kindIn haltOption workOf vectored busError run fitted writable even wordAt withWord _>>=_ regOf setReg reg withReg withI2 withMode withMark cleared psOf push fromLoc pushBoth trap tabled
-blank-row = refl
-
-healed-row : seen (ranIn (heals card)) ≡ 0x400 ∷ 0x1fc ∷ 0 ∷ 0 ∷ []
-unfolding rest noted stepOf errorOf kindIn haltOption workOf vectored busError run fitted writable even wordAt withWord _>>=_ regOf setReg reg withReg withI2 withMode withMark cleared psOf push fromLoc pushBoth trap tabled
-healed-row = refl
 
 -- A LOCK-UP THAT A CARD SPARES. I1 with the stack on page 4: neither the interrupt nor its bus error can push, so the step locks, and
 -- that is no blank. With page 4 the interrupt leads to 0300.
-abbrev spares : List ℕ → End
+abbrev pub spares : List ℕ → End
 spares map = runOf settings map (2 ∷ []) (before 0x500) image
 
-locked-row : seen (ranIn (spares bare)) ≡ 0x100 ∷ 0x500 ∷ 4 ∷ 0 ∷ []
-unfolding rest noted stepOf errorOf kindIn haltOption workOf vectored busError run fitted writable even wordAt withWord _>>=_ regOf setReg reg withReg withI2 withMode withMark cleared psOf push fromLoc pushBoth trap tabled
-locked-row = refl
-
-spared-row : seen (ranIn (spares card)) ≡ 0x300 ∷ 0x4fc ∷ 0 ∷ 0 ∷ []
-unfolding rest noted stepOf errorOf kindIn haltOption workOf vectored busError run fitted writable even wordAt withWord _>>=_ regOf setReg reg withReg withI2 withMode withMark cleared psOf push fromLoc pushBoth trap tabled
-spared-row = refl
-
 -- the law of a run, under a condition on what it answered
-abbrev Law : (Ran → Type 0) → Type 0
+abbrev pub Law : (Ran → Type 0) → Type 0
 Law P = (settings : Settings) (map big lines : List ℕ) (s : State) (m m₁ m₂ : List ℕ) (a : Ran) (q : Finished)
     → Plugged map big → powerWhy settings m big ≡ 0 → P a
     → left (finishedPage (Finished.Done a)) m₁ ≡ runPage settings m map lines s
     → left (finishedPage q) m₂ ≡ runPage settings m big lines s
     → q ≡ Finished.Done a
 
+-- ---- A RUN
+
+abbrev pub RunPlugged : Type 0
+RunPlugged = (settings : Settings) (map big lines : List ℕ) (s : State) (m m₁ m₂ : List ℕ) (a : Ran) (q : Finished)
+    → Plugged map big → powerWhy settings m big ≡ 0 → Sound a
+    → left (finishedPage (Finished.Done a)) m₁ ≡ runPage settings m map lines s
+    → left (finishedPage q) m₂ ≡ runPage settings m big lines s
+    → Same settings map big lines s m a m₁ q m₂
+
+-- ---- A STEP: with no blank, and not locked after it
+
+abbrev pub StepPlugged : Type 0
+StepPlugged = (settings : Settings) (map big : List ℕ) (line : ℕ) (s : State) (m m₁ m₂ : List ℕ) (t : Turn) (q : Stepped)
+    → Plugged map big → powerWhy settings m big ≡ 0 → isBlank (t .cause) ≡ false → (t .state .mode ≡ Locked → ⊥)
+    → left (steppedPage (Stepped.Done t)) m₁ ≡ stepPage settings m map line s
+    → left (steppedPage q) m₂ ≡ stepPage settings m big line s
+    → (q ≡ Stepped.Done t) × (m₂ ≡ m₁)
+
+-- ---- THE SAME FOR C, on the bytes that the calls leave: w are the settings' bytes
+
+-- a step that leaves no cause 5, 6 or 9 and not mode 4
+abbrev pub Wd16StepPlugged : Type 0
+Wd16StepPlugged = (b m map big w : List ℕ) (line k : ℕ) (b₁ m₁ b₂ m₂ : List ℕ)
+    → Plugged map big → powerWhy (settingsFrom w) m big ≡ 0
+    → went 0 b₁ m₁ ≡ stepCall b m map w line
+    → (byteAt b₁ 19 ≡ 5 → ⊥) → (byteAt b₁ 19 ≡ 6 → ⊥) → (byteAt b₁ 19 ≡ 9 → ⊥) → (byteAt b₁ 18 ≡ 4 → ⊥)
+    → went k b₂ m₂ ≡ stepCall b m big w line
+    → (k ≡ 0) × (b₂ ≡ b₁) × (m₂ ≡ m₁)
+
+-- a run that leaves a count of 0 and not mode 4; t and t′ are what the two calls are lent for the tally
+abbrev pub Wd16RunPlugged : Type 0
+Wd16RunPlugged = (b t t′ m map big w lines : List ℕ) (k : ℕ) (b₁ t₁ m₁ b₂ t₂ m₂ : List ℕ)
+    → Plugged map big → powerWhy (settingsFrom w) m big ≡ 0 → length t′ ≡ 6
+    → ended 0 b₁ t₁ m₁ ≡ runCall b t m map w lines
+    → Words.wordAt t₁ 0 ≡ 0 → (byteAt b₁ 18 ≡ 4 → ⊥)
+    → ended k b₂ t₂ m₂ ≡ runCall b t′ m big w lines
+    → (k ≡ 0) × (b₂ ≡ b₁) × (t₂ ≡ t₁) × (m₂ ≡ m₁)
+
+-- ---- WHY BOTH CONDITIONS ARE NEEDED
+
 -- with both it holds
-pub both-suffice : Law Sound
-both-suffice settings map big lines s m m₁ m₂ a q p h sound f g = run-plugged settings map big lines s m m₁ m₂ a q p h sound f g .answer
-
-plugged : Plugged bare card
-plugged = plugged-one bare 4 1 refl
-
-image-size : length image ≡ 65536
-unfolding withWord
-image-size = simp (length-set, length-replicate)
-
-bare-taken : (m : List ℕ) → length m ≡ 65536 → powerWhy settings m bare ≡ 0
-unfolding powerRefusal boardRefusal allOf
-bare-taken m l = rw l
-
-card-taken : (m : List ℕ) → length m ≡ 65536 → powerWhy settings m card ≡ 0
-unfolding powerRefusal boardRefusal allOf
-card-taken m l = rw l
-
--- what a run over one line word that isn't refused answers and leaves
-met : (map : List ℕ) (line : ℕ) (s : State) (m : List ℕ) → powerWhy settings m map ≡ 0 → plain line ≡ true
-    → (let x = runOf settings map (line ∷ []) s m in left (finishedPage (Finished.Done (ranIn x))) (imageIn x) ≡ runPage settings m map (line ∷ []) s)
-unfolding allOf
-met map line s m e h =
-    let x = runOf settings map (line ∷ []) s m in
-    run-answered settings m map (line ∷ []) s (ranIn x) (imageIn x) (taken-run settings m map (line ∷ []) (record { board = e; few = omega arith; unused = rw h })) (whole x)
-  where
-    whole : (x : End) → ranOf (ranIn x) (imageIn x) ≡ x
-    whole (end t n y) = refl
-
--- by the rows
-not-locked : ranIn (heals bare) .state .mode ≡ Locked → ⊥
-not-locked l =
-    let z : _≡_ {A = ℕ} 4 0 = sym (ap modeNumber l) ∙ ap (λ z. getD z 2 9) blank-row in
-    omega arith
-
-no-blanks : ranIn (spares bare) .tally .blanks ≡ 0
-no-blanks = ap (λ z. getD z 3 9) locked-row
-
-abbrev seenIn : Finished → List ℕ
-seenIn (Finished.Done a) = seen a
-seenIn (Finished.Refused why) = []
-
-apart : (a b c d e f g h : ℕ) (x y : List ℕ) → x ≡ a ∷ b ∷ c ∷ d ∷ [] → y ≡ e ∷ f ∷ g ∷ h ∷ [] → y ≡ x → a ≡ e
-apart a b c d e f g h x y p q r = cc
+abbrev pub BothSuffice : Type 0
+BothSuffice = Law Sound
 
 -- WITHOUT "NO BLANK" THE LAW IS FALSE
-pub blank-needed : Law (λ a. a .state .mode ≡ Locked → ⊥) → ⊥
-blank-needed law =
-    let same : Finished.Done (ranIn (heals card)) ≡ Finished.Done (ranIn (heals bare)) =
-    law settings bare card (1 ∷ []) (before 0x200) image (imageIn (heals bare)) (imageIn (heals card)) (ranIn (heals bare)) (Finished.Done (ranIn (heals card)))
-    plugged (card-taken image image-size) not-locked
-    (met bare 1 (before 0x200) image (bare-taken image image-size) refl) (met card 1 (before 0x200) image (card-taken image image-size) refl) in
-    let pc : _≡_ {A = ℕ} 0x200 0x400 = apart _ _ _ _ _ _ _ _ _ _ blank-row healed-row (ap seenIn same) in
-    omega arith
+abbrev pub BlankNeeded : Type 0
+BlankNeeded = Law (λ a. a .state .mode ≡ Locked → ⊥) → ⊥
 
 -- WITHOUT "DOESN'T END LOCKED" IT IS FALSE
-pub lock-needed : Law (λ a. a .tally .blanks ≡ 0) → ⊥
-lock-needed law =
-    let same : Finished.Done (ranIn (spares card)) ≡ Finished.Done (ranIn (spares bare)) =
-    law settings bare card (2 ∷ []) (before 0x500) image (imageIn (spares bare)) (imageIn (spares card)) (ranIn (spares bare)) (Finished.Done (ranIn (spares card)))
-    plugged (card-taken image image-size) no-blanks
-    (met bare 2 (before 0x500) image (bare-taken image image-size) refl) (met card 2 (before 0x500) image (card-taken image image-size) refl) in
-    let pc : _≡_ {A = ℕ} 0x100 0x300 = apart _ _ _ _ _ _ _ _ _ _ locked-row spared-row (ap seenIn same) in
-    omega arith
+abbrev pub LockNeeded : Type 0
+LockNeeded = Law (λ a. a .tally .blanks ≡ 0) → ⊥

@@ -4,33 +4,26 @@
 -- Whatever runs answer and leave, as their contract promises. That none is refused is a conclusion: the settings, the map and the
 -- image aren't, the lists have at most 4,096 words in all, and no word has an unused bit.
 use Prim.Native.Nat.{ℕ, _+_, _≤_}
-use native.Mathlib.Omega.{arith}
-use mathlib.Core.Bool.{true, false}
 use mathlib.Core.List.{List, [], _∷_, _++_}
-use mathlib.Core.Path.{_≡_, refl, sym, ap, _∙_}
-use lib.ListN.{length, length-append}
+use mathlib.Core.Path.{_≡_}
 use Rattle.state.specs.declared.State.{State}
-use Rattle.state.specs.declared.Settings.{Settings}
-use Rattle.refusal.specs.Refusal.{allOf, plain, powerRefusal}
 use Rattle.words.specs.Words.{wordAt}
 use Rattle.machine.specs.declared.Ran.{Ran}
-use Rattle.machine.specs.declared.Stepped.{Stepped}
 use Rattle.machine.specs.declared.Finished.{Finished}
 use Rattle.machine.specs.declared.Finished.the-variants as Finished
-use Rattle.machine.specs.Numbers.{statePage, nowhere, placeOf}
-use Rattle.machine.specs.Run.{rest, noBlanks, ranOf, runOf}
+use Rattle.machine.specs.Run.{noBlanks}
 use Rattle.machine.specs.Trail.{moved}
-use Rattle.machine.specs.Counted.{orFirst, joined, joined-left, joined-right}
-use Rattle.machine.specs.Back.{one-run}
+use Rattle.machine.specs.Counted.{orFirst}
+use Rattle.laws.specs.Calls.{firstPlace, firstTold}
+use mathlib.Core.Bool.{true, false}
+use lib.ListN.{length}
+use Rattle.state.specs.declared.Settings.{Settings}
+use Rattle.refusal.specs.Refusal.{allOf, plain}
+use Rattle.machine.specs.declared.Stepped.{Stepped}
 use Rattle.machine.specs.Entry.{powerWhy, left, steppedPage, finishedPage, stepPage, runPage}
-use Rattle.machine.specs.Answered.{run-done}
-use Rattle.firmware.specs.Layout.{bytesOf, placeNumber, placeTold, stateFrom, settingsFrom, refusedState, refusedStep}
-use Rattle.firmware.specs.Again.{state-again, state-taken}
+use Rattle.firmware.specs.Layout.{settingsFrom, refusedStep}
 use Rattle.firmware.specs.Calls.{went, stepCall, ended, runCall}
-use Rattle.laws.specs.Taken.{taken-run, all-append, run-answer-of, run-size, ran-is}
-use Rattle.laws.specs.Append.{followed, joined-ends}
-use Rattle.laws.specs.One.{asRun, step-as-run, OneCall, calls-one}
-use Rattle.laws.specs.Calls.{bytesFor, Within, call-answered, settings-taken, step-taken, buffers-taken, blanks-word, place-word, told-word, firstPlace, firstTold, place-after, told-after, run-low}
+use Rattle.laws.specs.One.{asRun, OneCall}
 
 -- the whole run, beside its halves: n is the length of the first list
 pub record Halves (n : ℕ) (first second whole : Ran) : Type 0 where
@@ -54,62 +47,10 @@ pub record Joined (n : ℕ) (r q p : Finished) (m₂ m₃ : List ℕ) : Type 0 w
   pub halves : Halves n first second whole
   pub image : m₃ ≡ m₂
 
-halves-of : (n : ℕ) (a b c : Ran) → c ≡ followed n a b → Halves n a b c
-unfolding joined
-halves-of n a b c e = record { state = ap (λ z. z .state) e; blanks = ap (λ z. z .tally .blanks) e; firstBlank = ap (λ z. z .tally .first) e }
-
-module _ (settings : Settings) (map xs ys : List ℕ) (s : State) (m : List ℕ)
-    (board : powerWhy settings m map ≡ 0) (few : length xs + length ys ≤ 4096) (unused : allOf plain xs ≡ true) (unusedToo : allOf plain ys ≡ true) where
-  -- HALF NOW, HALF LATER
-  pub run-joined : (r q p : Finished) (m₁ m₂ m₃ : List ℕ)
-      → left (finishedPage r) m₁ ≡ runPage settings m map xs s
-      → left (finishedPage q) m₂ ≡ runPage settings m₁ map ys (stateAfter r s)
-      → left (finishedPage p) m₃ ≡ runPage settings m map (xs ++ ys) s
-      → Joined (length xs) r q p m₂ m₃
-  run-joined r q p m₁ m₂ m₃ e f g =
-      let one = run-answer-of settings m map xs s r m₁ (taken-run settings m map xs (record { board = board; few = omega arith; unused = unused })) e in
-      let a = one .0 in
-      let size : length m₁ ≡ length m = run-size settings m map xs s a m₁ (one .2) in
-      let next : left (finishedPage q) m₂ ≡ runPage settings m₁ map ys (a .state) = f ∙ ap (λ z. runPage settings m₁ map ys (stateAfter z s)) (one .1) in
-      let next-board : powerWhy settings m₁ map ≡ 0 = ap (λ z. powerRefusal z map (settings .powerup) (settings .halt) (settings .register)) size ∙ board in
-      let two = run-answer-of settings m₁ map ys (a .state) q m₂ (taken-run settings m₁ map ys (record { board = next-board; few = omega arith; unused = unusedToo })) next in
-      let three = run-answer-of settings m map (xs ++ ys) s p m₃ (taken-run settings m map (xs ++ ys) (record { board = board; few = omega (arith, length-append xs ys); unused = all-append plain xs ys unused ∙ unusedToo })) g in
-      let same = joined-ends settings map xs ys s m m₁ m₂ m₃ a (two .0) (three .0) (one .2) (two .2) (three .2) in
-      record {
-        first = a;
-        second = two .0;
-        whole = three .0;
-        firstDone = one .1;
-        secondDone = two .1;
-        wholeDone = three .1;
-        halves = halves-of (length xs) a (two .0) (three .0) (same .0);
-        image = same .1;
-      }
-
 -- ---- AN EMPTY LIST IS NEUTRAL: the run over it stays where it is, without a blank; so before another or after it, it adds nothing
 
 abbrev pub still : State → Ran
 still s = record { state = s; tally = noBlanks }
-
-pub run-none : (settings : Settings) (map : List ℕ) (s : State) (m n : List ℕ) (r : Finished) → powerWhy settings m map ≡ 0
-    → left (finishedPage r) n ≡ runPage settings m map [] s → (r ≡ Finished.Done (still s)) × (n ≡ m)
-unfolding allOf rest
-run-none settings map s m n r h e =
-    let one = run-answer-of settings m map [] s r n (taken-run settings m map [] (record { board = h; few = omega arith; unused = refl })) e in
-    let same = ran-is (one .2) in
-    (one .1 ∙ ap Finished.Done (same .0), same .1)
-
-pub none-before : (s : State) (a : Ran) → Halves 0 (still s) a a
-none-before s a = halves-of 0 (still s) a a (ap (λ z. record { state = a .state; tally = z }) (sym (joined-left (a .tally))))
-
-pub none-after : (n : ℕ) (a : Ran) → Halves n a (still (a .state)) a
-none-after n a = halves-of n a (still (a .state)) a (ap (λ z. record { state = a .state; tally = z }) (sym (joined-right n (a .tally))))
-
--- ---- A RUN OF ONE LINE WORD IS A STEP: the same refusal, or the same state and image, with the step's cause tallied at place 0
-
-pub run-one : (settings : Settings) (map : List ℕ) (line : ℕ) (s : State) (m m₁ m₂ : List ℕ) (r : Finished) (q : Stepped)
-    → left (finishedPage r) m₁ ≡ runPage settings m map (line ∷ []) s → left (steppedPage q) m₂ ≡ stepPage settings m map line s → (r ≡ asRun q) × (m₁ ≡ m₂)
-run-one settings map line s m m₁ m₂ r q e f = one-run r (asRun q) m₁ m₂ (e ∙ sym (step-as-run settings m map line s q m₂ f))
 
 -- ---- THE SAME FOR C, on the bytes that the calls leave: the second call is lent the state and the image that the first left, the
 -- third those that the first was lent. w are the settings' bytes
@@ -122,61 +63,48 @@ pub record CallsJoined (n k₁ k₂ k₃ : ℕ) (t₁ b₂ t₂ m₂ b₃ t₃ m
   pub place : wordAt t₃ 2 ≡ firstPlace n (wordAt t₁ 2) (wordAt t₂ 2)
   pub told : wordAt t₃ 4 ≡ firstTold (wordAt t₁ 2) (wordAt t₁ 4) (wordAt t₂ 4)
 
--- the tallies' words, from what the runs counted
-module _ (n : ℕ) (a b c : Ran) (h : Halves n a b c) (low : Within (a .tally .first)) (lowToo : Within (b .tally .first)) {t₁ t₂ t₃ : List ℕ}
-    (e : t₁ ≡ bytesFor a) (f : t₂ ≡ bytesFor b) (g : t₃ ≡ bytesFor c) where
-  blanks-add : wordAt t₃ 0 ≡ wordAt t₁ 0 + wordAt t₂ 0
-  blanks-add = rw (e, f, g, blanks-word (a .tally .blanks) (placeOf (a .tally .first)), blanks-word (b .tally .blanks) (placeOf (b .tally .first)), blanks-word (c .tally .blanks) (placeOf (c .tally .first))) (h .blanks)
+module _ (settings : Settings) (map xs ys : List ℕ) (s : State) (m : List ℕ)
+    (board : powerWhy settings m map ≡ 0) (few : length xs + length ys ≤ 4096) (unused : allOf plain xs ≡ true) (unusedToo : allOf plain ys ≡ true) where
+  -- HALF NOW, HALF LATER
+  abbrev pub RunJoined : Type 0
+  RunJoined = (r q p : Finished) (m₁ m₂ m₃ : List ℕ)
+      → left (finishedPage r) m₁ ≡ runPage settings m map xs s
+      → left (finishedPage q) m₂ ≡ runPage settings m₁ map ys (stateAfter r s)
+      → left (finishedPage p) m₃ ≡ runPage settings m map (xs ++ ys) s
+      → Joined (length xs) r q p m₂ m₃
 
-  place-is : wordAt t₃ 2 ≡ firstPlace n (wordAt t₁ 2) (wordAt t₂ 2)
-  place-is =
-      rw (e, f, g, place-word (a .tally .blanks) (placeOf (a .tally .first)), place-word (b .tally .blanks) (placeOf (b .tally .first)), place-word (c .tally .blanks) (placeOf (c .tally .first)))
-      (ap (λ z. placeNumber (placeOf z)) (h .firstBlank) ∙ place-after n (a .tally .first) (b .tally .first) low lowToo)
+-- ---- AN EMPTY LIST IS NEUTRAL: the run over it stays where it is, without a blank; so before another or after it, it adds nothing
 
-  told-is : wordAt t₃ 4 ≡ firstTold (wordAt t₁ 2) (wordAt t₁ 4) (wordAt t₂ 4)
-  told-is =
-      rw (e, f, g, place-word (a .tally .blanks) (placeOf (a .tally .first)), told-word (a .tally .blanks) (placeOf (a .tally .first)), told-word (b .tally .blanks) (placeOf (b .tally .first)), told-word (c .tally .blanks) (placeOf (c .tally .first)))
-      (ap (λ z. placeTold (placeOf z)) (h .firstBlank) ∙ told-after n (a .tally .first) (b .tally .first) low)
+abbrev pub RunNone : Type 0
+RunNone = (settings : Settings) (map : List ℕ) (s : State) (m n : List ℕ) (r : Finished) → powerWhy settings m map ≡ 0
+    → left (finishedPage r) n ≡ runPage settings m map [] s → (r ≡ Finished.Done (still s)) × (n ≡ m)
+
+abbrev pub NoneBefore : Type 0
+NoneBefore = (s : State) (a : Ran) → Halves 0 (still s) a a
+
+abbrev pub NoneAfter : Type 0
+NoneAfter = (n : ℕ) (a : Ran) → Halves n a (still (a .state)) a
+
+-- ---- A RUN OF ONE LINE WORD IS A STEP: the same refusal, or the same state and image, with the step's cause tallied at place 0
+
+abbrev pub RunOne : Type 0
+RunOne = (settings : Settings) (map : List ℕ) (line : ℕ) (s : State) (m m₁ m₂ : List ℕ) (r : Finished) (q : Stepped)
+    → left (finishedPage r) m₁ ≡ runPage settings m map (line ∷ []) s → left (steppedPage q) m₂ ≡ stepPage settings m map line s → (r ≡ asRun q) × (m₁ ≡ m₂)
+
+-- ---- THE SAME FOR C, on the bytes that the calls leave: the second call is lent the state and the image that the first left, the
+-- third those that the first was lent. w are the settings' bytes
 
 module _ (map w xs ys b t t′ t″ m : List ℕ) (good : refusedStep b w ≡ false) (tally : length t ≡ 6) (tally′ : length t′ ≡ 6) (tally″ : length t″ ≡ 6)
     (board : powerWhy (settingsFrom w) m map ≡ 0) (few : length xs + length ys ≤ 4096) (unused : allOf plain xs ≡ true) (unusedToo : allOf plain ys ≡ true) where
-  pub wd16-run-joined : (k₁ k₂ k₃ : ℕ) (b₁ t₁ m₁ b₂ t₂ m₂ b₃ t₃ m₃ : List ℕ)
+  abbrev pub Wd16RunJoined : Type 0
+  Wd16RunJoined = (k₁ k₂ k₃ : ℕ) (b₁ t₁ m₁ b₂ t₂ m₂ b₃ t₃ m₃ : List ℕ)
       → ended k₁ b₁ t₁ m₁ ≡ runCall b t m map w xs
       → ended k₂ b₂ t₂ m₂ ≡ runCall b₁ t′ m₁ map w ys
       → ended k₃ b₃ t₃ m₃ ≡ runCall b t″ m map w (xs ++ ys)
       → CallsJoined (length xs) k₁ k₂ k₃ t₁ b₂ t₂ m₂ b₃ t₃ m₃
-  wd16-run-joined k₁ k₂ k₃ b₁ t₁ m₁ b₂ t₂ m₂ b₃ t₃ m₃ e f g =
-      let settings = settingsFrom w in
-      let s = stateFrom b in
-      let right = settings-taken b w good in
-      let one = call-answered b t m map w xs k₁ b₁ t₁ m₁ (buffers-taken b t w (step-taken b w good) right tally) (taken-run settings m map xs (record { board = board; few = omega arith; unused = unused })) e in
-      let a = one .1 .ran in
-      let first : ranOf a m₁ ≡ runOf settings map xs s m = run-done settings m map xs s a m₁ (one .1 .page) .1 in
-      let size : length m₁ ≡ length m = run-size settings m map xs s a m₁ first in
-      let good₁ : refusedState b₁ ≡ false = ap refusedState (one .1 .state) ∙ state-taken (a .state) 0 nowhere (omega arith) in
-      let next : powerWhy settings m₁ map ≡ 0 = ap (λ z. powerRefusal z map (settings .powerup) (settings .halt) (settings .register)) size ∙ board in
-      let two = call-answered b₁ t′ m₁ map w ys k₂ b₂ t₂ m₂ (buffers-taken b₁ t′ w good₁ right tally′) (taken-run settings m₁ map ys (record { board = next; few = omega arith; unused = unusedToo })) f in
-      let c = two .1 .ran in
-      let from : stateFrom b₁ ≡ a .state = ap stateFrom (one .1 .state) ∙ state-again (a .state) 0 nowhere in
-      let second : ranOf c m₂ ≡ runOf settings map ys (a .state) m₁ = run-done settings m₁ map ys (a .state) c m₂ (two .1 .page ∙ ap (runPage settings m₁ map ys) from) .1 in
-      let three = call-answered b t″ m map w (xs ++ ys) k₃ b₃ t₃ m₃ (buffers-taken b t″ w (step-taken b w good) right tally″) (taken-run settings m map (xs ++ ys) (record { board = board; few = omega (arith, length-append xs ys); unused = all-append plain xs ys unused ∙ unusedToo })) g in
-      let d = three .1 .ran in
-      let whole : ranOf d m₃ ≡ runOf settings map (xs ++ ys) s m = run-done settings m map (xs ++ ys) s d m₃ (three .1 .page) .1 in
-      let same = joined-ends settings map xs ys s m m₁ m₂ m₃ a c d first second whole in
-      let h = halves-of (length xs) a c d (same .0) in
-      let low = run-low settings map xs s m a m₁ first (omega arith) in
-      let lowToo = run-low settings map ys (a .state) m₁ c m₂ second (omega arith) in
-      record {
-        numbers = (one .0, two .0, three .0);
-        state = three .1 .state ∙ ap (λ z. bytesOf (statePage z) 0 nowhere) (h .state) ∙ sym (two .1 .state);
-        image = same .1;
-        blanks = blanks-add (length xs) a c d h low lowToo (one .1 .tally) (two .1 .tally) (three .1 .tally);
-        place = place-is (length xs) a c d h low lowToo (one .1 .tally) (two .1 .tally) (three .1 .tally);
-        told = told-is (length xs) a c d h low lowToo (one .1 .tally) (two .1 .tally) (three .1 .tally);
-      }
 
 -- a run of one line word and a step: where neither is refused, the run's state has no cause and no address, and its tally is that of
 -- the step's cause
-pub wd16-run-one : (b t m map w : List ℕ) (line k j : ℕ) (b₁ t₁ m₁ b₂ m₂ : List ℕ) → length t ≡ 6
+abbrev pub Wd16RunOne : Type 0
+Wd16RunOne = (b t m map w : List ℕ) (line k j : ℕ) (b₁ t₁ m₁ b₂ m₂ : List ℕ) → length t ≡ 6
     → ended k b₁ t₁ m₁ ≡ runCall b t m map w (line ∷ []) → went j b₂ m₂ ≡ stepCall b m map w line → OneCall k j b₁ t₁ m₁ b₂ m₂
-wd16-run-one b t m map w line k j b₁ t₁ m₁ b₂ m₂ l e f = calls-one b t m map w line k j b₁ t₁ m₁ b₂ m₂ l e f

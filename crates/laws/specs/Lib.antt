@@ -1,5 +1,3 @@
-pub mod Sizes
-pub mod Taken
 pub mod Append
 pub mod Calls
 pub mod One

@@ -1,37 +1,21 @@
 -- A run of one line word and a step: from the definitions to the pages, and from the pages to the bytes for C.
-use Prim.Native.Nat.{ℕ, zero, suc}
-use native.Mathlib.Omega.{arith}
-use mathlib.Core.Bool.{Bool, true, false, _||_, cond}
-use mathlib.Core.List.{List, [], _∷_}
-use mathlib.Core.Path.{_≡_, refl, sym, ap, _∙_}
-use lib.ListN.{length, set}
+use Prim.Native.Nat.{ℕ}
+use mathlib.Core.Bool.{_||_, cond}
+use mathlib.Core.List.{List}
+use mathlib.Core.Path.{_≡_}
+use lib.ListN.{set}
 use lib.Dec.{eqb}
-use borrow.Author.Tests.{eq-eqb}
-use Rattle.state.specs.declared.State.{State}
-use Rattle.state.specs.declared.Settings.{Settings}
-use Rattle.state.specs.State.{heard}
 use Rattle.step.specs.declared.Turn.{Turn}
-use Rattle.step.specs.declared.Cause.{Cause}
-use Rattle.step.specs.declared.Cause.the-variants as Cause
-use Rattle.step.specs.Step.{After, stepOf, causeNumber, blankAt, addressOf}
-use Rattle.refusal.specs.Numbers.{lineBit, noState}
-use Rattle.refusal.specs.Page.{refused, first, unless, apart, answered-one, refused-one}
-use Rattle.refusal.specs.Refusal.{allOf, plain, linesRefusal, stepRefusal, runRefusal}
+use Rattle.step.specs.Step.{blankAt}
 use Rattle.machine.specs.declared.Ran.{Ran}
 use Rattle.machine.specs.declared.Stepped.{Stepped}
 use Rattle.machine.specs.declared.Stepped.the-variants as Stepped
 use Rattle.machine.specs.declared.Finished.{Finished}
 use Rattle.machine.specs.declared.Finished.the-variants as Finished
 use Rattle.words.specs.Words.{byteAt, wordAt}
-use Rattle.words.specs.Laws.{word-again}
-use Rattle.machine.specs.Numbers.{statePage, nowhere, toldOf, place, none, placeOf}
-use Rattle.machine.specs.Run.{end, rest, noted, noBlanks}
-use Rattle.machine.specs.Back.{turn-one}
-use Rattle.machine.specs.Entry.{stepWhy, powerWhy, runWhy, left, turned, steppedPage, finishedPage, stepPage, runPage}
-use Rattle.machine.specs.Entry as Entry
-use Rattle.firmware.specs.Layout.{wordTold, bytesOf, tallyBytes, stateFrom, settingsFrom, refusedStep, refusedRun}
-use Rattle.firmware.specs.Calls.{stepBytes, went, wentFrom, stepCall, ended, endedFrom, runCall}
-use Rattle.laws.specs.Calls.{cause-byte}
+use Rattle.machine.specs.Numbers.{place, none}
+use Rattle.machine.specs.Run.{noted, noBlanks}
+use Rattle.firmware.specs.Layout.{tallyBytes}
 
 -- a step's turn as a run: its state, with its cause tallied at place 0
 abbrev pub ranOnce : Turn → Ran
@@ -41,35 +25,6 @@ ranOnce t = record { state = t .state; tally = noted noBlanks 0 (blankAt (t .cau
 abbrev pub asRun : Stepped → Finished
 asRun (Stepped.Done t) = Finished.Done (ranOnce t)
 asRun (Stepped.Refused why) = Finished.Refused why
-
--- 4 can't apply to one line word, and 5 is asked of it alone
-pub one-refusal : (settings : Settings) (m map : List ℕ) (line : ℕ) → runWhy settings m map (line ∷ []) ≡ stepWhy settings m map line
-unfolding runRefusal linesRefusal stepRefusal allOf
-one-refusal settings m map line = ap (first (powerWhy settings m map)) (split (plain line))
-  where
-    split : (b : Bool) → _≡_ {A = ℕ} (cond (cond b true false) 0 lineBit) (cond b 0 lineBit)
-    split true = refl
-    split false = refl
-
--- a is the step, why its refusal
-page-one : (why : ℕ) (a : After) (m n : List ℕ) (q : Stepped) → left (steppedPage q) n ≡ unless why (turned a) (left (refused why) m)
-    → left (finishedPage (asRun q)) n ≡ unless why (Entry.ended (end (a .state) (a .image) (noted noBlanks 0 (blankAt (a .cause))))) (left (refused why) m)
-page-one zero a m n (Stepped.Done t) e =
-    let same : t ≡ record { state = a .state; cause = a .cause } = turn-one t (record { state = a .state; cause = a .cause }) (answered-one (ap (λ z. z .page) e)) in
-    let image : n ≡ a .image = ap (λ z. z .image) e in
-    rw (same, image)
-page-one zero a m n (Stepped.Refused why) e = absurd (apart (sym (ap (λ z. z .page) e)))
-page-one (suc why) a m n (Stepped.Done t) e = absurd (apart (ap (λ z. z .page) e))
-page-one (suc why) a m n (Stepped.Refused k) e =
-    let same : k ≡ suc why = refused-one (ap (λ z. z .page) e) in
-    let image : n ≡ m = ap (λ z. z .image) e in
-    rw (same, image)
-
--- what a step answers and leaves is what the run over its line word must
-pub step-as-run : (settings : Settings) (m map : List ℕ) (line : ℕ) (s : State) (q : Stepped) (n : List ℕ)
-    → left (steppedPage q) n ≡ stepPage settings m map line s → left (finishedPage (asRun q)) n ≡ runPage settings m map (line ∷ []) s
-unfolding stepPage runPage rest
-step-as-run settings m map line s q n e = rw (one-refusal settings m map line) (page-one (stepWhy settings m map line) (stepOf map (heard settings line) s m) m n q e)
 
 -- ---- for C
 
@@ -87,71 +42,3 @@ pub record OneCall (k j : ℕ) (b₁ t₁ m₁ b₂ m₂ : List ℕ) : Type 0 wh
   pub image : m₁ ≡ m₂
   pub state : j ≡ 0 → b₁ ≡ uncaused b₂
   pub tally : j ≡ 0 → t₁ ≡ tallied (byteAt b₂ 19) (wordAt b₂ 22)
-
-told-bytes : (s : State) (c : Cause) → wordAt (bytesOf (statePage s) (causeNumber c) (toldOf (addressOf c))) 22 ≡ wordTold (toldOf (addressOf c))
-unfolding bytesOf statePage
-told-bytes s c = word-again (wordTold (toldOf (addressOf c)))
-
-uncaused-bytes : (s : State) (c : Cause) → bytesOf (statePage s) 0 nowhere ≡ uncaused (bytesOf (statePage s) (causeNumber c) (toldOf (addressOf c)))
-unfolding bytesOf statePage
-uncaused-bytes s c = refl
-
-cause-tallied : (c : Cause) → (let t = noted noBlanks 0 (blankAt c) in tallyBytes (t .blanks) (placeOf (t .first))) ≡ tallied (causeNumber c) (wordTold (toldOf (addressOf c)))
-unfolding noted
-cause-tallied Cause.OpCode = refl
-cause-tallied Cause.Switch = refl
-cause-tallied Cause.NonVectored = refl
-cause-tallied Cause.Vectored = refl
-cause-tallied Cause.Nothing = refl
-cause-tallied (Cause.OpCodeBlank a) = refl
-cause-tallied (Cause.InterruptBlank a) = refl
-cause-tallied (Cause.SaveBlank a) = refl
-cause-tallied (Cause.LockedAt a) = refl
-cause-tallied Cause.Locked = refl
-
--- a is the step, why its refusal, bad where the lent bytes are refused
-call-one : (b t m : List ℕ) (bad : Bool) (why : ℕ) (a : After) (k j : ℕ) (b₁ t₁ m₁ b₂ m₂ : List ℕ)
-    → (let l = unless why (Entry.ended (end (a .state) (a .image) (noted noBlanks 0 (blankAt (a .cause))))) (left (refused why) m) in
-    ended k b₁ t₁ m₁ ≡ cond bad (ended noState b t m) (endedFrom b t (l .page) (l .image)))
-    → (let l = unless why (turned a) (left (refused why) m) in
-    went j b₂ m₂ ≡ cond bad (went noState b m) (wentFrom stepBytes b (l .page) (l .image)))
-    → OneCall k j b₁ t₁ m₁ b₂ m₂
-call-one b t m true why a k j b₁ t₁ m₁ b₂ m₂ e f =
-    let number : j ≡ noState = ap (λ z. z .number) f in
-    record {
-      number = ap (λ z. z .number) e ∙ sym number;
-      image = ap (λ z. z .image) e ∙ sym (ap (λ z. z .image) f);
-      state = λ z. absurd (omega arith);
-      tally = λ z. absurd (omega arith);
-    }
-call-one b t m false zero a k j b₁ t₁ m₁ b₂ m₂ e f =
-    let after : b₂ ≡ bytesOf (statePage (a .state)) (causeNumber (a .cause)) (toldOf (addressOf (a .cause))) = ap (λ z. z .state) f in
-    record {
-      number = ap (λ z. z .number) e ∙ sym (ap (λ z. z .number) f);
-      image = ap (λ z. z .image) e ∙ sym (ap (λ z. z .image) f);
-      state = λ z. ap (λ z. z .state) e ∙ uncaused-bytes (a .state) (a .cause) ∙ ap uncaused (sym after);
-      tally = λ z. rw (after, cause-byte (a .state) (causeNumber (a .cause)) (toldOf (addressOf (a .cause))), told-bytes (a .state) (a .cause)) (ap (λ z. z .tally) e ∙ cause-tallied (a .cause));
-    }
-call-one b t m false (suc why) a k j b₁ t₁ m₁ b₂ m₂ e f =
-    let number : j ≡ suc why = ap (λ z. z .number) f in
-    record {
-      number = ap (λ z. z .number) e ∙ sym number;
-      image = ap (λ z. z .image) e ∙ sym (ap (λ z. z .image) f);
-      state = λ z. absurd (omega arith);
-      tally = λ z. absurd (omega arith);
-    }
-
-or-none : (b : Bool) → b || false ≡ b
-or-none true = refl
-or-none false = refl
-
-run-refused : (b t w : List ℕ) → length t ≡ 6 → refusedRun b t w ≡ refusedStep b w
-unfolding refusedRun
-run-refused b t w l = rw (eq-eqb (length t) 6 l) (or-none (refusedStep b w))
-
-pub calls-one : (b t m map w : List ℕ) (line k j : ℕ) (b₁ t₁ m₁ b₂ m₂ : List ℕ) → length t ≡ 6
-    → ended k b₁ t₁ m₁ ≡ runCall b t m map w (line ∷ []) → went j b₂ m₂ ≡ stepCall b m map w line → OneCall k j b₁ t₁ m₁ b₂ m₂
-unfolding runCall stepCall runPage stepPage rest
-calls-one b t m map w line k j b₁ t₁ m₁ b₂ m₂ l e f =
-    call-one b t m (refusedStep b w) (stepWhy (settingsFrom w) m map line) (stepOf map (heard (settingsFrom w) line) (stateFrom b) m) k j b₁ t₁ m₁ b₂ m₂
-    (rw (run-refused b t w l, one-refusal (settingsFrom w) m map line) at e) f

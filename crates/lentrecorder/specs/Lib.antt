@@ -1,4 +1,2 @@
 pub mod Layout
 pub mod Calls
-pub mod Sound
-pub mod Again

@@ -1,5 +1,6 @@
 -- Laws of the line's lengths.
 -- Assumes nothing.
+pub mod Lengths
 use mathlib.Core.Path.{_≡_, refl, ap, _∙_}
 use mathlib.Core.Bool.{Bool, true, false, cond}
 use mathlib.Core.List.{List, [], _∷_}
@@ -11,7 +12,7 @@ use lib.ListN.{length, length-append}
 use Rattle.letters.specs.Digits.{hex4}
 use Rattle.line.specs.declared.Place.{Place}
 use Rattle.line.specs.declared.Place.the-variants.{At, Nowhere}
-use Rattle.line.specs.Lengths.{field-length, fields-length}
+use Rattle.line.proofs.Laws.Lengths.{field-length, fields-length}
 use Rattle.line.specs.Line.{modeText, placeText, firstText, lineText, name, decimal, refusedText}
 
 -- the lengths of the line's parts

@@ -1,4 +1,7 @@
 -- From the code's facts to a line of a listing.
+pub mod Alike
+pub mod Calls
+pub mod Joined
 use Prim.Native.Nat.{ℕ, zero, suc, _+_, _*_, _≤_, _<_}
 use mathlib.Core.Bool.{Bool, true, false, not, cond}
 use mathlib.Core.List.{List, [], _∷_}
@@ -11,7 +14,8 @@ use lib.Seq.{length-take-le}
 use Rattle.letters.specs.Digits.{hex4}
 use Rattle.letters.specs.Over.{over, Wrote}
 use Rattle.refusal.specs.Numbers.{noStretch, textShort}
-use Rattle.refusal.specs.Page.{refused, answered, first-some, first-both, unless-some}
+use Rattle.refusal.specs.Page.{refused, answered}
+use Rattle.refusal.proofs.Laws.Page.{first-some, first-both, unless-some}
 use Rattle.refusal.specs.Refusal.{boardRefusal}
 use Rattle.words.specs.Words.{wordAt}
 use Rattle.board.specs.Work.{fitted}
@@ -25,7 +29,7 @@ use Rattle.listing.specs.declared.Found.the-variants.{Nothing, Cut, Whol
 use Rattle.listing.specs.declared.Listed.{Listed}
 use Rattle.listing.specs.Listing.{allStand, foundAt, lineOf, movesOn, Fits, lineAt, nextAt}
 use Rattle.listing.specs.Calls.{left, told, listedPage, badStretch, lineWhy, nextOf, lineCall}
-use Rattle.listing.specs.Joined.{taken-some, cond-none}
+use Rattle.listing.proofs.Laws.Joined.{taken-some, cond-none}
 
 -- ---- what is found
 

@@ -2,7 +2,6 @@
 use Prim.Native.Nat.{ℕ, _%_}
 use mathlib.Core.Bool.{Bool, _||_, cond}
 use mathlib.Core.List.{List}
-use mathlib.Core.Path.{_≡_, refl, ap, sym, _∙_}
 use lib.ListN.{length}
 use lib.Dec.{eqb, ltb}
 use Rattle.letters.specs.Over.{over}
@@ -66,25 +65,3 @@ lineCall image map a last b =
     unless why
     (left (answered (told (length l) (nextOf last (nextAt map image last a)))) (over l b))
     (left (refused why) b)
-
--- ---- no two outcomes
-
-abbrev from : ℕ → Next → Listed
-from n (goesOn a) = Line n a
-from n ends = Last n
-
-abbrev listedOf : Page Told → Listed
-listedOf (answered t) = from (t .count) (t .next)
-listedOf (refused why) = Refused why
-
-listed-back : (r : Listed) → listedOf (listedPage r) ≡ r
-listed-back (Line n a) = refl
-listed-back (Last n) = refl
-listed-back (Refused why) = refl
-
--- ONE ANSWER, AND ONE TEXT
-pub one-listed : (image map : List ℕ) (a last : ℕ) (b e e′ : List ℕ) (r r′ : Listed) → left (listedPage r) e ≡ lineCall image map a last b → left (listedPage r′) e′ ≡ lineCall image map a last b
-    → (r ≡ r′) × (e ≡ e′)
-one-listed image map a last b e e′ r r′ p q =
-    let z : left (listedPage r) e ≡ left (listedPage r′) e′ = p ∙ sym q in
-    (sym (listed-back r) ∙ ap (λ (x : Left). listedOf (x .page)) z ∙ listed-back r′, ap (λ (x : Left). x .text) z)

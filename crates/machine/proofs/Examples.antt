@@ -15,7 +15,8 @@ use Rattle.step.specs.declared.Cause.the-variants as Cause
 use Rattle.step.specs.Step.{after, kindIn}
 use Rattle.step.specs.Block.{Ready}
 use Rattle.machine.specs.Trail.{trailOf}
-use Rattle.machine.specs.Block.{none, also, EndsAt, blockMove, block-move}
+use Rattle.machine.specs.Block.{none, also, EndsAt, blockMove}
+use Rattle.machine.proofs.Laws.Block.{block-move}
 
 abbrev board : List ℕ
 board = replicate 4 1 ++ replicate 252 0

@@ -1,23 +1,12 @@
 -- A run's end is its trail's, its count of blanks the number of blanks on the trail, its first place the least of theirs, with the address told there.
-use Prim.Native.Nat.{ℕ, zero, suc, _+_, _<_}
-use native.Mathlib.Omega.{arith}
-use mathlib.Core.Bool.{false, cond}
-use mathlib.Core.List.{List, [], _∷_}
-use mathlib.Core.Path.{_≡_, refl, sym, ap, _∙_}
-use lib.ListN.{length, getD, take}
-use Rattle.state.specs.declared.State.{State}
-use Rattle.state.specs.declared.Settings.{Settings}
-use Rattle.state.specs.State.{heard}
-use Rattle.step.specs.declared.Cause.{Cause}
-use Rattle.step.specs.declared.Told.{Told}
-use Rattle.step.specs.declared.Told.the-variants as Told
-use Rattle.step.specs.Step.{After, after, stepOf, blankAt, isTold, isBlank}
+use Prim.Native.Nat.{ℕ, _+_}
+use mathlib.Core.List.{List}
+use Rattle.step.specs.Step.{After}
 use Rattle.machine.specs.declared.Tally.{Tally}
 use Rattle.machine.specs.declared.First.{First}
 use Rattle.machine.specs.declared.First.the-variants.{At, Never}
-use Rattle.machine.specs.Numbers.{placeOf}
-use Rattle.machine.specs.Run.{End, end, rest, runOf, noted, noBlanks, firstOf}
-use Rattle.machine.specs.Trail.{trailOf, lastOf, blanksIn, moved, here, firstIn, tallyIn, causeAt, Least, least, nowhere}
+use Rattle.machine.specs.Run.{End, end}
+use Rattle.machine.specs.Trail.{lastOf, moved, tallyIn}
 
 -- ---- tallies add up
 
@@ -30,131 +19,8 @@ orFirst Never other = other
 unfoldable pub joined : ℕ → Tally → Tally → Tally
 joined n t u = record { blanks = t .blanks + u .blanks; first = orFirst (t .first) (moved n (u .first)) }
 
-tally-is : {a b : ℕ} {f g : First} → a ≡ b → f ≡ g → _≡_ {A = Tally} (record { blanks = a; first = f }) (record { blanks = b; first = g })
-tally-is e h = cc
-
-or-never : (f : First) → orFirst f Never ≡ f
-or-never (At p a) = refl
-or-never Never = refl
-
-or-or : (f g h : First) → orFirst (orFirst f g) h ≡ orFirst f (orFirst g h)
-or-or (At p a) g h = refl
-or-or Never g h = refl
-
-moved-or : (n : ℕ) (f g : First) → moved n (orFirst f g) ≡ orFirst (moved n f) (moved n g)
-moved-or n (At p a) g = refl
-moved-or n Never g = refl
-
-moved-moved : (n k : ℕ) (f : First) → moved n (moved k f) ≡ moved (n + k) f
-moved-moved n k (At p a) = ap (λ z. At z a) (omega arith)
-moved-moved n k Never = refl
-
-moved-none : (f : First) → moved 0 f ≡ f
-moved-none (At p a) = ap (λ z. At z a) (omega arith)
-moved-none Never = refl
-
-pub joined-left : (t : Tally) → joined 0 noBlanks t ≡ t
-unfolding joined
-joined-left t = tally-is (omega arith) (moved-none (t .first))
-
-pub joined-right : (n : ℕ) (t : Tally) → joined n t noBlanks ≡ t
-unfolding joined
-joined-right n t = tally-is (omega arith) (or-never (t .first))
-
-pub joined-joined : (n k : ℕ) (t u v : Tally) → joined (n + k) (joined n t u) v ≡ joined n t (joined k u v)
-unfolding joined
-joined-joined n k t u v =
-    tally-is (omega arith)
-    (or-or (t .first) (moved n (u .first)) (moved (n + k) (v .first))
-    ∙ ap (λ z. orFirst (t .first) (orFirst (moved n (u .first)) z)) (sym (moved-moved n k (v .first)))
-    ∙ ap (λ z. orFirst (t .first) z) (sym (moved-or n (u .first) (moved k (v .first)))))
-
--- one step, and the trail after it
-pub tally-cons : (a : After) (rs : List After) → tallyIn (a ∷ rs) ≡ joined 1 (noted noBlanks 0 (blankAt (a .cause))) (tallyIn rs)
-unfolding blanksIn firstIn joined noted
-tally-cons a rs = split (blankAt (a .cause))
-  where
-    split : (b : Told) → _≡_ {A = Tally} (record { blanks = cond (isTold b) 1 0 + blanksIn rs; first = here b (firstIn rs) })
-        (record { blanks = noted noBlanks 0 b .blanks + blanksIn rs; first = orFirst (noted noBlanks 0 b .first) (moved 1 (firstIn rs)) })
-    split (Told.At x) = refl
-    split Told.Nowhere = refl
-
--- the loop's tally
-noted-joined : (t : Tally) (n : ℕ) (b : Told) → noted t n b ≡ joined n t (noted noBlanks 0 b)
-unfolding joined noted
-noted-joined t n (Told.At a) = tally-is refl (first (t .first))
-  where
-    first : (f : First) → firstOf f n a ≡ orFirst f (At (n + 0) a)
-    first (At p x) = refl
-    first Never = ap (λ z. At z a) (omega arith)
-noted-joined t n Told.Nowhere = tally-is (omega arith) (sym (or-never (t .first)))
-
 -- ---- A RUN'S END AND TALLY ARE ITS TRAIL'S
 
 -- where a trail from b ends, with the tally of n steps before it
 abbrev pub endOf : After → ℕ → Tally → List After → End
 endOf b n t rs = end (lastOf b rs .state) (lastOf b rs .image) (joined n t (tallyIn rs))
-
-pub rest-trail : (settings : Settings) (map : List ℕ) (place : ℕ) (lines : List ℕ) (s : State) (m : List ℕ) (t : Tally) (c : Cause)
-    → rest settings map place lines s m t ≡ endOf (after s m c) place t (trailOf settings map lines s m)
-unfolding rest trailOf blanksIn firstIn
-rest-trail settings map place [] s m t c = ap (end s m) (sym (joined-right place t))
-rest-trail settings map place (x ∷ xs) s m t c =
-    let a = stepOf map (heard settings x) s m in
-    let rs = trailOf settings map xs (a .state) (a .image) in
-    rest-trail settings map (place + 1) xs (a .state) (a .image) (noted t place (blankAt (a .cause))) (a .cause)
-    ∙ ap (λ z. end (lastOf a rs .state) (lastOf a rs .image) z)
-    (ap (λ z. joined (place + 1) z (tallyIn rs)) (noted-joined t place (blankAt (a .cause)))
-    ∙ joined-joined place 1 t (noted noBlanks 0 (blankAt (a .cause))) (tallyIn rs)
-    ∙ ap (joined place t) (sym (tally-cons a rs)))
-
--- the whole run, from a state and an image; a cause before its first step is not asked for
-pub run-trail : (settings : Settings) (map lines : List ℕ) (s : State) (m : List ℕ) (c : Cause)
-    → runOf settings map lines s m ≡ end (lastOf (after s m c) (trailOf settings map lines s m) .state) (lastOf (after s m c) (trailOf settings map lines s m) .image) (tallyIn (trailOf settings map lines s m))
-run-trail settings map lines s m c = rest-trail settings map 0 lines s m noBlanks c ∙ ap (λ z. end (lastOf (after s m c) (trailOf settings map lines s m) .state) (lastOf (after s m c) (trailOf settings map lines s m) .image) z) (joined-left (tallyIn (trailOf settings map lines s m)))
-
--- ---- THE FIRST PLACE IS THE LEAST
-
-pub first-least : (rs : List After) → Least rs (placeOf (firstIn rs))
-unfolding firstIn
-first-least [] = nowhere (λ k h. absurd (omega arith))
-first-least (a ∷ rs) = split (blankAt (a .cause)) refl (firstIn rs) (first-least rs)
-  where
-    later : (f : First) → isBlank (a .cause) ≡ false → Least rs (placeOf f) → Least (a ∷ rs) (placeOf (moved 1 f))
-    later (At p x) e (least l h g) = rw (one-more p) (least {p = suc p} (omega arith) h before)
-      where
-        one-more : (p : ℕ) → 1 + p ≡ suc p
-        one-more p = omega arith
-
-        before : (k : ℕ) → k < suc p → isBlank (causeAt (a ∷ rs) k) ≡ false
-        before zero i = e
-        before (suc k) i = g k (omega arith)
-    later Never e (nowhere g) = nowhere every
-      where
-        every : (k : ℕ) → k < length (a ∷ rs) → isBlank (causeAt (a ∷ rs) k) ≡ false
-        every zero i = e
-        every (suc k) i = g k (omega arith)
-
-    split : (b : Told) → blankAt (a .cause) ≡ b → (f : First) → Least rs (placeOf f) → Least (a ∷ rs) (placeOf (here b f))
-    split (Told.At x) e f h = least {p = 0} (omega arith) e (λ k i. absurd (omega arith))
-    split Told.Nowhere e f h = later f (ap isTold e) h
-
--- ---- the trail, place by place
-
-pub trail-length : (settings : Settings) (map lines : List ℕ) (s : State) (m : List ℕ) → length (trailOf settings map lines s m) ≡ length lines
-unfolding trailOf
-trail-length settings map [] s m = refl
-trail-length settings map (x ∷ xs) s m =
-    let a = stepOf map (heard settings x) s m in
-    ap suc (trail-length settings map xs (a .state) (a .image))
-
--- the step at a place is the step over its line word from where the places before it end
-pub trail-at : (settings : Settings) (map lines : List ℕ) (s : State) (m : List ℕ) (c : Cause) (d : After) (k : ℕ) → k < length lines
-    → (let b = lastOf (after s m c) (take k (trailOf settings map lines s m)) in
-    getD (trailOf settings map lines s m) k d ≡ stepOf map (heard settings (getD lines k 0)) (b .state) (b .image))
-unfolding trailOf
-trail-at settings map [] s m c d k h = absurd (omega arith)
-trail-at settings map (x ∷ xs) s m c d zero h = refl
-trail-at settings map (x ∷ xs) s m c d (suc k) h =
-    let a = stepOf map (heard settings x) s m in
-    trail-at settings map xs (a .state) (a .image) (a .cause) d k (omega arith)

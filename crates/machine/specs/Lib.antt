@@ -3,7 +3,6 @@ pub mod Run
 pub mod Leg
 pub mod Entry
 pub mod Back
-pub mod Alike
 pub mod Blind
 pub mod Trail
 pub mod Counted

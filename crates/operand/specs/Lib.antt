@@ -1,4 +1,3 @@
 pub mod Operand
 pub mod Modes
 pub mod Destination
-pub mod Bounds

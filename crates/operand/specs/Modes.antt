@@ -1,19 +1,13 @@
 -- The modes as the code goes through them: 1 to 5 in one, 6 and 7 in one; and that this is `locate`.
-use Prim.Native.Nat.{ℕ, zero, suc, _/_, _%_, _≤_, _<_}
-use native.Mathlib.Nat.{le-of-suc-le-suc, not-suc-le-zero}
-use native.Mathlib.Omega.{arith}
+use Prim.Native.Nat.{ℕ, _/_, _%_}
 use mathlib.Core.Bool.{Bool, true, false, _&&_, not, cond}
-use mathlib.Core.List.{[], _∷_}
-use mathlib.Core.Path.{_≡_, refl, ap}
-use borrow.Author.Tests.{lt-ltb}
 use lib.Dec.{eqb, ltb}
-use lib.ListN.{List·getD-eq-default}
 use Rattle.board.specs.Work.{Work, give, load}
 use Rattle.board.specs.Bind.{_>>=_}
 use Rattle.word.specs.Address.{plus, minus}
 use Rattle.operand.specs.declared.Place.{Place}
 use Rattle.operand.specs.declared.Place.the-variants.{Mem}
-use Rattle.operand.specs.Operand.{baseOf, direct, indirect, increment, incrementDeferred, decrement, decrementDeferred, indexed, indexedDeferred, deferred, locate}
+use Rattle.operand.specs.Operand.{baseOf, deferred}
 
 -- modes 1 to 5 in one: the register points to the operand, or in modes 3 and 5 to its address
 abbrev pub defers : ℕ → Bool
@@ -28,7 +22,7 @@ pointer r by mode = cond (ltb 3 mode) (minus r by) r
 abbrev pub beyond : ℕ → ℕ → ℕ → ℕ
 beyond at by mode = cond (eqb (mode / 2) 1) (plus at by) at
 
-abbrev through : Bool → ℕ → ℕ → ℕ → Work Place
+abbrev pub through : Bool → ℕ → ℕ → ℕ → Work Place
 through true at k next = deferred at k next
 through false at k next = give (Mem at k next)
 
@@ -36,50 +30,8 @@ unfoldable pub pointed : ℕ → ℕ → ℕ → ℕ → Work Place
 pointed step k r mode =
     through (defers mode) (pointer r (stride step mode) mode) k (beyond (pointer r (stride step mode) mode) (stride step mode) mode)
 
-pub pointed-is : (step k r mode : ℕ) {by at next : ℕ} {b : Bool}
-    → by ≡ stride step mode → at ≡ pointer r by mode → next ≡ beyond at by mode → defers mode ≡ b
-    → pointed step k r mode ≡ through b at k next
-unfolding pointed
-pointed-is step k r mode e f g h =
-    rw (g, f, e)
-    (ap (λ z. through z (pointer r (stride step mode) mode) k (beyond (pointer r (stride step mode) mode) (stride step mode) mode)) h)
-
-pub locate-pointed : (step k r pc mode : ℕ) → 1 ≤ mode → mode < 6 → locate step k r pc mode ≡ pointed step k r mode
-unfolding locate pointed incrementDeferred decrementDeferred
-locate-pointed step k r pc zero l h = absurd (not-suc-le-zero l)
-locate-pointed step k r pc (suc zero) l h = refl
-locate-pointed step k r pc (suc (suc zero)) l h = refl
-locate-pointed step k r pc (suc (suc (suc zero))) l h = refl
-locate-pointed step k r pc (suc (suc (suc (suc zero)))) l h = refl
-locate-pointed step k r pc (suc (suc (suc (suc (suc zero))))) l h = refl
-locate-pointed step k r pc (suc (suc (suc (suc (suc (suc m)))))) l h =
-    absurd (not-suc-le-zero (le-of-suc-le-suc (le-of-suc-le-suc (le-of-suc-le-suc (le-of-suc-le-suc (le-of-suc-le-suc (le-of-suc-le-suc h)))))))
-
--- a mode that is none of 0 to 6
-pub locate-last : (step k r pc mode : ℕ) → 7 ≤ mode → locate step k r pc mode ≡ indexedDeferred step k r pc
-unfolding locate
-locate-last step k r pc mode h =
-    List·getD-eq-default
-    (direct step k r pc ∷ indirect step k r pc ∷ increment step k r pc ∷ incrementDeferred step k r pc ∷ decrement step k r pc ∷ decrementDeferred step k r pc ∷ indexed step k r pc ∷ [])
-    (indexedDeferred step k r pc)
-    h
-
 -- modes 6 and 7 in one: the sum with the next word is the operand's address, or the address of its address
 unfoldable pub offset : ℕ → ℕ → ℕ → ℕ → Work Place
 offset k r pc mode = do
   x ← load pc
   through (ltb 6 mode) (plus (baseOf k r pc) x) 7 (plus pc 2)
-
-pub locate-offset : (step k r pc mode : ℕ) → 6 ≤ mode → locate step k r pc mode ≡ offset k r pc mode
-unfolding locate offset indexed indexedDeferred
-locate-offset step k r pc zero h = absurd (not-suc-le-zero h)
-locate-offset step k r pc (suc zero) h = absurd (not-suc-le-zero (le-of-suc-le-suc h))
-locate-offset step k r pc (suc (suc zero)) h = absurd (not-suc-le-zero (le-of-suc-le-suc (le-of-suc-le-suc h)))
-locate-offset step k r pc (suc (suc (suc zero))) h = absurd (not-suc-le-zero (le-of-suc-le-suc (le-of-suc-le-suc (le-of-suc-le-suc h))))
-locate-offset step k r pc (suc (suc (suc (suc zero)))) h = absurd (not-suc-le-zero (le-of-suc-le-suc (le-of-suc-le-suc (le-of-suc-le-suc (le-of-suc-le-suc h)))))
-locate-offset step k r pc (suc (suc (suc (suc (suc zero))))) h =
-    absurd (not-suc-le-zero (le-of-suc-le-suc (le-of-suc-le-suc (le-of-suc-le-suc (le-of-suc-le-suc (le-of-suc-le-suc h))))))
-locate-offset step k r pc (suc (suc (suc (suc (suc (suc zero)))))) h = refl
-locate-offset step k r pc (suc (suc (suc (suc (suc (suc (suc m))))))) h =
-    rw (lt-ltb 6 (suc (suc (suc (suc (suc (suc (suc m))))))) (omega arith))
-    (locate-last step k r pc (suc (suc (suc (suc (suc (suc (suc m))))))) (omega arith))

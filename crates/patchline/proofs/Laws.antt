@@ -1,5 +1,7 @@
 -- Laws of one line: parts of a text, labels, aliases, texts with digits for their labels, and what a line says.
 -- Assumes nothing.
+pub mod Joined
+pub mod Search
 use mathlib.Core.Path.{_≡_, refl, ap, sym, _∙_}
 use mathlib.Core.Bool.{Bool, true, false, cond, _&&_, true≢false}
 use mathlib.Core.List.{List, [], _∷_, _++_}
@@ -15,7 +17,7 @@ use Rattle.letters.specs.Over.{over, Left, left, written}
 use Rattle.optext.specs.declared.Op.{Op}
 use Rattle.optext.specs.Digits.{unHex4}
 use Rattle.optext.specs.Read.{same}
-use Rattle.optext.specs.Choose.{lt-cases, bool-cases, first-le}
+use Rattle.optext.proofs.Laws.Choose.{lt-cases, bool-cases, first-le}
 use Rattle.patchline.specs.Text.{partOf, endFrom, gives, isName, pastOf, placeOf, isAt, nameIn, labelOf}
 use Rattle.patchline.specs.Line.{operandsAt, commaAt, firstIn, secondIn, bare, atOf, labelIn, filledIn, aliasOf, tailOf, filled, isDirective, opIn, says, op, saidOf, saidWith, isBranch, isSob}
 use Rattle.patchline.specs.declared.oneline.How.the-variants.{Origin, Plain}

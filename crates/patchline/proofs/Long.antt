@@ -13,10 +13,11 @@ use Rattle.letters.specs.Digits.{letters}
 use Rattle.optext.specs.Line.{lineText}
 use Rattle.optext.specs.Guess.{guessOf}
 use Rattle.optext.specs.Words.{wordsOf}
-use Rattle.optext.specs.Longest.{line-le}
-use Rattle.optext.specs.Read.{same, same-eq, readFrom, readOf}
-use Rattle.optext.specs.Choose.{lt-cases, bool-cases}
-use Rattle.patchline.specs.Search.{first-ge}
+use Rattle.optext.proofs.Laws.Longest.{line-le}
+use Rattle.optext.specs.Read.{same, readFrom, readOf}
+use Rattle.optext.proofs.Laws.Read.{same-eq}
+use Rattle.optext.proofs.Laws.Choose.{lt-cases, bool-cases}
+use Rattle.patchline.proofs.Laws.Search.{first-ge}
 use Rattle.patchline.specs.Text.{partOf, placeOf, isAt, isName}
 use Rattle.patchline.specs.Line.{operandsAt, commaAt, firstIn, secondIn, bare, atOf, filledIn, aliasOf, tailOf, filled, opIn, op}
 use Rattle.patchline.proofs.Laws.{name-six, filled-label, filled-plain, tail-some, tail-none}

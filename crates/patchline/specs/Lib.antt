@@ -1,4 +1,2 @@
-pub mod Search
-pub mod Joined
 pub mod Text
 pub mod Line

@@ -1,11 +1,8 @@
 -- The plate: formats by high byte.
-use Prim.Native.Nat.{ℕ, zero, suc, _+_, _<_}
-use native.Mathlib.Nat.{add-zero, zero-add, add-suc, suc-add, le-of-suc-le-suc, not-suc-le-zero}
+use Prim.Native.Nat.{ℕ, zero, suc}
 use mathlib.Core.Bool.{Bool, _&&_, cond}
 use mathlib.Core.List.{List, [], _∷_}
-use mathlib.Core.Path.{_≡_, sym, ap, _∙_}
 use lib.Dec.{eqb, leb}
-use lib.ListN.{getD}
 
 -- h is one of lo to hi
 abbrev within : ℕ → ℕ → ℕ → Bool
@@ -36,13 +33,3 @@ entries (suc n) h = formatOf h ∷ entries n (suc h)
 -- THE PLATE: the rule at every one of the 256 entries. The program's constant is held to it, entry by entry, by computation.
 unfoldable pub table : List ℕ
 table = entries 256 0
-
-entries-at : (n h k : ℕ) → k < n → getD (entries n h) k 0 ≡ formatOf (h + k)
-unfolding entries
-entries-at zero h k l = absurd (not-suc-le-zero l)
-entries-at (suc n) h zero l = ap formatOf (sym (add-zero h))
-entries-at (suc n) h (suc k) l = entries-at n (suc h) k (le-of-suc-le-suc l) ∙ ap formatOf (suc-add h k ∙ sym (add-suc h k))
-
-pub plate-right : (h : ℕ) → h < 256 → getD table h 0 ≡ formatOf h
-unfolding table
-plate-right h l = entries-at 256 0 h l ∙ ap formatOf (zero-add h)

@@ -1,4 +1,5 @@
 -- From the callees' promises to bench's line.
+pub mod Taken
 use Prim.Native.Nat.{ℕ, zero, suc}
 use mathlib.Core.List.{List}
 use mathlib.Core.Path.{_≡_, sym, ap, _∙_}
@@ -6,13 +7,14 @@ use lib.ListN.{length, take}
 use Rattle.state.specs.declared.State.{State}
 use Rattle.state.specs.declared.Settings.{Settings}
 use Rattle.words.specs.Words.{wordAt}
-use Rattle.refusal.specs.Page.{refused, answered, unless, apart, refused-one}
+use Rattle.refusal.specs.Page.{refused, answered, unless}
+use Rattle.refusal.proofs.Laws.Page.{apart, refused-one}
 use Rattle.machine.specs.declared.Ran.{Ran}
 use Rattle.machine.specs.declared.Finished.{Finished}
 use Rattle.machine.specs.declared.Finished.the-variants as Finished
 use Rattle.machine.specs.Run.{End, end, runOf, ranOf}
 use Rattle.machine.specs.Entry.{left, runWhy, finishedPage, ended, runPage}
-use Rattle.machine.specs.Answered.{run-done}
+use Rattle.machine.proofs.Laws.Answered.{run-done}
 use Rattle.job.specs.declared.Answer.{Answer}
 use Rattle.job.specs.declared.Answer.the-variants as Answer
 use Rattle.job.specs.Job.{after, linesAt, imageOf, mapOf, linesOf, lineWords, whyRead, pageOf, jobOf}

@@ -1,3 +1,2 @@
 pub mod Shift
 pub mod Shifted
-pub mod Within

@@ -1,9 +1,8 @@
 -- What the answers of functions over the board say.
 use Prim.Native.Nat.{ℕ}
 use mathlib.Core.List.{List}
-use mathlib.Core.Path.{_≡_, refl, ap, _∙_}
 use Rattle.board.specs.Work.{Work}
-use Rattle.board.specs.Exec.{Store, beside, Now, good, gone, stateOf, keptAs, Did}
+use Rattle.board.specs.Exec.{Store, beside, Now, good, gone, Did}
 use Rattle.board.specs.declared.Kept.{Kept}
 use Rattle.board.specs.declared.Kept.the-variants as Kept
 use Rattle.state.specs.declared.State.{State}
@@ -15,16 +14,6 @@ use Rattle.state.specs.declared.Took.the-variants as Took
 abbrev pub wentAs : Went → Store → Now State
 wentAs (Done s) st = good s st
 wentAs (Blank a) st = gone a st
-
-pub went-is : {r : Went} {s : State} {st : Store} → r ≡ Done s → wentAs r st ≡ good s st
-went-is {st = st} e = ap (λ z. wentAs z st) e
-
-pub went-none : {r : Went} {a : ℕ} {st : Store} → r ≡ Blank a → wentAs r st ≡ gone a st
-went-none {st = st} e = ap (λ z. wentAs z st) e
-
-pub went-store : (r : Went) {st : Store} → stateOf (wentAs r st) ≡ st
-went-store (Done s) = refl
-went-store (Blank a) = refl
 
 -- a state and a word
 pub record Taken : Type 0 where
@@ -38,33 +27,17 @@ abbrev pub tookAs : Took → Store → Now Taken
 tookAs (Took.Word s v) st = good (taken s v) st
 tookAs (Took.Blank a) st = gone a st
 
-pub took-is : {r : Took} {s : State} {v : ℕ} {st : Store} → r ≡ Took.Word s v → tookAs r st ≡ good (taken s v) st
-took-is {st = st} e = ap (λ z. tookAs z st) e
-
-pub took-none : {r : Took} {a : ℕ} {st : Store} → r ≡ Took.Blank a → tookAs r st ≡ gone a st
-took-none {st = st} e = ap (λ z. tookAs z st) e
-
 -- ---- a write that was not answered ends the work there
 
 abbrev pub unwritten : Kept → Went
 unwritten Kept.Done = Blank 0
 unwritten (Kept.Blank a) = Blank a
 
-pub kept-lost : {r : Went} {k : Kept} {a : ℕ} {st : Store} → r ≡ unwritten k → k ≡ Kept.Blank a → wentAs r st ≡ gone a st
-kept-lost e h = went-none (e ∙ ap unwritten h)
-
-pub kept-store : (r : Kept) {st : Store} → stateOf (keptAs r st) ≡ st
-kept-store Kept.Done = refl
-kept-store (Kept.Blank a) = refl
-
 -- ---- a word that was not popped or fetched ends the work there
 
 abbrev pub untaken : Took → Went
 untaken (Took.Word s v) = Blank 0
 untaken (Took.Blank a) = Blank a
-
-pub took-lost : {r : Went} {t : Took} {a : ℕ} {st : Store} → r ≡ untaken t → t ≡ Took.Blank a → wentAs r st ≡ gone a st
-took-lost e h = went-none (e ∙ ap untaken h)
 
 -- what a function promises that works on image and log, and answers a Went
 abbrev pub Works : List ℕ → Work State → List ℕ → List ℕ → Went → List ℕ → List ℕ → Type 0

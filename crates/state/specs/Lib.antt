@@ -2,4 +2,3 @@ pub mod Registers
 pub mod State
 pub mod Answer
 pub mod Stack
-pub mod Bounds

@@ -1,16 +1,13 @@
 -- The state: R0 to R5, SP, PC, the indicators, I2, the mode and the mark of a late IEN. Only this file builds a state record; everyone else uses its named updates.
-use Prim.Native.Nat.{ℕ, _+_, _-_, _*_, _/_, _%_, _≤_}
-use mathlib.Core.Bool.{Bool, true, false, cond}
-use mathlib.Core.Path.{_≡_, ap, _∙_}
-use lib.Dec.{eqb}
+use Prim.Native.Nat.{ℕ, _+_, _*_, _/_, _%_}
+use mathlib.Core.Bool.{Bool, false}
 use Rattle.word.specs.declared.Flags.{Flags}
-use Rattle.state.specs.Registers.{regOf, setReg, reg-set, same-regs}
+use Rattle.state.specs.Registers.{regOf, setReg}
 use Rattle.word.specs.declared.Done.{Done}
 use Rattle.word.specs.declared.Pair.{Pair}
 use Rattle.word.specs.Number.{bit}
 use Rattle.word.specs.Address.{plus}
 use Rattle.word.specs.Status.{formed, flagsOf, enableOf}
-use Rattle.state.specs.declared.Regs.{Regs}
 use Rattle.state.specs.declared.State.{State}
 use Rattle.state.specs.declared.Outside.{Outside}
 use Rattle.state.specs.declared.Settings.{Settings}
@@ -26,12 +23,6 @@ modeNumber SwitchHalt = 3
 modeNumber Locked = 4
 modeNumber Saved = 5
 
-pub cond-yes : {A : Type 0} {b : Bool} {x : A} (y : A) → b ≡ true → cond b x y ≡ x
-cond-yes {x = x} y e = ap (λ z. cond z x y) e
-
-pub cond-no : {A : Type 0} {b : Bool} (x : A) {y : A} → b ≡ false → cond b x y ≡ y
-cond-no x {y = y} e = ap (λ z. cond z x y) e
-
 -- ---- registers by number: R0 to R5 are 0 to 5, SP is 6, PC is 7
 
 unfoldable pub reg : State → ℕ → ℕ
@@ -45,9 +36,6 @@ next k = plus k 1 % 8
 
 unfoldable pub withReg : State → ℕ → ℕ → State
 withReg s k v = record { regs = setReg (s .regs) k v; flags = s .flags; i2 = s .i2; mode = s .mode; mark = s .mark }
-
-unfoldable pub withRegs : State → Regs → State
-withRegs s r = record { regs = r; flags = s .flags; i2 = s .i2; mode = s .mode; mark = s .mark }
 
 abbrev pub withSp : State → ℕ → State
 withSp s v = withReg s 6 v
@@ -103,14 +91,3 @@ jumpersOf settings = settings .halt * 4 + settings .powerup
 -- the PS formed now; bus where a bus error pushes it
 unfoldable pub psOf : Outside → Bool → State → ℕ
 psOf out bus s = formed (jumpersOf (out .settings)) (out .fail) bus (s .i2) (s .flags)
-
--- ---- states by their registers
-
-pub reg-with : (s : State) (k v x : ℕ) → k ≤ 7 → x ≤ 7 → reg (withReg s k v) x ≡ cond (eqb k x) v (reg s x)
-unfolding reg withReg
-reg-with s k v x h l = reg-set (s .regs) k v x h l
-
--- a state that differs from another in its registers at most, and has the same in each
-pub same-state : (s t : State) → ((x : ℕ) → x ≤ 7 → reg s x ≡ reg t x) → withRegs s (t .regs) ≡ t → s ≡ t
-unfolding reg withRegs
-same-state s t h e = ap (λ r. withRegs s r) (same-regs (s .regs) (t .regs) h) ∙ e

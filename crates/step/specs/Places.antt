@@ -1,18 +1,14 @@
 -- The nine places: R0 to R5, SP, PC and PS as words at 0 to 10 (hex). A halt option saves them, its end and a power-up option pick them up.
 use Prim.Native.Nat.{ℕ}
 use mathlib.Core.Bool.{false}
-use mathlib.Core.Path.{_≡_, ap, _∙_}
 use Rattle.board.specs.Work.{Work, give, load}
 use Rattle.board.specs.Work as Work
 use Rattle.board.specs.Bind.{_>>=_, _>>_}
-use Rattle.board.specs.Exec.{Store, gone}
 use Rattle.board.specs.declared.Word.{Word}
 use Rattle.board.specs.declared.Word.the-variants as Word
-use Rattle.board.specs.declared.Kept.the-variants as Kept
 use Rattle.state.specs.declared.State.{State}
 use Rattle.state.specs.declared.Went.{Went}
 use Rattle.state.specs.declared.Went.the-variants as Went
-use Rattle.state.specs.Answer.{wentAs, went-none}
 use Rattle.state.specs.declared.Outside.{Outside}
 use Rattle.state.specs.declared.Mode.the-variants.{Running, Saved}
 use Rattle.state.specs.State.{reg, withReg, withMode, withStatus, psOf}
@@ -72,6 +68,3 @@ restore s = do
 abbrev pub unread : Word → Went
 unread (Word.Value v) = Went.Blank 0
 unread (Word.Blank a) = Went.Blank a
-
-pub word-lost : {r : Went} {w : Word} {a : ℕ} {st : Store} → r ≡ unread w → w ≡ Word.Blank a → wentAs r st ≡ gone a st
-word-lost e h = went-none (e ∙ ap unread h)

@@ -1,4 +1,5 @@
 -- From the code's facts to what the exported calls leave.
+pub mod Once
 use Prim.Native.Nat.{ℕ, _/_, _%_, _≤_, _<_}
 use mathlib.Core.Bool.{Bool, true, false, cond}
 use mathlib.Core.List.{List, [], _∷_}
@@ -9,7 +10,7 @@ use lib.ListN.{length, take, getD, length-take}
 use lib.Seq.{sets, length-take-le}
 use borrow.Author.Tests.{eq-eqb, ne-eqb, lt-ltb, le-ltb}
 use Rattle.letters.specs.Over.{over}
-use Rattle.letters.specs.Laid.{over-sets}
+use Rattle.letters.proofs.Laws.Laid.{over-sets}
 use Rattle.words.specs.Words.{wordAt, low, high, bytesIn}
 use Rattle.refusal.specs.Numbers.{noState, wordsOdd}
 use Rattle.optext.specs.declared.Written.{Written}
@@ -19,7 +20,7 @@ use Rattle.optext.specs.declared.ReadBack.the-variants.{Words, WordsShort}
 use Rattle.optext.specs.Line.{taken, textOf}
 use Rattle.optext.specs.Answer.{Answer, found, refusal, refusalAt, writtenAs, readAs, writeAnswer, Writes}
 use Rattle.optext.specs.Words.{Accepts, RefusedText, Reads}
-use Rattle.optext.specs.Theorems.{len-3}
+use Rattle.optext.proofs.Laws.Theorems.{len-3}
 use Rattle.textc.specs.Calls.{lent, wordsIn, Left, left, writtenIn, writeCall, ReadWith, ReadCall}
 
 -- ---- the words that are lent

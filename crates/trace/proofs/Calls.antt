@@ -11,17 +11,19 @@ use Rattle.words.specs.Words.{wordAt, bytesIn}
 use Rattle.letters.specs.Over.{over}
 use Rattle.step.specs.Step.{After}
 use Rattle.refusal.specs.Numbers.{outputShort}
-use Rattle.refusal.specs.Page.{refused, answered, apart}
-use Rattle.machine.specs.Counted.{trail-length}
+use Rattle.refusal.specs.Page.{refused, answered}
+use Rattle.refusal.proofs.Laws.Page.{apart}
+use Rattle.machine.proofs.Laws.Counted.{trail-length}
 use Rattle.job.specs.declared.Answer.{Answer}
 use Rattle.job.specs.declared.Answer.the-variants as Answer
 use Rattle.job.specs.Job.{after, linesAt, mapOf, linesOf, lineWords, whyRead, pageOf, jobOf}
-use Rattle.job.specs.Sound.{lines-length}
+use Rattle.job.proofs.Laws.Sound.{lines-length}
 use Rattle.report.specs.Report.{benchBoard}
-use Rattle.runjob.specs.Taken.{Read, read-taken}
+use Rattle.runjob.specs.Taken.{Read}
+use Rattle.runjob.proofs.Laws.Taken.{read-taken}
 use Rattle.trace.specs.declared.Verdict.{Verdict}
 use Rattle.trace.specs.Trace.{entriesOf, upOf, stepsOf, rightTrace, imageAfter, joined, traceBytes, toldIn, whyTrace, compared, left, checkOf, longest, put, makeOf}
-use Rattle.trace.specs.Bytes.{trace-length}
+use Rattle.trace.proofs.Laws.Bytes.{trace-length}
 use Rattle.trace.specs.Walk.{trailUp, imageUp}
 
 -- a job that is not refused is read

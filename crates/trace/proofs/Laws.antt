@@ -1,4 +1,7 @@
 -- From the callees' promises to the verdict, and to the trace that is made.
+pub mod Bytes
+pub mod First
+pub mod Right
 use Prim.Native.Nat.{ℕ, zero, suc, _+_, _*_, _-_, _<_, _≤_}
 use mathlib.Core.Bool.{Bool, true, false, cond}
 use mathlib.Core.List.{List, [], _∷_, _++_}
@@ -19,19 +22,20 @@ use Rattle.step.specs.declared.Cause.{Cause}
 use Rattle.step.specs.declared.Cause.the-variants as Cause
 use Rattle.step.specs.Step.{After, after, stepOf, up}
 use Rattle.refusal.specs.Numbers.{lineBit, traceCut}
-use Rattle.refusal.specs.Page.{first-both, apart, answered-one}
-use Rattle.refusal.specs.Refusal.{allOf, plain, stepRefusal, linesRefusal, runRefusal, run-sound}
+use Rattle.refusal.proofs.Laws.Page.{first-both, apart, answered-one}
+use Rattle.refusal.specs.Refusal.{allOf, plain, stepRefusal, linesRefusal, runRefusal}
+use Rattle.refusal.proofs.Laws.Refusal.{run-sound}
 use Rattle.machine.specs.declared.Stepped.{Stepped}
 use Rattle.machine.specs.declared.Stepped.the-variants as Stepped
 use Rattle.machine.specs.Entry.{left, powerWhy, stepWhy, runWhy, steppedPage, stepPage}
-use Rattle.machine.specs.Back.{turn-one}
-use Rattle.machine.specs.Answered.{step-answer}
+use Rattle.machine.proofs.Laws.Back.{turn-one}
+use Rattle.machine.proofs.Laws.Answered.{step-answer}
 use Rattle.machine.specs.Trail.{trailOf, lastOf}
 use Rattle.report.specs.Report.{benchBoard}
 use Rattle.trace.specs.declared.Verdict.{Verdict}
 use Rattle.trace.specs.declared.Verdict.the-variants.{Accepted, Wrong, Missing, Extra}
 use Rattle.trace.specs.Trace.{entryOf, entriesOf, joined, wordsFrom, entriesFrom, toldIn, whyTrace, orElse, differ, compared}
-use Rattle.trace.specs.Bytes.{bytes-append, bytes-length, right-ten}
+use Rattle.trace.proofs.Laws.Bytes.{bytes-append, bytes-length, right-ten}
 use Rattle.trace.specs.Walk.{toldFrom, stepVerdict, stepped, trail, imageOn, upAfter}
 
 -- ---- what is not refused over a run is not refused at each step

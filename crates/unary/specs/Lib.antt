@@ -1,3 +1,2 @@
 pub mod Ops
 pub mod Unary
-pub mod Within

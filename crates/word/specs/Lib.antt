@@ -1,4 +1,3 @@
 pub mod Number
 pub mod Address
 pub mod Status
-pub mod Digit

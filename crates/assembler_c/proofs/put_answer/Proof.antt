@@ -1,7 +1,7 @@
 use mathlib.Core.Path.{refl, _∙_}
 use mathlib.Core.List.{[], _∷_}
 use Rattle.assembler_c.specs.Call.{answerBytes}
-use Rattle.words.specs.Laws.{copied}
+use Rattle.words.proofs.Laws.{copied}
 use borrow.Author.Needs.{needs}
 use Rattle.assembler_c.proofs.put_answer.Statement.{statement}
 use Rattle.assembler_c.proofs.put_answer.Tie as tie

@@ -1,6 +1,6 @@
 use mathlib.Core.Path.{sym, _∙_}
 use Rattle.board.specs.Work.{word}
-use Rattle.board.specs.Laws.{got-read, got-unread}
+use Rattle.board.proofs.Laws.{got-read, got-unread}
 use borrow.Author.Needs.{needs}
 use Rattle.board.proofs.load.Statement.{statement}
 use Rattle.board.proofs.load.Tie as tie

@@ -1,6 +1,6 @@
 use mathlib.Core.Path.{refl, sym, _∙_}
 use Rattle.board.specs.Work.{byte}
-use Rattle.board.specs.Laws.{got-read, got-unread}
+use Rattle.board.proofs.Laws.{got-read, got-unread}
 use borrow.Author.Needs.{needs}
 use Rattle.board.proofs.load_byte.Statement.{statement}
 use Rattle.board.proofs.load_byte.Tie as tie

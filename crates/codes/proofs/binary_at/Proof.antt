@@ -1,7 +1,7 @@
 use borrow.Author.Needs.{needs}
 use Rattle.codes.specs.declared.Binary.the-variants.{Mov}
 use Rattle.codes.specs.Codes.{binaries}
-use Rattle.codes.specs.Past.{past}
+use Rattle.codes.proofs.Laws.Past.{past}
 use Rattle.codes.proofs.binary_at.Statement.{statement}
 use Rattle.codes.proofs.binary_at.Tie as tie
 

@@ -1,7 +1,7 @@
 use borrow.Author.Needs.{needs}
 use Rattle.codes.specs.declared.ByteBinary.the-variants.{Bisb}
 use Rattle.codes.specs.Codes.{byteBinaries}
-use Rattle.codes.specs.Past.{past}
+use Rattle.codes.proofs.Laws.Past.{past}
 use Rattle.codes.proofs.byte_binary_at.Statement.{statement}
 use Rattle.codes.proofs.byte_binary_at.Tie as tie
 

@@ -1,7 +1,7 @@
 use borrow.Author.Needs.{needs}
 use Rattle.codes.specs.declared.Immediate.the-variants.{Movi}
 use Rattle.codes.specs.Codes.{immediates}
-use Rattle.codes.specs.Past.{past}
+use Rattle.codes.proofs.Laws.Past.{past}
 use Rattle.codes.proofs.immediate_at.Statement.{statement}
 use Rattle.codes.proofs.immediate_at.Tie as tie
 

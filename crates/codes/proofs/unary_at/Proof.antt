@@ -1,7 +1,7 @@
 use borrow.Author.Needs.{needs}
 use Rattle.codes.specs.declared.Unary.the-variants.{Dec}
 use Rattle.codes.specs.Codes.{unaries}
-use Rattle.codes.specs.Past.{past}
+use Rattle.codes.proofs.Laws.Past.{past}
 use Rattle.codes.proofs.unary_at.Statement.{statement}
 use Rattle.codes.proofs.unary_at.Tie as tie
 

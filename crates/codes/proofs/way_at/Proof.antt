@@ -1,7 +1,7 @@
 use borrow.Author.Needs.{needs}
 use Rattle.codes.specs.declared.Way.the-variants.{LeftArith}
 use Rattle.codes.specs.Codes.{ways}
-use Rattle.codes.specs.Past.{past}
+use Rattle.codes.proofs.Laws.Past.{past}
 use Rattle.codes.proofs.way_at.Statement.{statement}
 use Rattle.codes.proofs.way_at.Tie as tie
 

@@ -1,5 +1,5 @@
 use mathlib.Core.Path.{refl, sym, _∙_}
-use Rattle.board.specs.Laws.{got-give, did}
+use Rattle.board.proofs.Laws.{got-give, did}
 use borrow.Author.Tests.{lt-ltb, le-ltb}
 use Rattle.control.specs.Low.{formats2to4}
 use borrow.Author.Needs.{needs}

@@ -1,7 +1,7 @@
 use mathlib.Core.Path.{sym, _∙_}
 use borrow.Author.Tests.{lt-ltb, le-ltb}
 use Rattle.control.specs.Low.{lowCodes}
-use Rattle.control.specs.Low.{low-rtn}
+use Rattle.control.proofs.Laws.Low.{low-rtn}
 use borrow.Author.Needs.{needs}
 use Rattle.control.proofs.low_codes.Statement.{statement}
 use Rattle.control.proofs.low_codes.Tie as tie

@@ -1,7 +1,8 @@
 use mathlib.Core.Path.{refl, sym, _∙_}
-use Rattle.board.specs.Laws.{got-give, did}
-use Rattle.codes.specs.Past.{at-least}
-use Rattle.format1.specs.Format1.{byNumber, byNumber-last}
+use Rattle.board.proofs.Laws.{got-give, did}
+use Rattle.codes.proofs.Laws.Past.{at-least}
+use Rattle.format1.specs.Format1.{byNumber}
+use Rattle.format1.proofs.Laws.Format1.{byNumber-last}
 use borrow.Author.Needs.{needs}
 use Rattle.format1.proofs.by_number.Statement.{statement}
 use Rattle.format1.proofs.by_number.Tie as tie

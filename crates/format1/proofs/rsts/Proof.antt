@@ -1,6 +1,6 @@
 use mathlib.Core.Path.{refl, sym, _∙_}
-use Rattle.board.specs.Laws.{got-then, got-gone, did, kept-is, kept-none, unwritten-at}
-use Rattle.state.specs.Answer.{went-store, took-is, took-none, took-lost}
+use Rattle.board.proofs.Laws.{got-then, got-gone, did, kept-is, kept-none, unwritten-at}
+use Rattle.state.proofs.Laws.Answer.{went-store, took-is, took-none, took-lost}
 use Rattle.format1.specs.Format1.{rsts}
 use borrow.Author.Needs.{needs}
 use Rattle.format1.proofs.rsts.Statement.{statement}

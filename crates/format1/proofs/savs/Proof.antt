@@ -1,6 +1,6 @@
 use mathlib.Core.Path.{refl, sym, _∙_}
-use Rattle.board.specs.Laws.{got-then, got-gone, got-give, did, word-is, word-none, kept-is, kept-none, unread-at, unwritten-at}
-use Rattle.state.specs.Answer.{went-is, went-none, went-store, took-is, took-none, took-lost}
+use Rattle.board.proofs.Laws.{got-then, got-gone, got-give, did, word-is, word-none, kept-is, kept-none, unread-at, unwritten-at}
+use Rattle.state.proofs.Laws.Answer.{went-is, went-none, went-store, took-is, took-none, took-lost}
 use Rattle.format1.specs.Format1.{savs}
 use borrow.Author.Needs.{needs}
 use Rattle.format1.proofs.savs.Statement.{statement}

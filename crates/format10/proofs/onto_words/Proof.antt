@@ -1,12 +1,14 @@
 use mathlib.Core.Path.{refl, sym, ap, _∙_}
 use Rattle.board.specs.Work.{word, byte}
-use Rattle.board.specs.Laws.{got-then, got-gone, did, word-is, word-none, byte-is, byte-none}
-use Rattle.state.specs.Answer.{went-none, went-store}
-use Rattle.operand.specs.Operand.{located, decoded, writeTo, found-lost}
-use Rattle.operand.specs.Destination.{never-found, never-read, held}
+use Rattle.board.proofs.Laws.{got-then, got-gone, did, word-is, word-none, byte-is, byte-none}
+use Rattle.state.proofs.Laws.Answer.{went-none, went-store}
+use Rattle.operand.specs.Operand.{writeTo}
+use Rattle.operand.proofs.Laws.Operand.{located, decoded, found-lost}
+use Rattle.operand.proofs.Laws.Destination.{never-found, never-read, held}
 use Rattle.codes.specs.declared.Binary.the-variants.{Mov}
-use Rattle.format10.specs.Format10.{onOperands, onto, settle-yes, settleByte}
-use Rattle.format10.specs.Direct.{placed, mov-code, word-there}
+use Rattle.format10.specs.Format10.{onOperands, onto, settleByte}
+use Rattle.format10.proofs.Laws.Format10.{settle-yes}
+use Rattle.format10.proofs.Laws.Direct.{placed, mov-code, word-there}
 use borrow.Author.Needs.{needs}
 use Rattle.format10.proofs.onto_words.Statement.{statement}
 use Rattle.format10.proofs.onto_words.Tie as tie

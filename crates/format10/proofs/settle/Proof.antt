@@ -1,6 +1,6 @@
 use mathlib.Core.Path.{refl, sym, _∙_}
-use Rattle.board.specs.Laws.{got-give, did}
-use Rattle.format10.specs.Format10.{settle-yes, settle-no}
+use Rattle.board.proofs.Laws.{got-give, did}
+use Rattle.format10.proofs.Laws.Format10.{settle-yes, settle-no}
 use borrow.Author.Needs.{needs}
 use Rattle.format10.proofs.settle.Statement.{statement}
 use Rattle.format10.proofs.settle.Tie as tie

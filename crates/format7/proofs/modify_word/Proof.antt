@@ -1,9 +1,9 @@
 use mathlib.Core.Path.{refl, sym, _∙_}
 use Rattle.board.specs.Work.{word}
-use Rattle.board.specs.Laws.{got-then, got-gone, did, word-is, word-none}
-use Rattle.state.specs.Answer.{went-none, went-store}
-use Rattle.operand.specs.Operand.{found-lost}
-use Rattle.operand.specs.Destination.{never-found, never-read, held}
+use Rattle.board.proofs.Laws.{got-then, got-gone, did, word-is, word-none}
+use Rattle.state.proofs.Laws.Answer.{went-none, went-store}
+use Rattle.operand.proofs.Laws.Operand.{found-lost}
+use Rattle.operand.proofs.Laws.Destination.{never-found, never-read, held}
 use Rattle.format7.specs.Format7.{modify}
 use borrow.Author.Needs.{needs}
 use Rattle.format7.proofs.modify_word.Statement.{statement}

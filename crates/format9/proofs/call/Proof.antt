@@ -1,6 +1,6 @@
 use mathlib.Core.Path.{refl, sym, _∙_}
-use Rattle.board.specs.Laws.{got-then, got-gone, got-give, did}
-use Rattle.state.specs.Answer.{went-is, went-none, went-store}
+use Rattle.board.proofs.Laws.{got-then, got-gone, got-give, did}
+use Rattle.state.proofs.Laws.Answer.{went-is, went-none, went-store}
 use Rattle.format9.specs.Format9.{call}
 use borrow.Author.Needs.{needs}
 use Rattle.format9.proofs.call.Statement.{statement}

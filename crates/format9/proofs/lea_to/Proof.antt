@@ -1,5 +1,5 @@
 use mathlib.Core.Path.{refl, sym, _∙_}
-use Rattle.board.specs.Laws.{got-give, did}
+use Rattle.board.proofs.Laws.{got-give, did}
 use Rattle.format9.specs.Format9.{leaTo}
 use borrow.Author.Needs.{needs}
 use Rattle.format9.proofs.lea_to.Statement.{statement}

@@ -1,7 +1,8 @@
 use mathlib.Core.Path.{sym, _∙_}
 use Prim.Native.Nat.{_/_, _%_}
-use Rattle.codes.specs.Past.{at-least}
-use Rattle.format9.specs.Format9.{format9, format9-last}
+use Rattle.codes.proofs.Laws.Past.{at-least}
+use Rattle.format9.specs.Format9.{format9}
+use Rattle.format9.proofs.Laws.Format9.{format9-last}
 use borrow.Author.Needs.{needs}
 use Rattle.format9.proofs.preset_code.Statement.{statement}
 use Rattle.format9.proofs.preset_code.Tie as tie

@@ -1,6 +1,6 @@
 use native.Mathlib.Omega.{arith}
 use lib.ListN.{length-set}
-use Rattle.letters.specs.Laid.{wrote-sets, written-is, written-none}
+use Rattle.letters.proofs.Laws.Laid.{wrote-sets, written-is, written-none}
 use Rattle.letters.specs.Digits.{hex4}
 use borrow.Author.Needs.{needs}
 use Rattle.letters.proofs.put_hex4.Statement.{statement}

@@ -1,5 +1,5 @@
 use borrow.Author.Needs.{needs}
-use Rattle.letters.specs.Laid.{at-part, part-room}
+use Rattle.letters.proofs.Laws.Laid.{at-part, part-room}
 use native.Mathlib.Omega.{arith}
 use Rattle.line.proofs.decimal_at.Statement.{statement}
 use Rattle.line.proofs.decimal_at.Tie as tie

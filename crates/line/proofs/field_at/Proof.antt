@@ -1,5 +1,5 @@
-use Rattle.letters.specs.Laid.{at-part}
-use Rattle.line.specs.Lengths.{field-length}
+use Rattle.letters.proofs.Laws.Laid.{at-part}
+use Rattle.line.proofs.Laws.Lengths.{field-length}
 use native.Mathlib.Omega.{arith}
 use borrow.Author.Needs.{needs}
 use Rattle.line.proofs.field_at.Statement.{statement}

@@ -1,4 +1,4 @@
-use Rattle.letters.specs.Laid.{wrote-sets}
+use Rattle.letters.proofs.Laws.Laid.{wrote-sets}
 use Rattle.line.proofs.Laws.{one-digit, two-digits, three-digits}
 use mathlib.Core.List.{[], _∷_}
 use lib.ListN.{length-set}

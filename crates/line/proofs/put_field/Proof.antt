@@ -1,4 +1,4 @@
-use Rattle.letters.specs.Laid.{then, wrote-fits}
+use Rattle.letters.proofs.Laws.Laid.{then, wrote-fits}
 use Rattle.letters.specs.Digits.{hex4}
 use Rattle.line.specs.Line.{field}
 use native.Mathlib.Omega.{arith}

@@ -1,4 +1,4 @@
-use Rattle.letters.specs.Laid.{then}
+use Rattle.letters.proofs.Laws.Laid.{then}
 use Rattle.line.proofs.Laws.{place-length}
 use Rattle.line.specs.Line.{firstText}
 use native.Mathlib.Omega.{arith}

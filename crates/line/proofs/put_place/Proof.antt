@@ -1,6 +1,6 @@
 use Rattle.line.specs.Line.{placeText}
 use Rattle.letters.specs.Digits.{hex4}
-use Rattle.letters.specs.Laid.{wrote-fits}
+use Rattle.letters.proofs.Laws.Laid.{wrote-fits}
 use native.Mathlib.Omega.{arith}
 use borrow.Author.Needs.{needs}
 use Rattle.line.proofs.put_place.Statement.{statement}

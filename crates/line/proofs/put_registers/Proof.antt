@@ -1,8 +1,8 @@
 -- After i turns the first i registers' fields stand in front, five characters each.
 -- Assumes nothing.
 use borrow.Author.Needs.{needs}
-use Rattle.letters.specs.Laid.{then, wrote-none}
-use Rattle.line.specs.Lengths.{field-length, fields-more}
+use Rattle.letters.proofs.Laws.Laid.{then, wrote-none}
+use Rattle.line.proofs.Laws.Lengths.{field-length, fields-more}
 use Rattle.letters.specs.Over.{Wrote}
 use Rattle.line.specs.Line.{fields}
 use lib.ListN.{length, getD}

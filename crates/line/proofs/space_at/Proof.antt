@@ -1,4 +1,4 @@
-use Rattle.letters.specs.Laid.{at-part}
+use Rattle.letters.proofs.Laws.Laid.{at-part}
 use native.Mathlib.Omega.{arith}
 use borrow.Author.Needs.{needs}
 use Rattle.line.proofs.space_at.Statement.{statement}

@@ -1,7 +1,7 @@
 -- The name, then the digits; both have room.
 -- Assumes nothing.
 use borrow.Author.Needs.{needs}
-use Rattle.letters.specs.Laid.{then, written-is, written-none}
+use Rattle.letters.proofs.Laws.Laid.{then, written-is, written-none}
 use Rattle.line.proofs.Laws.{name-length, refused-length, digits-few}
 use Rattle.line.specs.Line.{refusedText}
 use native.Mathlib.Omega.{arith}

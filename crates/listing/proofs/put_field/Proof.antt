@@ -1,7 +1,7 @@
 use native.Mathlib.Omega.{arith}
 use lib.ListN.{length-set}
 use Rattle.letters.specs.Digits.{hex4}
-use Rattle.letters.specs.Laid.{wrote-sets}
+use Rattle.letters.proofs.Laws.Laid.{wrote-sets}
 use Rattle.line.specs.Line.{field}
 use borrow.Author.Needs.{needs}
 use Rattle.listing.proofs.put_field.Statement.{statement}

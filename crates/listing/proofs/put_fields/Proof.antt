@@ -3,9 +3,9 @@ use Prim.Native.Nat.{_-_, _*_, _≤_}
 use native.Mathlib.Omega.{arith}
 use lib.ListN.{length, getD}
 use Rattle.letters.specs.Over.{Wrote}
-use Rattle.letters.specs.Laid.{then, wrote-none}
+use Rattle.letters.proofs.Laws.Laid.{then, wrote-none}
 use Rattle.line.specs.Line.{fields}
-use Rattle.line.specs.Lengths.{field-length, fields-more}
+use Rattle.line.proofs.Laws.Lengths.{field-length, fields-more}
 use borrow.Author.Needs.{needs}
 use Rattle.listing.proofs.put_fields.Statement.{statement}
 use Rattle.listing.proofs.put_fields.Tie as tie

@@ -1,5 +1,5 @@
 use mathlib.Core.Path.{refl}
-use Rattle.board.specs.Laws.{got-then, got-gone, got-give, word-is, word-none, unread-at}
+use Rattle.board.proofs.Laws.{got-then, got-gone, got-give, word-is, word-none, unread-at}
 use Rattle.operand.specs.Operand.{deferred}
 use borrow.Author.Needs.{needs}
 use Rattle.operand.proofs.deferred.Statement.{statement}

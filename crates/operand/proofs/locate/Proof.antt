@@ -1,9 +1,10 @@
 use mathlib.Core.Path.{refl}
 use native.Mathlib.Omega.{arith}
 use borrow.Author.Tests.{lt-ltb, le-ltb}
-use Rattle.board.specs.Laws.{got-then, got-gone, got-give, word-is, word-none, unread-at}
+use Rattle.board.proofs.Laws.{got-then, got-gone, got-give, word-is, word-none, unread-at}
 use Rattle.operand.specs.Operand.{locate}
-use Rattle.operand.specs.Modes.{offset, locate-pointed, locate-offset}
+use Rattle.operand.specs.Modes.{offset}
+use Rattle.operand.proofs.Laws.Modes.{locate-pointed, locate-offset}
 use borrow.Author.Needs.{needs}
 use Rattle.operand.proofs.locate.Statement.{statement}
 use Rattle.operand.proofs.locate.Tie as tie

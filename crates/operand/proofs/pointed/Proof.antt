@@ -1,6 +1,6 @@
 use mathlib.Core.Path.{refl, sym, _∙_}
-use Rattle.board.specs.Laws.{got-give}
-use Rattle.operand.specs.Modes.{pointed-is}
+use Rattle.board.proofs.Laws.{got-give}
+use Rattle.operand.proofs.Laws.Modes.{pointed-is}
 use borrow.Author.Needs.{needs}
 use Rattle.operand.proofs.pointed.Statement.{statement}
 use Rattle.operand.proofs.pointed.Tie as tie

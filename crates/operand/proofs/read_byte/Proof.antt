@@ -1,4 +1,4 @@
-use Rattle.board.specs.Laws.{got-give}
+use Rattle.board.proofs.Laws.{got-give}
 use Rattle.operand.specs.Operand.{readOf}
 use borrow.Author.Needs.{needs}
 use Rattle.operand.proofs.read_byte.Statement.{statement}

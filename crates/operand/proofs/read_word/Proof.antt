@@ -1,5 +1,5 @@
 use mathlib.Core.Path.{refl}
-use Rattle.board.specs.Laws.{got-give}
+use Rattle.board.proofs.Laws.{got-give}
 use Rattle.operand.specs.Operand.{readOf}
 use borrow.Author.Needs.{needs}
 use Rattle.operand.proofs.read_word.Statement.{statement}

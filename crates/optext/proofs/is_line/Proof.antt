@@ -1,5 +1,5 @@
 use Rattle.optext.specs.Line.{lineText}
-use Rattle.optext.specs.AsOp.{same-ends}
+use Rattle.optext.proofs.Laws.AsOp.{same-ends}
 use borrow.Author.Needs.{needs}
 use Rattle.optext.proofs.is_line.Statement.{statement}
 use Rattle.optext.proofs.is_line.Tie as tie

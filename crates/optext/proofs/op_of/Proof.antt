@@ -1,5 +1,5 @@
 use native.Mathlib.Omega.{arith}
-use Rattle.optext.specs.AsOp.{op-taken, op-refused, words-le}
+use Rattle.optext.proofs.Laws.AsOp.{op-taken, op-refused, words-le}
 use borrow.Author.Needs.{needs}
 use Rattle.optext.proofs.op_of.Statement.{statement}
 use Rattle.optext.proofs.op_of.Tie as tie

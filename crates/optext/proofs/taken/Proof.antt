@@ -2,7 +2,7 @@ use mathlib.Core.Path.{_≡_, refl}
 use Prim.Native.Nat.{_+_}
 use native.Mathlib.Omega.{arith}
 use Rattle.optext.specs.Line.{taken}
-use Rattle.optext.specs.Forms.{takes-le}
+use Rattle.optext.proofs.Laws.Forms.{takes-le}
 use borrow.Author.Needs.{needs}
 use Rattle.optext.proofs.taken.Statement.{statement}
 use Rattle.optext.proofs.taken.Tie as tie

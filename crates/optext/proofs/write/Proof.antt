@@ -3,8 +3,8 @@ use Prim.Native.Nat.{_+_}
 use native.Mathlib.Omega.{arith}
 use lib.ListN.{getD}
 use Rattle.optext.specs.Line.{lineText, taken, textOf}
-use Rattle.optext.specs.Meets.{writes-8, writes-6, writes-7, writes-line, own-row}
-use Rattle.optext.specs.Forms.{takes-le}
+use Rattle.optext.proofs.Laws.Meets.{writes-8, writes-6, writes-7, writes-line, own-row}
+use Rattle.optext.proofs.Laws.Forms.{takes-le}
 use borrow.Author.Needs.{needs}
 use Rattle.optext.proofs.write.Statement.{statement}
 use Rattle.optext.proofs.write.Tie as tie

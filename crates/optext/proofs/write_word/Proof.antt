@@ -1,4 +1,4 @@
-use Rattle.optext.specs.Meets.{word-8, word-line}
+use Rattle.optext.proofs.Laws.Meets.{word-8, word-line}
 use borrow.Author.Needs.{needs}
 use Rattle.optext.proofs.write_word.Statement.{statement}
 use Rattle.optext.proofs.write_word.Tie as tie

@@ -1,4 +1,5 @@
-use Rattle.plate.specs.Plate.{table, entries, formatOf, plate-right}
+use Rattle.plate.specs.Plate.{table, entries, formatOf}
+use Rattle.plate.proofs.Laws.Plate.{plate-right}
 use Prim.Native.Nat.{_/_}
 use borrow.Author.Needs.{needs}
 use Rattle.plate.proofs.format.Statement.{statement}

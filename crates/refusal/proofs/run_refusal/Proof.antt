@@ -1,4 +1,4 @@
-use Rattle.refusal.specs.Page.{first-some}
+use Rattle.refusal.proofs.Laws.Page.{first-some}
 use Rattle.refusal.specs.Refusal.{runRefusal}
 use borrow.Author.Needs.{needs}
 use Rattle.refusal.proofs.run_refusal.Statement.{statement}

@@ -1,4 +1,4 @@
-use Rattle.runjob.specs.Taken.{read, read-taken}
+use Rattle.runjob.proofs.Laws.Taken.{read, read-taken}
 use Rattle.runjob.proofs.Laws.{job-done, job-refused}
 use borrow.Author.Needs.{needs}
 use Rattle.runjob.proofs.run_job.Statement.{statement}

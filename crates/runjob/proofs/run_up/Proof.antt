@@ -1,4 +1,4 @@
-use Rattle.runjob.specs.Taken.{up-done, up-taken, up-refused, power-taken}
+use Rattle.runjob.proofs.Laws.Taken.{up-done, up-taken, up-refused, power-taken}
 use borrow.Author.Needs.{needs}
 use Rattle.runjob.proofs.run_up.Statement.{statement}
 use Rattle.runjob.proofs.run_up.Tie as tie

@@ -1,8 +1,8 @@
 use mathlib.Core.Path.{_∙_}
-use Rattle.board.specs.Ended.{ended-well, ended-blank, taken-back}
-use Rattle.step.specs.Bounds.{bounded-error}
-use Rattle.step.specs.Ends.{fresh-back, error-well, error-ill}
-use Rattle.state.specs.Answer.{went-is, went-none}
+use Rattle.board.proofs.Laws.Ended.{ended-well, ended-blank, taken-back}
+use Rattle.step.proofs.Laws.Bounds.{bounded-error}
+use Rattle.step.proofs.Laws.Ends.{fresh-back, error-well, error-ill}
+use Rattle.state.proofs.Laws.Answer.{went-is, went-none}
 use borrow.Author.Needs.{needs}
 use Rattle.step.proofs.error.Statement.{statement}
 use Rattle.step.proofs.error.Tie as tie

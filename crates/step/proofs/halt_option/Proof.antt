@@ -1,7 +1,7 @@
 use mathlib.Core.List.{[], _∷_}
 use mathlib.Core.Path.{_≡_}
 use native.Mathlib.Omega.{arith}
-use Rattle.codes.specs.Past.{past}
+use Rattle.codes.proofs.Laws.Past.{past}
 use Rattle.step.specs.declared.Kind.the-variants.{Boots, Saves, LocksUp, Restarts}
 use Rattle.step.specs.Step.{haltOption}
 use Rattle.step.proofs.halt_option.Statement.{statement}

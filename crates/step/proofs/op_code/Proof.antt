@@ -1,9 +1,9 @@
-use Rattle.board.specs.Ended.{ended-well, ended-blank, taken-back}
-use Rattle.state.specs.Answer.{went-is, went-none}
+use Rattle.board.proofs.Laws.Ended.{ended-well, ended-blank, taken-back}
+use Rattle.state.proofs.Laws.Answer.{went-is, went-none}
 use Rattle.step.specs.declared.Kind.the-variants.{OpCode}
 use Rattle.step.specs.Step.{workOf}
-use Rattle.step.specs.Bounds.{bounded-step}
-use Rattle.step.specs.Ends.{fresh-clear}
+use Rattle.step.proofs.Laws.Bounds.{bounded-step}
+use Rattle.step.proofs.Laws.Ends.{fresh-clear}
 use borrow.Author.Needs.{needs}
 use Rattle.step.proofs.op_code.Statement.{statement}
 use Rattle.step.proofs.op_code.Tie as tie

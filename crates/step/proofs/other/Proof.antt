@@ -1,7 +1,7 @@
-use Rattle.board.specs.Ended.{ended-well, ended-blank, taken-back}
-use Rattle.step.specs.Bounds.{bounded-step}
-use Rattle.step.specs.Ends.{fresh-clear, step-well, step-ill}
-use Rattle.state.specs.Answer.{went-is, went-none}
+use Rattle.board.proofs.Laws.Ended.{ended-well, ended-blank, taken-back}
+use Rattle.step.proofs.Laws.Bounds.{bounded-step}
+use Rattle.step.proofs.Laws.Ends.{fresh-clear, step-well, step-ill}
+use Rattle.state.proofs.Laws.Answer.{went-is, went-none}
 use borrow.Author.Needs.{needs}
 use Rattle.step.proofs.other.Statement.{statement}
 use Rattle.step.proofs.other.Tie as tie

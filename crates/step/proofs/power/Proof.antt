@@ -1,8 +1,8 @@
 use mathlib.Core.Path.{sym, _∙_}
-use Rattle.board.specs.Ended.{ended-well, ended-blank, taken-back}
-use Rattle.state.specs.Answer.{went-is, went-none}
-use Rattle.step.specs.Bounds.{bounded-step}
-use Rattle.step.specs.Ends.{fresh-none, fresh-back, powered, unpowered, option-no-code}
+use Rattle.board.proofs.Laws.Ended.{ended-well, ended-blank, taken-back}
+use Rattle.state.proofs.Laws.Answer.{went-is, went-none}
+use Rattle.step.proofs.Laws.Bounds.{bounded-step}
+use Rattle.step.proofs.Laws.Ends.{fresh-none, fresh-back, powered, unpowered, option-no-code}
 use borrow.Author.Needs.{needs}
 use Rattle.step.proofs.power.Statement.{statement}
 use Rattle.step.proofs.power.Tie as tie

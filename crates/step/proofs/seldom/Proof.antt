@@ -1,7 +1,7 @@
 use mathlib.Core.Path.{refl, sym, _∙_}
-use Rattle.board.specs.Laws.{got-give, did}
+use Rattle.board.proofs.Laws.{got-give, did}
 use Rattle.step.specs.Step.{workOf}
-use Rattle.step.specs.Ends.{no-code}
+use Rattle.step.proofs.Laws.Ends.{no-code}
 use borrow.Author.Needs.{needs}
 use Rattle.step.proofs.seldom.Statement.{statement}
 use Rattle.step.proofs.seldom.Tie as tie

@@ -1,6 +1,6 @@
 use mathlib.Core.Path.{sym, ap, _∙_}
 use lib.ListN.{length}
-use Rattle.words.specs.Laws.{copied}
+use Rattle.words.proofs.Laws.{copied}
 use borrow.Author.Needs.{needs}
 use Rattle.textc.proofs.put_answer.Statement.{statement}
 use Rattle.textc.proofs.put_answer.Tie as tie

@@ -3,7 +3,7 @@ use mathlib.Core.Path.{_≡_, refl, sym, _∙_}
 use native.Mathlib.Omega.{arith}
 use lib.ListN.{drop}
 use Rattle.trace.specs.Trace.{wordsFrom, differ}
-use Rattle.trace.specs.Bytes.{words-length}
+use Rattle.trace.proofs.Laws.Bytes.{words-length}
 use Rattle.trace.proofs.Laws.{words-at, differ-more, differ-here, differ-end}
 use borrow.Author.Needs.{needs}
 use Rattle.trace.proofs.entry_verdict.Statement.{statement}

@@ -1,5 +1,5 @@
 use mathlib.Core.Path.{_∙_}
-use Rattle.runjob.specs.Taken.{power-taken}
+use Rattle.runjob.proofs.Laws.Taken.{power-taken}
 use Rattle.trace.proofs.judge_up.Statement.{statement}
 use Rattle.trace.proofs.judge_up.Tie as tie
 

@@ -1,5 +1,5 @@
 use mathlib.Core.Path.{sym, _∙_}
-use Rattle.runjob.specs.Taken.{read, read-taken}
+use Rattle.runjob.proofs.Laws.Taken.{read, read-taken}
 use Rattle.trace.proofs.Calls.{read-refused, make-job, make-short, make-done}
 use borrow.Author.Needs.{needs}
 use Rattle.trace.proofs.make.Statement.{statement}

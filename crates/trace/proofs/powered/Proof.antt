@@ -1,4 +1,4 @@
-use Rattle.runjob.specs.Taken.{up-done, up-refused}
+use Rattle.runjob.proofs.Laws.Taken.{up-done, up-refused}
 use borrow.Author.Needs.{needs}
 use Rattle.trace.proofs.powered.Statement.{statement}
 use Rattle.trace.proofs.powered.Tie as tie

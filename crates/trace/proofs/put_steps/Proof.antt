@@ -6,7 +6,7 @@ use lib.Seq.{sets}
 use Rattle.words.specs.Words.{bytesIn}
 use Rattle.report.specs.Report.{benchBoard}
 use Rattle.trace.specs.Trace.{entriesOf, joined}
-use Rattle.trace.specs.Bytes.{right-ten}
+use Rattle.trace.proofs.Laws.Bytes.{right-ten}
 use Rattle.trace.specs.Walk.{trail, imageOn}
 use Rattle.trace.proofs.Laws.{lines-few, step-taken, image-more, image-none, put-step, put-last}
 use borrow.Author.Needs.{needs}

@@ -1,5 +1,5 @@
 use mathlib.Core.Path.{_∙_}
-use Rattle.runjob.specs.Taken.{power-taken}
+use Rattle.runjob.proofs.Laws.Taken.{power-taken}
 use borrow.Author.Needs.{needs}
 use Rattle.trace.proofs.put_up.Statement.{statement}
 use Rattle.trace.proofs.put_up.Tie as tie

@@ -1,7 +1,7 @@
 use mathlib.Core.Path.{refl, _∙_}
 use native.Mathlib.Omega.{arith}
 use Rattle.trace.specs.Trace.{entryOf}
-use Rattle.trace.specs.Bytes.{right-ten}
+use Rattle.trace.proofs.Laws.Bytes.{right-ten}
 use Rattle.trace.proofs.Laws.{told-missing, told-there}
 use borrow.Author.Needs.{needs}
 use Rattle.trace.proofs.step_verdict.Statement.{statement}

@@ -1,6 +1,6 @@
 use mathlib.Core.Path.{sym, ap, _∙_}
 use lib.ListN.{length}
-use Rattle.words.specs.Laws.{copied}
+use Rattle.words.proofs.Laws.{copied}
 use Rattle.tracecall.proofs.Laws.{verdict-six}
 use borrow.Author.Needs.{needs}
 use Rattle.tracecall.proofs.put_verdict.Statement.{statement}

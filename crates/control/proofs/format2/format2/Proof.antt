@@ -1,8 +1,9 @@
 use mathlib.Core.Path.{refl, sym, _∙_}
-use Rattle.board.specs.Laws.{got-give, did}
-use Rattle.codes.specs.Past.{at-least}
+use Rattle.board.proofs.Laws.{got-give, did}
+use Rattle.codes.proofs.Laws.Past.{at-least}
 use Prim.Native.Nat.{_/_, _+_, _%_}
-use Rattle.control.specs.Format2.{format2, format2-last}
+use Rattle.control.specs.Format2.{format2}
+use Rattle.control.proofs.Laws.Format2.{format2-last}
 use borrow.Author.Needs.{needs}
 use Rattle.control.proofs.format2.format2.Statement.{statement}
 use Rattle.control.proofs.format2.format2.Tie as tie

@@ -1,5 +1,5 @@
 use mathlib.Core.Path.{refl, sym, _∙_}
-use Rattle.board.specs.Laws.{got-then, got-gone, got-give, did, kept-is, kept-none, unwritten-at}
+use Rattle.board.proofs.Laws.{got-then, got-gone, got-give, did, kept-is, kept-none, unwritten-at}
 use Rattle.control.specs.Format2.{msko}
 use borrow.Author.Needs.{needs}
 use Rattle.control.proofs.format2.msko.Statement.{statement}

@@ -1,5 +1,5 @@
 use mathlib.Core.Path.{refl}
-use Rattle.board.specs.Laws.{got-then, got-gone, word-is, word-none, unread-at}
+use Rattle.board.proofs.Laws.{got-then, got-gone, word-is, word-none, unread-at}
 use Rattle.control.specs.Format2.{prtn}
 use borrow.Author.Needs.{needs}
 use Rattle.control.proofs.format2.prtn.Statement.{statement}

@@ -1,6 +1,6 @@
 use mathlib.Core.Path.{refl, sym, _∙_}
-use Rattle.board.specs.Laws.{got-then, got-gone, did, word-is, word-none, unread-at}
-use Rattle.state.specs.Answer.{went-is, went-none, went-store}
+use Rattle.board.proofs.Laws.{got-then, got-gone, did, word-is, word-none, unread-at}
+use Rattle.state.proofs.Laws.Answer.{went-is, went-none, went-store}
 use Rattle.control.specs.Format4.{svca}
 use borrow.Author.Needs.{needs}
 use Rattle.control.proofs.format4.svca.Statement.{statement}

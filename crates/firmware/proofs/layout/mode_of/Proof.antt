@@ -1,5 +1,5 @@
 use Rattle.state.specs.declared.Mode.the-variants.{Saved}
-use Rattle.codes.specs.Past.{past}
+use Rattle.codes.proofs.Laws.Past.{past}
 use Rattle.machine.specs.Back.{modes}
 use borrow.Author.Needs.{needs}
 use Rattle.firmware.proofs.layout.mode_of.Statement.{statement}

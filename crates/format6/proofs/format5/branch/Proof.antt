@@ -1,5 +1,5 @@
 use Rattle.format6.specs.Format5.{branch}
-use Rattle.state.specs.State.{cond-yes, cond-no}
+use Rattle.state.proofs.Laws.State.{cond-yes, cond-no}
 use mathlib.Core.Path.{sym, _∙_}
 use borrow.Author.Needs.{needs}
 use Rattle.format6.proofs.format5.branch.Statement.{statement}

@@ -1,6 +1,6 @@
 use native.Mathlib.Omega.{arith}
 use mathlib.Core.Path.{sym, _∙_}
-use Rattle.machine.specs.Leg.{led-over, led-other, led-blank}
+use Rattle.machine.proofs.Laws.Leg.{led-over, led-other, led-blank}
 use borrow.Author.Needs.{needs}
 use Rattle.machine.proofs.runs.leg.Statement.{statement}
 use Rattle.machine.proofs.runs.leg.Tie as tie

@@ -5,8 +5,9 @@ use lib.ListN.{length, getD}
 use borrow.Author.Needs.{needs}
 use borrow.Author.Tests.{not-true, not-false}
 use Rattle.board.specs.Exec.{beside, Board}
-use Rattle.step.specs.Ends.{fresh-clear, code-is, step-well}
-use Rattle.machine.specs.Leg.{Onward, onward-none, onward-more, onward-code, settingsIn, set-up, heard-here, later, bursts-over, bursts-other, bursts-blank}
+use Rattle.step.proofs.Laws.Ends.{fresh-clear, code-is, step-well}
+use Rattle.machine.specs.Leg.{Onward}
+use Rattle.machine.proofs.Laws.Leg.{onward-none, onward-more, onward-code, settingsIn, set-up, heard-here, later, bursts-over, bursts-other, bursts-blank}
 use Rattle.machine.proofs.runs.op_codes.Statement.{statement}
 use Rattle.machine.proofs.runs.op_codes.Tie as tie
 use Rattle.machine.proofs.runs.op_codes.Reads as reads

@@ -6,7 +6,8 @@ use borrow.Author.Needs.{needs}
 use Rattle.board.specs.Exec.{beside, Board}
 use Rattle.plate.specs.Plate.{formatOf, entries, table}
 use Rattle.step.specs.declared.Cause.the-variants as Cause
-use Rattle.machine.specs.Run.{rest, runOf, rest-none, lastCause, cause-none}
+use Rattle.machine.specs.Run.{rest, runOf, lastCause}
+use Rattle.machine.proofs.Laws.Run.{rest-none, cause-none}
 use Rattle.machine.proofs.runs.run_on.Statement.{statement}
 use Rattle.machine.proofs.runs.run_on.Tie as tie
 use Rattle.machine.proofs.runs.run_on.Reads as reads

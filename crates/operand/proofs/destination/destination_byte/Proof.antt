@@ -1,6 +1,6 @@
 use Rattle.board.specs.Work.{byte}
-use Rattle.board.specs.Laws.{got-as, byte-is, byte-none}
-use Rattle.operand.specs.Destination.{never-found, never-read, held, found-nowhere, held-none}
+use Rattle.board.proofs.Laws.{got-as, byte-is, byte-none}
+use Rattle.operand.proofs.Laws.Destination.{never-found, never-read, held, found-nowhere, held-none}
 use borrow.Author.Needs.{needs}
 use Rattle.operand.proofs.destination.destination_byte.Statement.{statement}
 use Rattle.operand.proofs.destination.destination_byte.Tie as tie

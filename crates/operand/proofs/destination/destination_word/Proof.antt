@@ -1,7 +1,7 @@
 use mathlib.Core.Path.{refl}
 use Rattle.board.specs.Work.{word}
-use Rattle.board.specs.Laws.{got-as, word-is, word-none}
-use Rattle.operand.specs.Destination.{never-found, never-read, held, found-nowhere, held-none}
+use Rattle.board.proofs.Laws.{got-as, word-is, word-none}
+use Rattle.operand.proofs.Laws.Destination.{never-found, never-read, held, found-nowhere, held-none}
 use borrow.Author.Needs.{needs}
 use Rattle.operand.proofs.destination.destination_word.Statement.{statement}
 use Rattle.operand.proofs.destination.destination_word.Tie as tie

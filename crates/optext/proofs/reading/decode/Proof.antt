@@ -1,4 +1,4 @@
-use Rattle.optext.specs.Meets.{decode-is}
+use Rattle.optext.proofs.Laws.Meets.{decode-is}
 use borrow.Author.Needs.{needs}
 use Rattle.optext.proofs.reading.decode.Statement.{statement}
 use Rattle.optext.proofs.reading.decode.Tie as tie

@@ -2,8 +2,8 @@ use mathlib.Core.List.{[]}
 use Rattle.optext.specs.Rows.{baseOf}
 use Rattle.letters.specs.Digits.{hex4}
 use Rattle.optext.specs.Digits.{unHex4}
-use Rattle.optext.specs.Back.{hex4-back}
-use Rattle.optext.specs.Table.{base-lt}
+use Rattle.optext.proofs.Laws.Back.{hex4-back}
+use Rattle.optext.proofs.Laws.Table.{base-lt}
 use borrow.Author.Needs.{needs}
 use Rattle.optext.proofs.rows.base_in.Statement.{statement}
 use Rattle.optext.proofs.rows.base_in.Tie as tie

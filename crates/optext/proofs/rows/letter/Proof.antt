@@ -1,6 +1,6 @@
 use Rattle.optext.specs.Rows.{rows}
 use Rattle.letters.specs.Digits.{digits, hexOf, hex4}
-use Rattle.optext.specs.Table.{table-at}
+use Rattle.optext.proofs.Laws.Table.{table-at}
 use borrow.Author.Needs.{needs}
 use Rattle.optext.proofs.rows.letter.Statement.{statement}
 use Rattle.optext.proofs.rows.letter.Tie as tie

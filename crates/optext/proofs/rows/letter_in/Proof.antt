@@ -1,7 +1,7 @@
 use mathlib.Core.Path.{ap, _∙_}
 use native.Mathlib.Omega.{arith}
 use lib.ListN.{length}
-use Rattle.optext.specs.Table.{flat-length, table-at}
+use Rattle.optext.proofs.Laws.Table.{flat-length, table-at}
 use borrow.Author.Needs.{needs}
 use Rattle.optext.proofs.rows.letter_in.Statement.{statement}
 use Rattle.optext.proofs.rows.letter_in.Tie as tie

@@ -2,7 +2,7 @@ use Prim.Native.Nat.{_≤_, _-_}
 use native.Mathlib.Omega.{arith}
 use lib.ListN.{length}
 use Rattle.optext.specs.Rows.{nameOf}
-use Rattle.optext.specs.Table.{name-ends, name-goes, name-le}
+use Rattle.optext.proofs.Laws.Table.{name-ends, name-goes, name-le}
 use Rattle.optext.proofs.rows.name_len.Statement.{statement}
 use Rattle.optext.proofs.rows.name_len.Tie as tie
 

@@ -1,9 +1,9 @@
 use Prim.Native.Nat.{_≤_}
 use native.Mathlib.Omega.{arith}
 use lib.ListN.{length}
-use Rattle.letters.specs.Laid.{at-part}
+use Rattle.letters.proofs.Laws.Laid.{at-part}
 use Rattle.optext.specs.Line.{sepText}
-use Rattle.optext.specs.Forms.{sep-le}
+use Rattle.optext.proofs.Laws.Forms.{sep-le}
 use borrow.Author.Needs.{needs}
 use Rattle.optext.proofs.writing.put_at.Statement.{statement}
 use Rattle.optext.proofs.writing.put_at.Tie as tie

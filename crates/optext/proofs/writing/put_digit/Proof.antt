@@ -1,6 +1,6 @@
 use mathlib.Core.List.{[], _∷_}
 use native.Mathlib.Omega.{arith}
-use Rattle.letters.specs.Laid.{wrote-sets}
+use Rattle.letters.proofs.Laws.Laid.{wrote-sets}
 use Rattle.letters.specs.Digits.{hexOf}
 use borrow.Author.Needs.{needs}
 use Rattle.optext.proofs.writing.put_digit.Statement.{statement}

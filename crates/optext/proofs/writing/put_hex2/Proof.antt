@@ -1,5 +1,5 @@
 use native.Mathlib.Omega.{arith}
-use Rattle.letters.specs.Laid.{wrote-sets}
+use Rattle.letters.proofs.Laws.Laid.{wrote-sets}
 use Rattle.letters.specs.Digits.{hex2}
 use borrow.Author.Needs.{needs}
 use Rattle.optext.proofs.writing.put_hex2.Statement.{statement}

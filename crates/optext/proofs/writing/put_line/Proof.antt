@@ -1,9 +1,9 @@
 use mathlib.Core.Path.{_≡_}
 use native.Mathlib.Omega.{arith}
 use lib.ListN.{length}
-use Rattle.optext.specs.Table.{name-le}
-use Rattle.optext.specs.Forms.{sep-le}
-use Rattle.letters.specs.Laid.{then}
+use Rattle.optext.proofs.Laws.Table.{name-le}
+use Rattle.optext.proofs.Laws.Forms.{sep-le}
+use Rattle.letters.proofs.Laws.Laid.{then}
 use borrow.Author.Needs.{needs}
 use Rattle.optext.proofs.writing.put_line.Statement.{statement}
 use Rattle.optext.proofs.writing.put_line.Tie as tie

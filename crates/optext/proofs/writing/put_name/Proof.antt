@@ -3,10 +3,10 @@ use mathlib.Core.Path.{_≡_, refl, _∙_}
 use Prim.Native.Nat.{_≤_, _<_, _-_}
 use native.Mathlib.Omega.{arith}
 use lib.ListN.{length, take, length-set}
-use Rattle.letters.specs.Laid.{copy-none, copy-more}
+use Rattle.letters.proofs.Laws.Laid.{copy-none, copy-more}
 use Rattle.letters.specs.Over.{over}
 use Rattle.optext.specs.Rows.{nameOf}
-use Rattle.optext.specs.Table.{name-letter}
+use Rattle.optext.proofs.Laws.Table.{name-letter}
 use lib.Seq.{take-length}
 use Rattle.optext.proofs.writing.put_name.Statement.{statement}
 use Rattle.optext.proofs.writing.put_name.Tie as tie

@@ -1,6 +1,6 @@
 use native.Mathlib.Omega.{arith}
 use lib.ListN.{length-set}
-use Rattle.letters.specs.Laid.{wrote-sets}
+use Rattle.letters.proofs.Laws.Laid.{wrote-sets}
 use Rattle.letters.specs.Digits.{hex4, hex2}
 use Rattle.optext.specs.Line.{offsetText}
 use borrow.Author.Needs.{needs}

@@ -1,5 +1,5 @@
 use Rattle.optext.specs.Line.{taken}
-use Rattle.optext.specs.Forms.{plain-reg, plain-pc, plain-up, plain-down, plain-offset}
+use Rattle.optext.proofs.Laws.Forms.{plain-reg, plain-pc, plain-up, plain-down, plain-offset}
 use borrow.Author.Needs.{needs}
 use Rattle.optext.proofs.writing.put_plain.Statement.{statement}
 use Rattle.optext.proofs.writing.put_plain.Tie as tie

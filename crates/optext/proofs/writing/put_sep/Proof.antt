@@ -3,9 +3,9 @@ use mathlib.Core.List.{[], _∷_}
 use Prim.Native.Nat.{ℕ, _+_}
 use native.Mathlib.Omega.{arith}
 use lib.ListN.{set, length-set, length-take, length-drop}
-use Rattle.letters.specs.Laid.{over-sets, wrote-sets, part-back, part-length}
+use Rattle.letters.proofs.Laws.Laid.{over-sets, wrote-sets, part-back, part-length}
 use Rattle.optext.specs.Line.{operandText, taken}
-use Rattle.optext.specs.Forms.{sep-none, sep-some, operand-le}
+use Rattle.optext.proofs.Laws.Forms.{sep-none, sep-some, operand-le}
 use native.Mathlib.Numerals.{add-one}
 use borrow.Author.Needs.{needs}
 use Rattle.optext.proofs.writing.put_sep.Statement.{statement}

@@ -4,7 +4,7 @@ use native.Mathlib.Omega.{arith}
 use lib.ListN.{length, take, length-set}
 use lib.Seq.{take-length}
 use Rattle.letters.specs.Over.{over}
-use Rattle.letters.specs.Laid.{copy-none, copy-more}
+use Rattle.letters.proofs.Laws.Laid.{copy-none, copy-more}
 use Rattle.patchline.proofs.oneline.put.Statement.{statement}
 use Rattle.patchline.proofs.oneline.put.Tie as tie
 

@@ -2,7 +2,7 @@ use mathlib.Core.Path.{_≡_, ap}
 use Prim.Native.Nat.{_≤_, _<_}
 use native.Mathlib.Omega.{arith}
 use borrow.Author.Needs.{needs}
-use Rattle.patchline.specs.Joined.{then-at, none-at}
+use Rattle.patchline.proofs.Laws.Joined.{then-at, none-at}
 use Rattle.patchline.proofs.Laws.{tail-some, tail-none, second-le}
 use lib.ListN.{length}
 use Rattle.patchline.specs.Line.{commaAt}

@@ -2,7 +2,7 @@ use mathlib.Core.Path.{_≡_, refl, sym, _∙_}
 use Prim.Native.Nat.{_-_}
 use native.Mathlib.Omega.{arith}
 use borrow.Author.Needs.{needs}
-use Rattle.optext.specs.Choose.{first-found, first-next, first-end}
+use Rattle.optext.proofs.Laws.Choose.{first-found, first-next, first-end}
 use Rattle.patchline.specs.Text.{isAt, placeOf}
 use Rattle.optext.specs.First.{firstFrom}
 use lib.ListN.{length}

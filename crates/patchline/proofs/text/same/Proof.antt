@@ -1,5 +1,5 @@
 use borrow.Author.Needs.{needs}
-use Rattle.optext.specs.Read.{same-is}
+use Rattle.optext.proofs.Laws.Read.{same-is}
 use Rattle.patchline.proofs.text.same.Statement.{statement}
 use Rattle.patchline.proofs.text.same.Tie as tie
 

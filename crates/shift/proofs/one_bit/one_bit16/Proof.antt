@@ -2,7 +2,7 @@ use borrow.Author.Needs.{needs}
 use Prim.Native.Nat.{ℕ, _<_, _^_}
 use mathlib.Core.Path.{ap, _∙_}
 use Rattle.shift.specs.Shifted.{nBit, leaves}
-use Rattle.shift.specs.Within.{turn-lt}
+use Rattle.shift.proofs.Laws.Within.{turn-lt}
 use Rattle.shift.proofs.one_bit.one_bit16.Statement.{statement}
 use Rattle.shift.proofs.one_bit.one_bit16.Tie as tie
 

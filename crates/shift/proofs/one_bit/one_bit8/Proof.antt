@@ -2,7 +2,7 @@ use borrow.Author.Needs.{needs}
 use Prim.Native.Nat.{_<_, _^_}
 use mathlib.Core.Path.{ap, _∙_}
 use Rattle.shift.specs.Shifted.{leaves}
-use Rattle.shift.specs.Within.{turn-lt}
+use Rattle.shift.proofs.Laws.Within.{turn-lt}
 use Rattle.shift.proofs.Turns.{n-bit-8}
 use Rattle.shift.proofs.one_bit.one_bit8.Statement.{statement}
 use Rattle.shift.proofs.one_bit.one_bit8.Tie as tie

@@ -4,7 +4,7 @@ use mathlib.Core.Path.{_≡_, refl, sym, ap, _∙_}
 use native.Mathlib.Omega.{arith}
 use borrow.Author.Needs.{needs}
 use Rattle.shift.specs.Shift.{turn, turns}
-use Rattle.shift.specs.Within.{turns-lt}
+use Rattle.shift.proofs.Laws.Within.{turns-lt}
 use Rattle.shift.proofs.Turns.{turns-more}
 use Rattle.shift.proofs.turning.shift.Statement.{statement}
 use Rattle.shift.proofs.turning.shift.Tie as tie

@@ -1,5 +1,5 @@
-use Rattle.board.specs.Laws.{got-then, got-gone, got-give}
-use Rattle.state.specs.Answer.{took-is, took-none, took-lost}
+use Rattle.board.proofs.Laws.{got-then, got-gone, got-give}
+use Rattle.state.proofs.Laws.Answer.{took-is, took-none, took-lost}
 use Rattle.state.specs.Stack.{popStatus}
 use borrow.Author.Needs.{needs}
 use Rattle.state.proofs.State.pop_status.Statement.{statement}

@@ -1,6 +1,6 @@
 use mathlib.Core.Path.{sym, _∙_}
-use Rattle.board.specs.Laws.{got-then, got-gone, did}
-use Rattle.state.specs.Answer.{went-is, went-none, went-store}
+use Rattle.board.proofs.Laws.{got-then, got-gone, did}
+use Rattle.state.proofs.Laws.Answer.{went-is, went-none, went-store}
 use Rattle.state.specs.Stack.{pushBoth}
 use borrow.Author.Needs.{needs}
 use Rattle.state.proofs.State.push_both.Statement.{statement}

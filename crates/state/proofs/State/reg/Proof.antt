@@ -1,6 +1,7 @@
-use Rattle.codes.specs.Past.{at-least}
+use Rattle.codes.proofs.Laws.Past.{at-least}
 use borrow.Author.Needs.{needs}
-use Rattle.state.specs.Registers.{reg-pc, regOf}
+use Rattle.state.specs.Registers.{regOf}
+use Rattle.state.proofs.Laws.Registers.{reg-pc}
 use Rattle.state.specs.State.{reg}
 use mathlib.Core.Path.{sym}
 use Rattle.state.proofs.State.reg.Statement.{statement}

@@ -1,5 +1,6 @@
-use Rattle.codes.specs.Past.{at-least}
-use Rattle.state.specs.Registers.{with-pc, setReg}
+use Rattle.codes.proofs.Laws.Past.{at-least}
+use Rattle.state.specs.Registers.{setReg}
+use Rattle.state.proofs.Laws.Registers.{with-pc}
 use Rattle.state.specs.State.{withReg}
 use native.Mathlib.Omega.{arith}
 use mathlib.Core.Path.{_≡_, sym, ap}

@@ -1,5 +1,5 @@
 use mathlib.Core.Path.{refl, sym, _∙_}
-use Rattle.board.specs.Laws.{got-give, did}
+use Rattle.board.proofs.Laws.{got-give, did}
 use borrow.Author.Tests.{eq-eqb, ne-eqb}
 use Rattle.step.specs.Execute.{byFormat}
 use borrow.Author.Needs.{needs}

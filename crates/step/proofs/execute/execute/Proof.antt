@@ -1,7 +1,7 @@
 use mathlib.Core.Path.{sym, ap, _∙_}
 use Prim.Native.Nat.{_/_}
 use lib.ListN.{getD}
-use Rattle.plate.specs.Plate.{plate-right}
+use Rattle.plate.proofs.Laws.Plate.{plate-right}
 use borrow.Author.Needs.{needs}
 use Rattle.step.proofs.execute.execute.Statement.{statement}
 use Rattle.step.proofs.execute.execute.Tie as tie

@@ -1,7 +1,7 @@
 use mathlib.Core.Path.{sym, _∙_}
-use Rattle.board.specs.Laws.{got-then, got-gone, did, kept-is, kept-none}
+use Rattle.board.proofs.Laws.{got-then, got-gone, did, kept-is, kept-none}
 use Rattle.step.specs.Places.{keepRegisters}
-use Rattle.state.specs.Answer.{kept-store}
+use Rattle.state.proofs.Laws.Answer.{kept-store}
 use borrow.Author.Needs.{needs}
 use Rattle.step.proofs.places.keep_registers.Statement.{statement}
 use Rattle.step.proofs.places.keep_registers.Tie as tie

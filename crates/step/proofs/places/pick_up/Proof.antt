@@ -1,5 +1,5 @@
-use Rattle.board.specs.Laws.{got-then, got-gone, got-give, word-is, word-none}
-use Rattle.step.specs.Places.{word-lost}
+use Rattle.board.proofs.Laws.{got-then, got-gone, got-give, word-is, word-none}
+use Rattle.step.proofs.Laws.Places.{word-lost}
 use Rattle.step.specs.Places.{pickUp}
 use borrow.Author.Needs.{needs}
 use Rattle.step.proofs.places.pick_up.Statement.{statement}

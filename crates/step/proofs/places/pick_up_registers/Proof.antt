@@ -1,5 +1,5 @@
-use Rattle.board.specs.Laws.{got-then, got-gone}
-use Rattle.state.specs.Answer.{went-is, went-none}
+use Rattle.board.proofs.Laws.{got-then, got-gone}
+use Rattle.state.proofs.Laws.Answer.{went-is, went-none}
 use Rattle.step.specs.Places.{pickUpRegisters}
 use borrow.Author.Needs.{needs}
 use Rattle.step.proofs.places.pick_up_registers.Statement.{statement}

@@ -1,6 +1,6 @@
-use Rattle.board.specs.Laws.{got-then, got-gone, got-give, word-is, word-none}
-use Rattle.state.specs.Answer.{went-is, went-none}
-use Rattle.step.specs.Places.{word-lost}
+use Rattle.board.proofs.Laws.{got-then, got-gone, got-give, word-is, word-none}
+use Rattle.state.proofs.Laws.Answer.{went-is, went-none}
+use Rattle.step.proofs.Laws.Places.{word-lost}
 use Rattle.step.specs.Places.{restore}
 use borrow.Author.Needs.{needs}
 use Rattle.step.proofs.places.restore.Statement.{statement}

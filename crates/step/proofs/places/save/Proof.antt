@@ -1,6 +1,6 @@
 use mathlib.Core.Path.{refl, sym, _∙_}
-use Rattle.board.specs.Laws.{got-then, got-gone, got-give, did, kept-is, kept-none}
-use Rattle.state.specs.Answer.{went-store, kept-lost}
+use Rattle.board.proofs.Laws.{got-then, got-gone, got-give, did, kept-is, kept-none}
+use Rattle.state.proofs.Laws.Answer.{went-store, kept-lost}
 use Rattle.step.specs.Places.{save}
 use borrow.Author.Needs.{needs}
 use Rattle.step.proofs.places.save.Statement.{statement}

@@ -1,4 +1,4 @@
-use Rattle.board.specs.Laws.{got-give}
+use Rattle.board.proofs.Laws.{got-give}
 use mathlib.Core.Path.{refl}
 use Rattle.step.specs.Xct.{begun}
 use borrow.Author.Tests.{eq-eqb, ne-eqb}

@@ -1,5 +1,5 @@
 use mathlib.Core.Path.{refl, sym, _∙_}
-use Rattle.board.specs.Laws.{got-give, did}
+use Rattle.board.proofs.Laws.{got-give, did}
 use Rattle.step.specs.Xct.{traced}
 use Rattle.step.proofs.xct.traced.Statement.{statement}
 use Rattle.step.proofs.xct.traced.Tie as tie

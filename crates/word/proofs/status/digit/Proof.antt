@@ -3,7 +3,7 @@ use mathlib.Core.Bool.{Bool, true, false}
 use mathlib.Core.Path.{_≡_, refl}
 use mir.Val.{boolByte}
 use Rattle.word.specs.Number.{digit}
-use Rattle.word.specs.Digit.{digit-le}
+use Rattle.word.proofs.Laws.Digit.{digit-le}
 use Rattle.word.proofs.status.digit.Statement.{statement}
 use Rattle.word.proofs.status.digit.Tie as tie
 

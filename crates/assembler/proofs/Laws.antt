@@ -1,0 +1,4 @@
+-- The laws of the crate's definitions.
+pub mod Ends
+pub mod Good
+pub mod Section

@@ -1,0 +1,15 @@
+-- Laws of specs/Section.antt.
+use mathlib.Core.List.{List, [], _∷_}
+use Prim.Native.Nat.{ℕ, _*_}
+use mathlib.Core.Path.{_≡_, refl}
+use native.Mathlib.Omega.{arith}
+use lib.ListN.{length}
+use Rattle.assembler.specs.Section.{flat}
+
+-- among rising entries each place keeps the lower and hands on the higher
+
+-- four bytes an entry
+pub flat-length : (l : List ℕ) → length (flat l) ≡ 4 * length l
+unfolding flat
+flat-length [] = refl
+flat-length (e ∷ l) = let h = flat-length l in omega arith

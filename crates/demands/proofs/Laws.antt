@@ -1,0 +1,11 @@
+-- The laws of the crate's definitions.
+pub mod Blanks
+pub mod Calls
+pub mod Cause7
+pub mod Demand1
+pub mod Demand2
+pub mod Demand3
+pub mod Pages
+pub mod Scans
+pub mod Sources
+pub mod Texts

@@ -1,0 +1,110 @@
+-- The theorems that specs/Demand3.antt states.
+use Prim.Native.Nat.{ℕ}
+use mathlib.Core.List.{List, []}
+use mathlib.Core.Path.{_≡_, refl, sym, ap, _∙_}
+use lib.ListN.{length}
+use Rattle.board.specs.Alike.{Agree}
+use Rattle.state.specs.declared.State.{State}
+use Rattle.state.specs.declared.Settings.{Settings}
+use Rattle.state.specs.State.{heard}
+use Rattle.step.specs.Step.{stepOf}
+use Rattle.step.proofs.Laws.Causes.{value-no-blank}
+use Rattle.step.proofs.Laws.Told.{stops}
+use Rattle.refusal.specs.Page.{refused, answered}
+use Rattle.refusal.proofs.Laws.Page.{answered-one}
+use Rattle.machine.specs.declared.Stepped.{Stepped}
+use Rattle.machine.specs.Numbers.{TurnPage}
+use Rattle.machine.specs.Entry.{poweredPage, powerUpPage, left, steppedPage, stepPage, finishedPage, runPage}
+use Rattle.machine.proofs.Laws.Back.{powered-one, stepped-one, finished-one}
+use Rattle.machine.proofs.Laws.Blind.{blind, power-same, power-kept, step-same, step-kept, run-same, run-kept}
+use Rattle.machine.specs.Trail.{trailOf}
+use Rattle.machine.proofs.Laws.Counted.{first-least}
+use Rattle.machine.proofs.Laws.Answered.{step-answer, run-answer}
+use Rattle.firmware.specs.Layout.{stateFrom, settingsFrom, refusedUp, refusedStep, refusedRun}
+use Rattle.firmware.specs.Calls.{upBytes, stepBytes, powerUpCall, stepCall, runCall}
+use Rattle.listing.proofs.Laws.Calls.{one-listed}
+use Rattle.listing.proofs.Laws.Alike.{call-alike}
+use Rattle.trace.specs.Trace.{whyCheck, checkOf, whyMake, put, makeOf}
+use Rattle.trace.specs.Trace as Trace
+use Rattle.trace.proofs.Laws.Right.{one-check, one-make}
+use Rattle.demands.proofs.Laws.Pages.{same-unless}
+use Rattle.demands.specs.Terms.{workAt}
+use Rattle.demands.proofs.Laws.Calls.{went-blind, ended-blind}
+use Rattle.demands.proofs.Laws.Blanks.{blanked, cause-is}
+use Rattle.demands.specs.Demand3.{PowerUpBlind, StepBlind, RunBlind, Wd16PowerUpBlind, Wd16StepBlind, Wd16RunBlind, ListLineBlind, CheckBlind, MakeBlind, StepBlanked, StepFitted, RunCounted}
+
+-- ---- TWO CALLS OVER IMAGES THAT AGREE ON FITTED BYTES: the same answer, fitted bytes that agree again, and every byte that
+-- can't be written, of an unfitted or a read-only page, as lent
+
+module _ (settings : Settings) (map m n : List ℕ) (l : length m ≡ length n) (g : Agree map m n) where
+  pub power-up-blind : PowerUpBlind settings map m n l g
+  power-up-blind r q m′ n′ e d = blind poweredPage r q (powered-one r q) e d (power-same settings map m n l g) (power-kept settings map m) (power-kept settings map n)
+
+  pub step-blind : StepBlind settings map m n l g
+  step-blind line s r q m′ n′ e d = blind steppedPage r q (stepped-one r q) e d (step-same settings map line s m n l g) (step-kept settings map line s m) (step-kept settings map line s n)
+
+  pub run-blind : RunBlind settings map m n l g
+  run-blind lines s r q m′ n′ e d = blind finishedPage r q (finished-one r q) e d (run-same settings map lines s m n l g) (run-kept settings map lines s m) (run-kept settings map lines s n)
+
+-- the same for C: the number, the state's bytes, the tally's; w are the settings' bytes
+module _ (w map m n : List ℕ) (l : length m ≡ length n) (g : Agree map m n) where
+  pub wd16-power-up-blind : Wd16PowerUpBlind w map m n l g
+  unfolding powerUpCall
+  wd16-power-up-blind b k j b₁ b₂ m′ n′ e d =
+      rw (ap (λ z. z .number) e, ap (λ z. z .state) e, ap (λ z. z .image) e, ap (λ z. z .number) d, ap (λ z. z .state) d, ap (λ z. z .image) d)
+      (went-blind map m n g upBytes (refusedUp b w) b (powerUpPage (settingsFrom w) m map) (powerUpPage (settingsFrom w) n map) (power-same (settingsFrom w) map m n l g) (power-kept (settingsFrom w) map m) (power-kept (settingsFrom w) map n))
+
+  pub wd16-step-blind : Wd16StepBlind w map m n l g
+  unfolding stepCall
+  wd16-step-blind b line k j b₁ b₂ m′ n′ e d =
+      rw (ap (λ z. z .number) e, ap (λ z. z .state) e, ap (λ z. z .image) e, ap (λ z. z .number) d, ap (λ z. z .state) d, ap (λ z. z .image) d)
+      (went-blind map m n g stepBytes (refusedStep b w) b (stepPage (settingsFrom w) m map line (stateFrom b)) (stepPage (settingsFrom w) n map line (stateFrom b)) (step-same (settingsFrom w) map line (stateFrom b) m n l g) (step-kept (settingsFrom w) map line (stateFrom b) m) (step-kept (settingsFrom w) map line (stateFrom b) n))
+
+  pub wd16-run-blind : Wd16RunBlind w map m n l g
+  unfolding runCall
+  wd16-run-blind b t lines k j b₁ b₂ t₁ t₂ m′ n′ e d =
+      rw (ap (λ z. z .number) e, ap (λ z. z .state) e, ap (λ z. z .tally) e, ap (λ z. z .image) e, ap (λ z. z .number) d, ap (λ z. z .state) d, ap (λ z. z .tally) d, ap (λ z. z .image) d)
+      (ended-blind map m n g (refusedRun b t w) b t (runPage (settingsFrom w) m map lines (stateFrom b)) (runPage (settingsFrom w) n map lines (stateFrom b)) (run-same (settingsFrom w) map lines (stateFrom b) m n l g) (run-kept (settingsFrom w) map lines (stateFrom b) m) (run-kept (settingsFrom w) map lines (stateFrom b) n))
+
+pub list-line-blind : ListLineBlind
+list-line-blind map m n l g a last text r q text₁ text₂ e d = one-listed n map a last text text₁ text₂ r q (e ∙ call-alike map m n g last l a text) d
+
+-- ---- A TRACE IS OF A JOB, which fills the lent image, the map and the line words from its own bytes: whatever stands in them before,
+-- the answer is the same, and where nothing is refused, so is what is left in them
+
+module _ (input i₁ i₂ m₁ m₂ l₁ l₂ : List ℕ) (hi : length i₁ ≡ length i₂) (hm : length m₁ ≡ length m₂) (hl : length l₁ ≡ length l₂) where
+  pub check-blind : CheckBlind input i₁ i₂ m₁ m₂ l₁ l₂ hi hm hl
+  unfolding checkOf
+  check-blind t r q i₁′ m₁′ l₁′ i₂′ m₂′ l₂′ e d =
+      let why = whyCheck input t (length i₁) (length m₁) (length l₁) in
+      let h = same-unless (λ z. z .page) why _ (Trace.left (refused why) i₁ m₁ l₁) (Trace.left (refused why) i₂ m₂ l₂) refl e (rw (← hi, ← hm, ← hl) at d) in
+      (one-check r q [] [] [] [] [] [] (ap (λ z. Trace.left z [] [] []) (h .0)) .0, λ z. (ap (λ z. z .image) (h .1 z), ap (λ z. z .map) (h .1 z), ap (λ z. z .lines) (h .1 z)))
+
+  pub make-blind : MakeBlind input i₁ i₂ m₁ m₂ l₁ l₂ hi hm hl
+  unfolding makeOf
+  make-blind out r q out₁ out₂ i₁′ m₁′ l₁′ i₂′ m₂′ l₂′ e d =
+      let why = whyMake input (length out) (length i₁) (length m₁) (length l₁) in
+      let h = same-unless (λ z. put (z .bytes) (Trace.left (z .rest .page) [] [] [])) why _ (put out (Trace.left (refused why) i₁ m₁ l₁)) (put out (Trace.left (refused why) i₂ m₂ l₂)) refl e (rw (← hi, ← hm, ← hl) at d) in
+      let one = one-make r q out₁ [] [] [] out₂ [] [] [] (h .0) in
+      (one .0, one .1, λ z. (ap (λ z. z .rest .image) (h .1 z), ap (λ z. z .rest .map) (h .1 z), ap (λ z. z .rest .lines) (h .1 z)))
+
+-- ---- A STEP WHOSE WORK REACHES A BLANK, where nothing is fitted or a read-only page was to be written, is a bus error, told by its
+-- cause, or ends locked, and it tells the first such address that it reached; one whose work reaches none is no blank
+
+module _ (settings : Settings) (m map : List ℕ) (line : ℕ) (s : State) (r : Stepped) (m′ : List ℕ) (p : TurnPage)
+    (e : left (steppedPage r) m′ ≡ stepPage settings m map line s) (d : steppedPage r ≡ answered p) where
+  pub step-blanked : StepBlanked settings m map line s r m′ p e d
+  step-blanked a h = (
+    stops map (workAt settings line s) m h,
+    blanked settings line s m map h (step-answer settings m map line s (ap (λ z. left z m′) (sym d) ∙ e) .1),
+  )
+
+  pub step-fitted : StepFitted settings m map line s r m′ p e d
+  step-fitted t n h = (value-no-blank map (heard settings line) s m h, cause-is (stepOf map (heard settings line) s m) (step-answer settings m map line s (ap (λ z. left z m′) (sym d) ∙ e) .1))
+
+-- ---- A RUN'S COUNT OF BLANKS is the number of its steps with cause 5, 6 or 9, its first place the least of theirs, with the address told there
+
+pub run-counted : RunCounted
+run-counted settings m map lines s r m′ p e d =
+    let h = answered-one (ap (λ z. z .page) (run-answer settings m map lines s (ap (λ z. left z m′) (sym d) ∙ e) .1)) in
+    (ap (λ z. z .blanks) h, rw (ap (λ z. z .first) h) (first-least (trailOf settings map lines s m)))

@@ -1,0 +1,88 @@
+-- How often each op code of format 1 writes, at most.
+use Prim.Native.Nat.{ℕ}
+use native.Mathlib.Omega.{arith}
+use Rattle.board.specs.Work.{word}
+use Rattle.board.specs.Bounded.{Bounded, gives}
+use Rattle.board.proofs.Laws.Bounded.{bounded-then, bounded-load, bounded-store, bounded-more, bounded-getD, none, also}
+use Rattle.state.specs.declared.State.{State}
+use Rattle.state.specs.declared.Outside.{Outside}
+use Rattle.state.proofs.Laws.Bounds.{bounded-push, bounded-pushReg, bounded-pop, bounded-popReg, bounded-popStatus, bounded-fetch, bounded-fromLoc, bounded-pushBoth}
+use Rattle.format1.specs.Format1.{numberOf, bpt, save, savs, rest, rtt, rrtn, rrtt, rsts, rsvc, byNumber, format1}
+
+bounded-bpt : (out : Outside) (s : State) → Bounded 2 (bpt out s)
+unfolding bpt
+bounded-bpt out s = bounded-then {k = 0} (omega arith) (bounded-pushBoth s _) (λ s. bounded-fromLoc s _)
+
+pub bounded-save : (s : State) → Bounded 6 (save s)
+unfolding save
+bounded-save s =
+    bounded-then {k = 5} (omega arith) (bounded-pushReg s 5) λ s.
+    bounded-then {k = 4} (omega arith) (bounded-pushReg s 4) λ s.
+    bounded-then {k = 3} (omega arith) (bounded-pushReg s 3) λ s.
+    bounded-then {k = 2} (omega arith) (bounded-pushReg s 2) λ s.
+    bounded-then {k = 1} (omega arith) (bounded-pushReg s 1) λ s.
+    bounded-pushReg s 0
+
+bounded-savs : (s : State) → Bounded 8 (savs s)
+unfolding savs
+bounded-savs s =
+    bounded-then {k = 8} (omega arith) (bounded-fetch s) λ mask.
+    bounded-then {k = 2} (omega arith) (bounded-save _) λ s.
+    bounded-then {k = 2} (omega arith) (bounded-load {n = 0} word _) λ old.
+    bounded-then {k = 1} (omega arith) (bounded-push s old) λ s.
+    bounded-then {k = 0} (omega arith) (bounded-store word _ _) λ _.
+    gives _
+
+bounded-rest : (s : State) → Bounded 0 (rest s)
+unfolding rest
+bounded-rest s =
+    bounded-then {k = 0} (omega arith) (bounded-popReg s 0) λ s.
+    bounded-then {k = 0} (omega arith) (bounded-popReg s 1) λ s.
+    bounded-then {k = 0} (omega arith) (bounded-popReg s 2) λ s.
+    bounded-then {k = 0} (omega arith) (bounded-popReg s 3) λ s.
+    bounded-then {k = 0} (omega arith) (bounded-popReg s 4) λ s.
+    bounded-popReg s 5
+
+bounded-rtt : (s : State) → Bounded 0 (rtt s)
+unfolding rtt
+bounded-rtt s = bounded-then {k = 0} (omega arith) (bounded-popReg s 7) (λ s. bounded-popStatus s)
+
+bounded-rrtn : (s : State) → Bounded 0 (rrtn s)
+unfolding rrtn
+bounded-rrtn s = bounded-then {k = 0} (omega arith) (bounded-rest s) (λ s. bounded-popReg s 7)
+
+bounded-rrtt : (s : State) → Bounded 0 (rrtt s)
+unfolding rrtt
+bounded-rrtt s = bounded-then {k = 0} (omega arith) (bounded-rest s) (λ s. bounded-rtt s)
+
+bounded-rsts : (s : State) → Bounded 1 (rsts s)
+unfolding rsts
+bounded-rsts s =
+    bounded-then {k = 1} (omega arith) (bounded-pop s) λ mask.
+    bounded-then {k = 0} (omega arith) (bounded-store word _ _) λ _.
+    bounded-rrtt _
+
+bounded-rsvc : (s : State) → Bounded 0 (rsvc s)
+unfolding rsvc
+bounded-rsvc s = bounded-then {k = 0} (omega arith) (bounded-rest s) (λ s. bounded-rtt _)
+
+pub bounded-format1 : (out : Outside) (s : State) (op : ℕ) → Bounded 9 (format1 out s op)
+unfolding format1 byNumber
+bounded-format1 out s op =
+    bounded-getD (numberOf op)
+    (also (gives _)
+    (also (gives _)
+    (also (gives _)
+    (also (gives _)
+    (also (gives _)
+    (also (bounded-more (omega arith) (bounded-bpt out s))
+    (also (gives _)
+    (also (bounded-more (omega arith) (bounded-rsvc s))
+    (also (bounded-more (omega arith) (bounded-rrtt s))
+    (also (bounded-more (omega arith) (bounded-save s))
+    (also (bounded-more (omega arith) (bounded-savs s))
+    (also (bounded-more (omega arith) (bounded-rest s))
+    (also (bounded-more (omega arith) (bounded-rrtn s))
+    (also (bounded-more (omega arith) (bounded-rsts s))
+    none))))))))))))))
+    (bounded-more (omega arith) (bounded-rtt s))

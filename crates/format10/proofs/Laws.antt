@@ -1,0 +1,4 @@
+-- The laws of the crate's definitions.
+pub mod Bounds
+pub mod Direct
+pub mod Format10

@@ -1,0 +1,173 @@
+-- Laws of specs/Calls.antt.
+use Prim.Native.Nat.{ℕ, _<_, _≤_}
+use native.Mathlib.Omega.{arith}
+use mathlib.Core.Bool.{Bool, true, false, cond}
+use mathlib.Core.List.{List}
+use mathlib.Core.Path.{_≡_, refl, sym, ap, _∙_}
+use lib.ListN.{length}
+use borrow.Author.Tests.{eq-eqb, ne-eqb}
+use Rattle.state.specs.declared.State.{State}
+use Rattle.state.specs.declared.Settings.{Settings}
+use Rattle.state.specs.State.{heard, modeNumber}
+use Rattle.step.specs.declared.Cause.{Cause}
+use Rattle.step.specs.declared.Cause.the-variants as Cause
+use Rattle.step.specs.Step.{After, stepOf, causeNumber, isBlank}
+use Rattle.refusal.specs.Numbers.{noState}
+use Rattle.refusal.proofs.Laws.Page.{first-both}
+use Rattle.words.specs.Words.{byteAt, wordAt}
+use Rattle.words.proofs.Laws.{word-again}
+use Rattle.machine.specs.declared.Ran.{Ran}
+use Rattle.machine.specs.declared.First.{First}
+use Rattle.machine.specs.declared.First.the-variants.{At, Never}
+use Rattle.machine.specs.declared.Finished.the-variants as Finished
+use Rattle.machine.specs.Numbers.{statePage, Address, nowhere, placeOf, Place, turnPage}
+use Rattle.machine.specs.Run.{End, end, runOf, ranOf}
+use Rattle.machine.specs.Trail.{trailOf, moved, firstIn, Least, least}
+use Rattle.machine.specs.Counted.{orFirst}
+use Rattle.machine.proofs.Laws.Counted.{run-trail, first-least, trail-length}
+use Rattle.machine.specs.Entry.{runWhy, left, finishedPage, runPage, stepWhy, stepPage}
+use Rattle.machine.proofs.Laws.Entry.{run-answered}
+use Rattle.machine.specs.Entry as Entry
+use Rattle.firmware.specs.Layout.{bytesOf, tallyBytes, placeNumber, placeTold, stateFrom, settingsFrom, refusedState, refusedSettings, refusedStep, refusedRun, notTally}
+use Rattle.firmware.specs.Calls.{ended, endedFrom, runCall, stepBytes, Went, went, stepCall}
+use Rattle.demands.proofs.Laws.Demand1.{wd16-step-answers, wd16-run-answers}
+use Rattle.refusal.proofs.Laws.Refusal.{neither}
+use Rattle.laws.specs.Calls.{firstPlace, firstTold}
+
+-- a tally's bytes
+abbrev pub bytesFor : Ran → List ℕ
+bytesFor a = tallyBytes (a .tally .blanks) (placeOf (a .tally .first))
+
+-- ---- a call that isn't refused leaves the bytes of what the run answers
+
+pub record CallDone (b m map w lines b′ t′ m′ : List ℕ) : Type 0 where
+  pub ran : Ran
+  pub page : left (finishedPage (Finished.Done ran)) m′ ≡ runPage (settingsFrom w) m map lines (stateFrom b)
+  pub state : b′ ≡ bytesOf (statePage (ran .state)) 0 nowhere
+  pub tally : t′ ≡ bytesFor ran
+
+pub call-answered : (b t m map w lines : List ℕ) (k : ℕ) (b′ t′ m′ : List ℕ) → refusedRun b t w ≡ false → runWhy (settingsFrom w) m map lines ≡ 0
+    → ended k b′ t′ m′ ≡ runCall b t m map w lines → (k ≡ 0) × CallDone b m map w lines b′ t′ m′
+unfolding runCall runPage
+call-answered b t m map w lines k b′ t′ m′ h why e = at (runOf (settingsFrom w) map lines (stateFrom b) m) refl (rw (h, why) at e)
+  where
+    at : (x : End) → runOf (settingsFrom w) map lines (stateFrom b) m ≡ x → ended k b′ t′ m′ ≡ endedFrom b t (Entry.ended x .page) (Entry.ended x .image) → (k ≡ 0) × CallDone b m map w lines b′ t′ m′
+    at (end s n y) d e =
+        let image : m′ ≡ n = ap (λ z. z .image) e in (
+          ap (λ z. z .number) e,
+          record {
+            ran = record { state = s; tally = y };
+            page = run-answered (settingsFrom w) m map lines (stateFrom b) (record { state = s; tally = y }) m′ why (ap (λ z. end s z y) image ∙ sym d);
+            state = ap (λ z. z .state) e;
+            tally = ap (λ z. z .tally) e;
+          },
+        )
+
+-- ---- buffers that aren't refused
+
+pub settings-taken : (b w : List ℕ) → refusedStep b w ≡ false → refusedSettings w ≡ false
+unfolding refusedStep
+settings-taken b w e = neither (refusedState b) (refusedSettings w) e .1
+
+pub buffers-taken : (b t w : List ℕ) → refusedState b ≡ false → refusedSettings w ≡ false → length t ≡ 6 → refusedRun b t w ≡ false
+unfolding refusedRun refusedStep
+buffers-taken b t w h g l = rw (h, g, eq-eqb (length t) 6 l)
+
+pub step-taken : (b w : List ℕ) → refusedStep b w ≡ false → refusedState b ≡ false
+unfolding refusedStep
+step-taken b w e = neither (refusedState b) (refusedSettings w) e .0
+
+-- ---- a state's cause, and a tally's words
+
+pub cause-byte : (s : State) (cause : ℕ) (told : Address) → byteAt (bytesOf (statePage s) cause told) 19 ≡ cause
+unfolding bytesOf statePage
+cause-byte s cause told = refl
+
+pub blanks-word : (n : ℕ) (p : Place) → wordAt (tallyBytes n p) 0 ≡ n
+unfolding tallyBytes
+blanks-word n p = word-again n
+
+pub place-word : (n : ℕ) (p : Place) → wordAt (tallyBytes n p) 2 ≡ placeNumber p
+unfolding tallyBytes
+place-word n p = word-again (placeNumber p)
+
+pub told-word : (n : ℕ) (p : Place) → wordAt (tallyBytes n p) 4 ≡ placeTold p
+unfolding tallyBytes
+told-word n p = word-again (placeTold p)
+
+-- ---- the first blank of two calls, by the words of their tallies
+
+-- a place is below 4,096, so that FFFF is none
+abbrev pub Within : First → Type 0
+Within f = (p a : ℕ) → f ≡ At p a → p < 4096
+
+pub place-after : (n : ℕ) (f g : First) → Within f → Within g → placeNumber (placeOf (orFirst f (moved n g))) ≡ firstPlace n (placeNumber (placeOf f)) (placeNumber (placeOf g))
+place-after n (At p a) g h k = let low = h p a refl in rw (ne-eqb p 65535 (λ z. omega arith))
+place-after n Never (At q b) h k = let low = k q b refl in rw (ne-eqb q 65535 (λ z. omega arith))
+place-after n Never Never h k = refl
+
+pub told-after : (n : ℕ) (f g : First) → Within f → placeTold (placeOf (orFirst f (moved n g))) ≡ firstTold (placeNumber (placeOf f)) (placeTold (placeOf f)) (placeTold (placeOf g))
+told-after n (At p a) g h = let low = h p a refl in rw (ne-eqb p 65535 (λ z. omega arith))
+told-after n Never (At q b) h = refl
+told-after n Never Never h = refl
+
+-- a run's first place is one of its steps'
+pub run-low : (settings : Settings) (map lines : List ℕ) (s : State) (m : List ℕ) (a : Ran) (n : List ℕ) → ranOf a n ≡ runOf settings map lines s m → length lines ≤ 4096 → Within (a .tally .first)
+run-low settings map lines s m a n e l =
+    let same : a .tally .first ≡ firstIn (trailOf settings map lines s m) = ap firstOf (e ∙ run-trail settings map lines s m Cause.Nothing) in
+    rw same (low (firstIn (trailOf settings map lines s m)) (trailOf settings map lines s m) (trail-length settings map lines s m) (first-least (trailOf settings map lines s m)))
+  where
+    firstOf : End → First
+    firstOf (end t k y) = y .first
+
+    low : (f : First) (rs : List After) → length rs ≡ length lines → Least rs (placeOf f) → Within f
+    low (At q x) rs k (least i h g) p a d = let z : q ≡ p = cc in omega arith
+    low Never rs k h p a d = let z : _≡_ {A = ℕ} 0 1 = cc in absurd (omega arith)
+
+-- ---- a call that answers 0 wasn't refused
+
+told-none : (b : Bool) → cond b noState 0 ≡ 0 → b ≡ false
+told-none true e = absurd (omega arith)
+told-none false e = refl
+
+pub run-not-refused : (b t m map w lines b′ t′ m′ : List ℕ) → ended 0 b′ t′ m′ ≡ runCall b t m map w lines → (refusedRun b t w ≡ false) × (runWhy (settingsFrom w) m map lines ≡ 0)
+run-not-refused b t m map w lines b′ t′ m′ e =
+    let both = first-both (cond (refusedRun b t w) noState 0) (runWhy (settingsFrom w) m map lines) (sym (wd16-run-answers b t m map w lines 0 b′ t′ m′ e .numberIs)) in
+    (told-none (refusedRun b t w) (both .0), both .1)
+
+pub step-not-refused : (b m map w : List ℕ) (line : ℕ) (b′ m′ : List ℕ) → went 0 b′ m′ ≡ stepCall b m map w line → (refusedStep b w ≡ false) × (stepWhy (settingsFrom w) m map line ≡ 0)
+step-not-refused b m map w line b′ m′ e =
+    let both = first-both (cond (refusedStep b w) noState 0) (stepWhy (settingsFrom w) m map line) (sym (wd16-step-answers b m map w line 0 b′ m′ e .numberIs)) in
+    (told-none (refusedStep b w) (both .0), both .1)
+
+-- with another tally's buffer it isn't refused either
+pub tally-taken : (b t t′ w : List ℕ) → refusedRun b t w ≡ false → length t′ ≡ 6 → refusedRun b t′ w ≡ false
+unfolding refusedRun
+tally-taken b t t′ w e l = rw (neither (refusedStep b w) (notTally t) e .0, eq-eqb (length t′) 6 l)
+
+-- what a step leaves that isn't refused
+abbrev pub stepped : After → Went
+stepped a = went 0 (stepBytes (turnPage (record { state = a .state; cause = a .cause }))) (a .image)
+
+pub step-call-is : (b m map w : List ℕ) (line : ℕ) → refusedStep b w ≡ false → stepWhy (settingsFrom w) m map line ≡ 0 → stepCall b m map w line ≡ stepped (stepOf map (heard (settingsFrom w) line) (stateFrom b) m)
+unfolding stepCall stepPage
+step-call-is b m map w line h e = rw (h, e)
+
+-- ---- what the bytes say
+
+pub mode-byte : (s : State) (cause : ℕ) (told : Address) → byteAt (bytesOf (statePage s) cause told) 18 ≡ modeNumber (s .mode)
+unfolding bytesOf statePage
+mode-byte s cause told = refl
+
+-- a cause that is none of 5, 6 and 9 is no blank
+pub number-no-blank : (c : Cause) → (causeNumber c ≡ 5 → ⊥) → (causeNumber c ≡ 6 → ⊥) → (causeNumber c ≡ 9 → ⊥) → isBlank c ≡ false
+number-no-blank Cause.OpCode f s n = refl
+number-no-blank Cause.Switch f s n = refl
+number-no-blank Cause.NonVectored f s n = refl
+number-no-blank Cause.Vectored f s n = refl
+number-no-blank Cause.Nothing f s n = refl
+number-no-blank (Cause.OpCodeBlank a) f s n = absurd (f refl)
+number-no-blank (Cause.InterruptBlank a) f s n = absurd (s refl)
+number-no-blank (Cause.SaveBlank a) f s n = absurd (n refl)
+number-no-blank (Cause.LockedAt a) f s n = refl
+number-no-blank Cause.Locked f s n = refl

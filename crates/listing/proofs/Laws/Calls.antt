@@ -1,0 +1,30 @@
+-- Laws of specs/Calls.antt.
+use Prim.Native.Nat.{ℕ}
+use mathlib.Core.List.{List}
+use mathlib.Core.Path.{_≡_, refl, ap, sym, _∙_}
+use Rattle.refusal.specs.Page.{Page, refused, answered}
+use Rattle.listing.specs.declared.Listed.{Listed}
+use Rattle.listing.specs.declared.Listed.the-variants.{Line, Last, Refused}
+use Rattle.listing.specs.Calls.{Next, goesOn, ends, Told, listedPage, Left, left, lineCall}
+
+-- ---- no two outcomes
+
+abbrev from : ℕ → Next → Listed
+from n (goesOn a) = Line n a
+from n ends = Last n
+
+abbrev listedOf : Page Told → Listed
+listedOf (answered t) = from (t .count) (t .next)
+listedOf (refused why) = Refused why
+
+listed-back : (r : Listed) → listedOf (listedPage r) ≡ r
+listed-back (Line n a) = refl
+listed-back (Last n) = refl
+listed-back (Refused why) = refl
+
+-- ONE ANSWER, AND ONE TEXT
+pub one-listed : (image map : List ℕ) (a last : ℕ) (b e e′ : List ℕ) (r r′ : Listed) → left (listedPage r) e ≡ lineCall image map a last b → left (listedPage r′) e′ ≡ lineCall image map a last b
+    → (r ≡ r′) × (e ≡ e′)
+one-listed image map a last b e e′ r r′ p q =
+    let z : left (listedPage r) e ≡ left (listedPage r′) e′ = p ∙ sym q in
+    (sym (listed-back r) ∙ ap (λ (x : Left). listedOf (x .page)) z ∙ listed-back r′, ap (λ (x : Left). x .text) z)

@@ -1,0 +1,10 @@
+-- The laws of the crate's definitions.
+pub mod Alike
+pub mod Answered
+pub mod Back
+pub mod Blind
+pub mod Block
+pub mod Counted
+pub mod Entry
+pub mod Leg
+pub mod Run

@@ -1,0 +1,23 @@
+-- The laws of the crate's definitions.
+pub mod AsOp
+pub mod Back
+pub mod Choose
+pub mod Columns
+pub mod Forms
+pub mod Furthest
+pub mod Heads
+pub mod Inside
+pub mod Longest
+pub mod Meets
+pub mod Near
+pub mod Once
+pub mod Operands
+pub mod Pieces
+pub mod Read
+pub mod Reader
+pub mod Reserved
+pub mod Shapes
+pub mod Shown
+pub mod Table
+pub mod Theorems
+pub mod Trip

@@ -1,0 +1,166 @@
+-- The public contracts from the facts of the code: what the writer and the reader answer and leave.
+-- Assumes nothing.
+use mathlib.Core.Path.{_≡_, refl, ap, sym, _∙_, subst}
+use mathlib.Core.List.{List, [], _∷_}
+use Prim.Native.Nat.{ℕ, zero, suc, _+_, _%_, _^_, _≤_, _<_}
+use native.Mathlib.Omega.{arith}
+use borrow.Author.Tests.{ne-eqb, lt-ltb, le-ltb}
+use lib.ListN.{length, take, drop, getD}
+use Rattle.optext.specs.declared.reading.Operand.{Operand}
+use Rattle.optext.specs.declared.rows.Kind.{Kind}
+use Rattle.optext.specs.declared.Written.the-variants.{Line, TextShort, NoWords, WordMissing}
+use Rattle.letters.specs.Over.{Wrote}
+use Rattle.optext.specs.Rows.{wordRow, nameOf, baseOf, firstOf, secondOf}
+use Rattle.optext.specs.Line.{rowOf, operandText, takes, sepText, rowText, wordText, lineText, taken, textOf}
+use Rattle.optext.specs.Guess.{rowAt, unOp, guess, guessA, guessB, guessOf}
+use Rattle.optext.specs.Answer.{writeAnswer, writeBytes, Writes, wordAnswer, wordBytes, WritesWord}
+use Rattle.optext.specs.Column.{Whole}
+use Rattle.optext.specs.Words.{Accepts, own, wordsOf}
+use Rattle.letters.proofs.Laws.Laid.{wrote-take, wrote-rest}
+use Rattle.optext.proofs.Laws.Forms.{takes-le}
+use Rattle.optext.proofs.Laws.Back.{op-ignores}
+use Rattle.optext.proofs.Laws.Longest.{text-le}
+
+-- an op code has at most three words
+pub taken-le : (w : ℕ) → taken w ≤ 3
+unfolding taken
+taken-le w = omega (arith, takes-le (firstOf (rowOf w)) w, takes-le (secondOf (rowOf w)) w)
+
+-- the writer's four answers
+module _ (ws b : List ℕ) where
+  pub writes-8 : length b < 32 → Writes ws b TextShort b
+  unfolding writeAnswer writeBytes
+  writes-8 h = record { answer = rw (lt-ltb (length b) 32 h) refl; bytes = rw (lt-ltb (length b) 32 h) refl; few = taken-le (getD ws 0 0); short = text-le ws }
+
+  pub writes-6 : 32 ≤ length b → length ws < 1 → Writes ws b NoWords b
+  unfolding writeAnswer writeBytes
+  writes-6 h g = record {
+    answer = rw (le-ltb (length b) 32 h, lt-ltb (length ws) 1 g) refl;
+    bytes = rw (le-ltb (length b) 32 h, lt-ltb (length ws) 1 g) refl;
+    few = taken-le (getD ws 0 0);
+    short = text-le ws;
+  }
+
+  pub writes-7 : 32 ≤ length b → 1 ≤ length ws → length ws < taken (getD ws 0 0) → Writes ws b WordMissing b
+  unfolding writeAnswer writeBytes
+  writes-7 h g k = record {
+    answer = rw (le-ltb (length b) 32 h, le-ltb (length ws) 1 g, lt-ltb (length ws) (taken (getD ws 0 0)) k) refl;
+    bytes = rw (le-ltb (length b) 32 h, le-ltb (length ws) 1 g, lt-ltb (length ws) (taken (getD ws 0 0)) k) refl;
+    few = taken-le (getD ws 0 0);
+    short = text-le ws;
+  }
+
+  pub writes-line : (e : List ℕ) (n m : ℕ) → 32 ≤ length b → 1 ≤ length ws → taken (getD ws 0 0) ≤ length ws
+      → Wrote (textOf ws) b e n → m ≡ taken (getD ws 0 0) → Writes ws b (Line n m) e
+  unfolding writeAnswer writeBytes
+  writes-line e n m h g k w q = record {
+    answer = rw (le-ltb (length b) 32 h, le-ltb (length ws) 1 g, le-ltb (length ws) (taken (getD ws 0 0)) k, w .count, q) refl;
+    bytes = rw (le-ltb (length b) 32 h, le-ltb (length ws) 1 g, le-ltb (length ws) (taken (getD ws 0 0)) k) (w .bytes);
+    few = taken-le (getD ws 0 0);
+    short = text-le ws;
+  }
+
+-- .WORD's two
+module _ (w : ℕ) (b : List ℕ) where
+  pub word-8 : length b < 32 → WritesWord w b TextShort b
+  unfolding wordAnswer wordBytes
+  word-8 h = record { answer = rw (lt-ltb (length b) 32 h) refl; bytes = rw (lt-ltb (length b) 32 h) refl }
+
+  pub word-line : (e : List ℕ) (n : ℕ) → 32 ≤ length b → Wrote (rowText wordRow w 0 0) b e n → WritesWord w b (Line n 1) e
+  unfolding wordAnswer wordBytes wordText
+  word-line e n h u = record { answer = rw (le-ltb (length b) 32 h, u .count) refl; bytes = rw (le-ltb (length b) 32 h) (u .bytes) }
+
+-- what the code of the guess computes, step by step
+pub decode-is : (t : List ℕ) (k n b v w : ℕ) (f s : Kind) (A B : Operand) → k ≡ rowAt t → n ≡ length (nameOf k) → f ≡ firstOf k → s ≡ secondOf k → b ≡ baseOf k
+    → A ≡ unOp f (drop (n + 1) t) → B ≡ unOp s (drop (n + 1 + A .len + 1) t) → v ≡ (b + A .part) % 2 ^ 16 → w ≡ (v + B .part) % 2 ^ 16
+    → guess w (A .word) (B .word) ≡ guessOf t
+unfolding guessOf guessB guessA
+decode-is t k n b v w f s A B e1 e2 e3 e4 e5 e6 e7 e8 e9 =
+    let a : A ≡ guessA t = e6 ∙ rw (e2, e3, e1) refl in
+    let q : B ≡ guessB t = e7 ∙ rw (e2, e4, e1, a) refl in
+    rw (e9, e8, e5, e1, q, a) refl
+
+-- the line in the word's own row is the word's line
+pub own-row : (k w x y n : ℕ) (b e : List ℕ) → k ≡ rowOf w → Wrote (rowText k w x y) b e n → Wrote (lineText w x y) b e n
+unfolding lineText
+own-row k w x y n b e q h = subst (λ (j : ℕ). Wrote (rowText j w x y) b e n) q h
+
+-- operands of the same text make the same line
+line-cong : (w x y x' y' : ℕ) → operandText (firstOf (rowOf w)) w x ≡ operandText (firstOf (rowOf w)) w x' → operandText (secondOf (rowOf w)) w y ≡ operandText (secondOf (rowOf w)) w y'
+    → lineText w x y ≡ lineText w x' y'
+unfolding lineText sepText
+line-cong w x y x' y' p q = rw (p, q) refl
+
+-- each of up to three words
+one : (a : ℕ) → a < 65536 → (i : ℕ) → getD (a ∷ []) i 0 < 65536
+one a l zero = l
+one a l (suc i) = omega arith
+
+two : (a b : ℕ) → a < 65536 → b < 65536 → (i : ℕ) → getD (a ∷ b ∷ []) i 0 < 65536
+two a b l m zero = l
+two a b l m (suc i) = one b m i
+
+three : (a b c : ℕ) → a < 65536 → b < 65536 → c < 65536 → (i : ℕ) → getD (a ∷ b ∷ c ∷ []) i 0 < 65536
+three a b c l m n zero = l
+three a b c l m n (suc i) = two b c m n i
+
+module _ (w x y : ℕ) (lw : w < 65536) where
+  pub text-words : textOf (wordsOf w x y) ≡ lineText w x y
+  unfolding textOf wordsOf own
+  text-words = go (takes (firstOf (rowOf w)) w) (takes (secondOf (rowOf w)) w) refl refl
+    where
+      go : (m n : ℕ) → takes (firstOf (rowOf w)) w ≡ m → takes (secondOf (rowOf w)) w ≡ n → textOf (wordsOf w x y) ≡ lineText w x y
+      go zero zero e f = rw (e, f) (line-cong w 0 0 x y (op-ignores (firstOf (rowOf w)) w 0 x e) (op-ignores (secondOf (rowOf w)) w 0 y f))
+      go zero (suc zero) e f = rw (e, f) (line-cong w y y x y (op-ignores (firstOf (rowOf w)) w y x e) refl)
+      go (suc zero) zero e f = rw (e, f) (line-cong w x 0 x y refl (op-ignores (secondOf (rowOf w)) w 0 y f))
+      go (suc zero) (suc zero) e f = rw (e, f) refl
+      go (suc (suc m)) n e f = let h = takes-le (firstOf (rowOf w)) w in absurd (omega arith)
+      go zero (suc (suc n)) e f = let h = takes-le (secondOf (rowOf w)) w in absurd (omega arith)
+      go (suc zero) (suc (suc n)) e f = let h = takes-le (secondOf (rowOf w)) w in absurd (omega arith)
+
+  pub whole-words : x < 65536 → y < 65536 → Whole (wordsOf w x y)
+  unfolding wordsOf own taken
+  whole-words lx ly = go (takes (firstOf (rowOf w)) w) (takes (secondOf (rowOf w)) w) refl refl
+    where
+      each : (l : List ℕ) → wordsOf w x y ≡ l → ((i : ℕ) → getD l i 0 < 65536) → (i : ℕ) → getD (wordsOf w x y) i 0 < 65536
+      each l e h = subst (λ (l : List ℕ). (i : ℕ) → getD l i 0 < 65536) (sym e) h
+
+      go : (m n : ℕ) → takes (firstOf (rowOf w)) w ≡ m → takes (secondOf (rowOf w)) w ≡ n → Whole (wordsOf w x y)
+      go zero zero e f = record { count = rw (e, f) refl; words = each (w ∷ []) (rw (e, f) refl) (one w lw) }
+      go zero (suc zero) e f = record { count = rw (e, f) refl; words = each (w ∷ y ∷ []) (rw (e, f) refl) (two w y lw ly) }
+      go (suc zero) zero e f = record { count = rw (e, f) refl; words = each (w ∷ x ∷ []) (rw (e, f) refl) (two w x lw lx) }
+      go (suc zero) (suc zero) e f = record { count = rw (e, f) refl; words = each (w ∷ x ∷ y ∷ []) (rw (e, f) refl) (three w x y lw lx ly) }
+      go (suc (suc m)) n e f = let h = takes-le (firstOf (rowOf w)) w in absurd (omega arith)
+      go zero (suc (suc n)) e f = let h = takes-le (secondOf (rowOf w)) w in absurd (omega arith)
+      go (suc zero) (suc (suc n)) e f = let h = takes-le (secondOf (rowOf w)) w in absurd (omega arith)
+
+-- what the words of a guess are, by the words that its operands take
+pub words-3 : (w x y m n : ℕ) → m ≡ takes (firstOf (rowOf w)) w → n ≡ takes (secondOf (rowOf w)) w → m ≡ 1 → n ≡ 1 → wordsOf w x y ≡ w ∷ x ∷ y ∷ []
+unfolding wordsOf own
+words-3 w x y m n e f p q = rw (← e, ← f, p, q) refl
+
+pub words-a : (w x y m n : ℕ) → m ≡ takes (firstOf (rowOf w)) w → n ≡ takes (secondOf (rowOf w)) w → m ≡ 1 → (n ≡ 1 → ⊥) → wordsOf w x y ≡ w ∷ x ∷ []
+unfolding wordsOf own
+words-a w x y m n e f p q = rw (← e, ← f, p, ne-eqb n 1 q) refl
+
+pub words-b : (w x y m n : ℕ) → m ≡ takes (firstOf (rowOf w)) w → n ≡ takes (secondOf (rowOf w)) w → (m ≡ 1 → ⊥) → n ≡ 1 → wordsOf w x y ≡ w ∷ y ∷ []
+unfolding wordsOf own
+words-b w x y m n e f p q = rw (← e, ← f, ne-eqb m 1 p, q) refl
+
+pub words-1 : (w x y m n : ℕ) → m ≡ takes (firstOf (rowOf w)) w → n ≡ takes (secondOf (rowOf w)) w → (m ≡ 1 → ⊥) → (n ≡ 1 → ⊥) → wordsOf w x y ≡ w ∷ []
+unfolding wordsOf own
+words-1 w x y m n e f p q = rw (← e, ← f, ne-eqb m 1 p, ne-eqb n 1 q) refl
+
+-- the reader's answer to a text that the writer makes, from the guess
+pub accepts : (t ws e : List ℕ) (n w x y : ℕ) → w < 65536 → x < 65536 → y < 65536 → 3 ≤ length ws → lineText w x y ≡ t → Wrote (wordsOf w x y) ws e n
+    → ((vs : List ℕ) → Whole vs → textOf vs ≡ t → vs ≡ wordsOf w x y) → Accepts t ws e n
+accepts t ws e n w x y lw lx ly h q v o =
+    let s : take n e ≡ wordsOf w x y = wrote-take (wordsOf w x y) ws e n v in
+    record {
+      room = h;
+      count = v .count ∙ ap length (sym s);
+      whole = subst (λ (l : List ℕ). Whole l) (sym s) (whole-words w x y lw lx ly);
+      text = ap textOf s ∙ text-words w x y lw ∙ q;
+      only = λ vs i z. o vs i z ∙ sym s;
+      rest = wrote-rest (wordsOf w x y) ws e n v;
+    }

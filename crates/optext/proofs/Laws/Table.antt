@@ -1,0 +1,140 @@
+-- Laws of the table of op codes: each is one test over its rows.
+-- Assumes nothing.
+use mathlib.Core.Path.{_≡_, refl, ap, sym, _∙_}
+use mathlib.Core.Bool.{Bool, true, false, cond}
+use mathlib.Core.Logic.{⊎-elim}
+use mathlib.Core.List.{List, [], _∷_, _++_}
+use Prim.Native.Nat.{ℕ, zero, suc, _+_, _*_, _≤_, _<_}
+use native.Mathlib.Omega.{arith}
+use lib.Dec.{T, ltb, leb, eqb, leb→le, ltb→lt}
+use borrow.Author.Tests.{eq-eqb}
+use lib.ListN.{length, getD, drop, List·getD-append, List·getD-eq-default}
+use lib.Seq.{getD-drop, drop-append-add}
+use Rattle.optext.specs.declared.rows.Kind.{Kind}
+use Rattle.optext.specs.declared.rows.Kind.the-variants.{None, Mask, Disp, Reg, Arg4, Arg6, Count, High, Mid, Dst, Addr, Src, Word}
+use Rattle.letters.specs.Digits.{hex4}
+use Rattle.optext.specs.Rows.{Row, rowCount, rowWidth, rows, theRow, noRow, nameOf, baseOf, firstOf, secondOf, lineOf, flat, letterOf, kindAs}
+use Rattle.optext.specs.Line.{isShown}
+use Rattle.optext.proofs.Laws.Choose.{lt-cases, at}
+
+-- from a row's place on, the flat table begins with the row
+pub flat-drop : (rs : List Row) (k : ℕ) → k < length rs → drop (k * rowWidth) (flat rs) ≡ lineOf (getD rs k noRow) ++ drop (k * rowWidth + rowWidth) (flat rs)
+unfolding hex4
+flat-drop [] k h = absurd (omega arith)
+flat-drop (r ∷ rs) zero h = refl
+flat-drop (r ∷ rs) (suc k) h =
+    let e : suc k * rowWidth ≡ rowWidth + k * rowWidth = omega arith in
+    let g : suc k * rowWidth + rowWidth ≡ rowWidth + (k * rowWidth + rowWidth) = omega arith in
+    rw (g, e) (drop-append-add (lineOf r) (flat rs) (k * rowWidth) ∙ flat-drop rs k (omega arith)
+    ∙ ap (λ (l : List ℕ). lineOf (getD rs k noRow) ++ l) (sym (drop-append-add (lineOf r) (flat rs) (k * rowWidth + rowWidth))))
+
+pub row-count : length rows ≡ rowCount
+unfolding rows
+row-count = refl
+
+pub flat-length : length (flat rows) ≡ rowCount * rowWidth
+unfolding rows hex4
+flat-length = refl
+
+pub table-at : (k i : ℕ) → k < rowCount → i < rowWidth → getD (flat rows) (k * rowWidth + i) 0 ≡ getD (lineOf (theRow k)) i 0
+unfolding theRow hex4
+table-at k i h g =
+    sym (getD-drop (k * rowWidth) (flat rows) i 0) ∙ ap (λ (l : List ℕ). getD l i 0) (flat-drop rows k (rw row-count h))
+    ∙ List·getD-append (lineOf (getD rows k noRow)) (drop (k * rowWidth + rowWidth) (flat rows)) 0 i g
+
+pub table-drop : (k : ℕ) → k < rowCount → drop (k * rowWidth) (flat rows) ≡ lineOf (theRow k) ++ drop (k * rowWidth + rowWidth) (flat rows)
+unfolding theRow
+table-drop k h = flat-drop rows k (rw row-count h)
+
+-- the five places of a mnemonic
+pub line-name : (r : Row) (i : ℕ) → i < 5 → getD (lineOf r) i 0 ≡ getD (r .name) i 32
+line-name r zero h = refl
+line-name r (suc zero) h = refl
+line-name r (suc (suc zero)) h = refl
+line-name r (suc (suc (suc zero))) h = refl
+line-name r (suc (suc (suc (suc zero)))) h = refl
+line-name r (suc (suc (suc (suc (suc i))))) h = absurd (omega arith)
+
+pub any-default : (l : List ℕ) (i d e : ℕ) → i < length l → getD l i d ≡ getD l i e
+any-default [] i d e h = absurd (omega arith)
+any-default (x ∷ l) zero d e h = refl
+any-default (x ∷ l) (suc i) d e h = any-default l i d e (omega arith)
+
+-- the letters of the operands
+pub kind-back : (k : Kind) → kindAs (letterOf k) ≡ k
+unfolding kindAs
+kind-back None = refl
+kind-back Mask = refl
+kind-back Disp = refl
+kind-back Reg = refl
+kind-back Arg4 = refl
+kind-back Arg6 = refl
+kind-back Count = refl
+kind-back High = refl
+kind-back Mid = refl
+kind-back Dst = refl
+kind-back Addr = refl
+kind-back Src = refl
+kind-back Word = refl
+
+-- a mnemonic has one to five letters, and none of them is a space
+short : ℕ → Bool
+short k = leb (length (nameOf k)) 5
+
+pub name-le : (k : ℕ) → k < rowCount → length (nameOf k) ≤ 5
+unfolding short theRow rows
+name-le k h = leb→le (length (nameOf k)) 5 (at short rowCount tt k h)
+
+noSpace : List ℕ → Bool
+noSpace [] = true
+noSpace (x ∷ l) = cond (eqb x 32) false (noSpace l)
+
+no-space : (l : List ℕ) (i : ℕ) → T (noSpace l) → i < length l → getD l i 32 ≡ 32 → ⊥
+unfolding noSpace
+no-space [] i t h e = omega arith
+no-space (x ∷ l) zero t h e = rw (eq-eqb x 32 e) at t
+no-space (x ∷ l) (suc i) t h e = go (eqb x 32) t (λ u. no-space l i u (omega arith) e)
+  where
+    go : (b : Bool) → T (cond b false (noSpace l)) → (T (noSpace l) → ⊥) → ⊥
+    go true t f = t
+    go false t f = f t
+
+pub name-space : (k i : ℕ) → k < rowCount → i < length (nameOf k) → getD (nameOf k) i 32 ≡ 32 → ⊥
+unfolding noSpace theRow rows
+name-space k i h g e = no-space (nameOf k) i (at (λ k. noSpace (nameOf k)) rowCount tt k h) g e
+
+-- where a mnemonic ends: at the first space of its five places
+pub name-ends : (k i c : ℕ) → k < rowCount → i ≤ length (nameOf k) → i < 5 → c ≡ getD (lineOf (theRow k)) i 0 → c ≡ 32 → i ≡ length (nameOf k)
+name-ends k i c h l g e q =
+    ⊎-elim (λ m. absurd (name-space k i h m (sym (line-name (theRow k) i g) ∙ sym e ∙ q))) (λ m. omega arith) (lt-cases i (length (nameOf k)))
+
+pub name-goes : (k i c : ℕ) → i < 5 → c ≡ getD (lineOf (theRow k)) i 0 → (c ≡ 32 → ⊥) → i < length (nameOf k)
+name-goes k i c g e n =
+    ⊎-elim (λ m. m) (λ m. absurd (n (e ∙ line-name (theRow k) i g ∙ List·getD-eq-default (nameOf k) 32 m))) (lt-cases i (length (nameOf k)))
+
+pub name-letter : (k i c : ℕ) → i < 5 → i < length (nameOf k) → c ≡ getD (lineOf (theRow k)) i 0 → c ≡ getD (nameOf k) i 0
+name-letter k i c g l e = e ∙ line-name (theRow k) i g ∙ any-default (nameOf k) i 32 0 l
+
+-- a base op code is a word
+pub base-lt : (k : ℕ) → k < rowCount → baseOf k < 65536
+unfolding theRow rows
+base-lt k h = ltb→lt (baseOf k) 65536 (at (λ k. ltb (baseOf k) 65536) rowCount tt k h)
+
+-- a row without a first operand has no second, and with a second the mnemonic has at most four letters
+noSecond : ℕ → Bool
+noSecond k = cond (isShown (firstOf k)) true (cond (isShown (secondOf k)) false true)
+
+pub none-both : (k : ℕ) → k < rowCount → isShown (firstOf k) ≡ false → isShown (secondOf k) ≡ false
+unfolding noSecond theRow rows
+none-both k h e = go (isShown (secondOf k)) (rw e at (at noSecond rowCount tt k h))
+  where
+    go : (b : Bool) → T (cond b false true) → b ≡ false
+    go true t = absurd t
+    go false t = refl
+
+shorter : ℕ → Bool
+shorter k = cond (isShown (secondOf k)) (leb (length (nameOf k)) 4) true
+
+pub two-le : (k : ℕ) → k < rowCount → isShown (secondOf k) ≡ true → length (nameOf k) ≤ 4
+unfolding shorter theRow rows
+two-le k h e = leb→le (length (nameOf k)) 4 (rw e at (at shorter rowCount tt k h))

@@ -1,0 +1,161 @@
+-- The theorems that specs/Theorems.antt states.
+use mathlib.Core.Bool.{cond}
+use mathlib.Core.Path.{_≡_, refl, ap, sym, _∙_, subst}
+use mathlib.Core.List.{List, [], _∷_, _++_}
+use Prim.Native.Nat.{ℕ, zero, suc, _+_, _≤_, _<_}
+use native.Mathlib.Omega.{arith}
+use lib.Dec.{eqb}
+use lib.ListN.{length, take, drop, getD}
+use Rattle.optext.specs.declared.reading.Guess.{Guess}
+use Rattle.optext.specs.declared.Written.{Written}
+use Rattle.optext.specs.declared.Written.the-variants.{Line, TextShort, NoWords, WordMissing}
+use Rattle.optext.specs.declared.ReadBack.{ReadBack}
+use Rattle.optext.specs.declared.ReadBack.the-variants.{Words, WordsShort, EarlyEnd, AfterText, UnknownName, BadOperand}
+use lib.Seq.{take-append-seam}
+use Rattle.letters.specs.Over.{over}
+use Rattle.optext.specs.Agree.{agree}
+use Rattle.optext.specs.Rows.{firstOf, secondOf}
+use Rattle.optext.specs.Line.{rowOf, takes, lineText, taken, textOf}
+use Rattle.optext.specs.Guess.{guess, guessOf}
+use Rattle.optext.specs.Answer.{Answer, found, refusal, refusalAt, writtenAs, readAs}
+use Rattle.optext.specs.Column.{Whole}
+use Rattle.optext.specs.Words.{Reads, own, wordsOf}
+use Rattle.optext.proofs.Laws.Once.{not-less, reads-one}
+use Rattle.optext.proofs.Laws.Choose.{no}
+use Rattle.optext.proofs.Laws.Forms.{takes-le}
+use Rattle.optext.specs.Back.{wordOf}
+use Rattle.optext.proofs.Laws.Back.{word-taken}
+use Rattle.optext.proofs.Laws.Trip.{guess-back}
+use Rattle.optext.proofs.Laws.Near.{agree-self}
+use Rattle.optext.proofs.Laws.Columns.{near-text, own-line}
+use Rattle.optext.specs.Theorems.{OneText, NoneBegins, OneLine, OneWord, OneAnswer, RefusedLines, ReadAgain}
+
+-- the words of the guess at an op code's text are the op code's words
+unfoldable pub wordsIn : Guess → List ℕ
+wordsIn g = wordsOf (g .w) (g .x) (g .y)
+
+len-1 : (l : List ℕ) → length l ≡ 1 → getD l 0 0 ∷ [] ≡ l
+len-1 [] e = absurd (omega arith)
+len-1 (a ∷ []) e = refl
+len-1 (a ∷ b ∷ l) e = absurd (omega arith)
+
+len-2 : (l : List ℕ) → length l ≡ 2 → getD l 0 0 ∷ getD l 1 0 ∷ [] ≡ l
+len-2 [] e = absurd (omega arith)
+len-2 (a ∷ []) e = absurd (omega arith)
+len-2 (a ∷ b ∷ []) e = refl
+len-2 (a ∷ b ∷ c ∷ l) e = absurd (omega arith)
+
+pub len-3 : (l : List ℕ) → length l ≡ 3 → getD l 0 0 ∷ getD l 1 0 ∷ getD l 2 0 ∷ [] ≡ l
+len-3 [] e = absurd (omega arith)
+len-3 (a ∷ []) e = absurd (omega arith)
+len-3 (a ∷ b ∷ []) e = absurd (omega arith)
+len-3 (a ∷ b ∷ c ∷ []) e = refl
+len-3 (a ∷ b ∷ c ∷ d ∷ l) e = absurd (omega arith)
+
+pub guess-words : (vs : List ℕ) → Whole vs → wordsIn (guessOf (textOf vs)) ≡ vs
+unfolding textOf wordsIn wordsOf own taken
+guess-words vs h = go (takes (firstOf (rowOf w)) w) (takes (secondOf (rowOf w)) w) refl refl
+  where
+    w : ℕ
+    w = getD vs 0 0
+
+    x : ℕ
+    x = getD vs 1 0
+
+    lw : w < 65536
+    lw = h .words 0
+
+    y : ℕ
+    y = getD vs (1 + takes (firstOf (rowOf w)) w) 0
+
+    back : guessOf (lineText w x y) ≡ guess w (wordOf (firstOf (rowOf w)) w x) (wordOf (secondOf (rowOf w)) w y)
+    back = guess-back w x y lw (h .words 1) (h .words (1 + takes (firstOf (rowOf w)) w))
+
+    count : (m n : ℕ) → takes (firstOf (rowOf w)) w ≡ m → takes (secondOf (rowOf w)) w ≡ n → length vs ≡ 1 + m + n
+    count m n e f = h .count ∙ rw (e, f) refl
+
+    go : (m n : ℕ) → takes (firstOf (rowOf w)) w ≡ m → takes (secondOf (rowOf w)) w ≡ n → wordsIn (guessOf (textOf vs)) ≡ vs
+    go zero zero e f = rw (back, e, f) (len-1 vs (count 0 0 e f))
+    go zero (suc zero) e f = rw (back, word-taken (secondOf (rowOf w)) w y f, e, f) (len-2 vs (count 0 1 e f))
+    go (suc zero) zero e f = rw (back, word-taken (firstOf (rowOf w)) w x e, e, f) (len-2 vs (count 1 0 e f))
+    go (suc zero) (suc zero) e f = rw (back, word-taken (firstOf (rowOf w)) w x e, word-taken (secondOf (rowOf w)) w y f, e, f) (len-3 vs (count 1 1 e f))
+    go (suc (suc m)) n e f = let h = takes-le (firstOf (rowOf w)) w in absurd (omega arith)
+    go zero (suc (suc n)) e f = let h = takes-le (secondOf (rowOf w)) w in absurd (omega arith)
+    go (suc zero) (suc (suc n)) e f = let h = takes-le (secondOf (rowOf w)) w in absurd (omega arith)
+
+-- and the only words whose text it is
+pub only-guess : (t : List ℕ) (g : Guess) → g ≡ guessOf t → (vs : List ℕ) → Whole vs → textOf vs ≡ t → vs ≡ wordsOf (g .w) (g .x) (g .y)
+unfolding wordsIn
+only-guess t g e vs h q = sym (guess-words vs h) ∙ ap (λ (s : List ℕ). wordsIn (guessOf s)) q ∙ ap wordsIn (sym e)
+
+pub one-text : OneText
+one-text us vs g h e = sym (guess-words us g) ∙ ap (λ (t : List ℕ). wordsIn (guessOf t)) e ∙ guess-words vs h
+
+pub none-begins : NoneBegins
+none-begins us vs s g h e =
+    let w : agree (textOf vs) (textOf us) ≡ length (textOf us) = subst (λ (t : List ℕ). agree t (textOf us) ≡ length (textOf us)) (sym e) (agree-self (textOf us) s) in
+    sym (near-text (textOf vs) us g .whole w) ∙ own-line (textOf vs) (record { words = vs; whole = h; text = refl })
+
+-- the page's numbers and values tell the answers apart
+abbrev writtenOf : Answer → Written
+writtenOf (found []) = NoWords
+writtenOf (found (n ∷ [])) = NoWords
+writtenOf (found (n ∷ m ∷ l)) = Line n m
+writtenOf (refusal r) = cond (eqb r 8) TextShort (cond (eqb r 7) WordMissing NoWords)
+writtenOf (refusalAt r c) = NoWords
+
+written-back : (r : Written) → writtenOf (writtenAs r) ≡ r
+written-back (Line n m) = refl
+written-back TextShort = refl
+written-back NoWords = refl
+written-back WordMissing = refl
+
+abbrev readOf : Answer → ReadBack
+readOf (found []) = WordsShort
+readOf (found (n ∷ l)) = Words n
+readOf (refusal r) = WordsShort
+readOf (refusalAt r c) = cond (eqb r 32) (EarlyEnd c) (cond (eqb r 31) (AfterText c) (cond (eqb r 9) (UnknownName c) (BadOperand c)))
+
+read-back : (r : ReadBack) → readOf (readAs r) ≡ r
+read-back (Words n) = refl
+read-back WordsShort = refl
+read-back (EarlyEnd c) = refl
+read-back (AfterText c) = refl
+read-back (UnknownName c) = refl
+read-back (BadOperand c) = refl
+
+pub one-line : OneLine
+one-line ws b e e' r r' p q = (sym (written-back r) ∙ ap writtenOf (p .answer ∙ sym (q .answer)) ∙ written-back r', p .bytes ∙ sym (q .bytes))
+
+pub one-word : OneWord
+one-word w b e e' r r' p q = (sym (written-back r) ∙ ap writtenOf (p .answer ∙ sym (q .answer)) ∙ written-back r', p .bytes ∙ sym (q .bytes))
+
+pub one-answer : OneAnswer
+one-answer t ws e e' r r' p q =
+    let z = reads-one t ws e e' (readAs r) (readAs r') p q in
+    (sym (read-back r) ∙ ap readOf (z .0) ∙ read-back r', z .1)
+
+pub refused-lines : RefusedLines
+refused-lines t ws e (Words n) h p = (λ q. absurd (no (sym q)), λ q. record { words = take n e; whole = p .whole; text = p .text })
+refused-lines t ws e WordsShort h p = (λ q. absurd (no (sym q)), λ q. absurd (not-less (length ws) h (p .1 .room)))
+refused-lines t ws e (EarlyEnd c) h p = (λ q. p .none, λ q. absurd (no q))
+refused-lines t ws e (AfterText c) h p = (λ q. p .none, λ q. absurd (no q))
+refused-lines t ws e (UnknownName c) h p = (λ q. p .none, λ q. absurd (no q))
+refused-lines t ws e (BadOperand c) h p = (λ q. p .none, λ q. absurd (no q))
+
+-- what the reader may answer to the text of an op code: its words, and the other words as they were
+pub reads-text : (vs ws : List ℕ) → Whole vs → 3 ≤ length ws → Reads (found (length vs ∷ [])) (textOf vs) ws (over vs ws)
+unfolding over
+reads-text vs ws h g =
+    let s : take (length vs) (vs ++ drop (length vs) ws) ≡ vs = take-append-seam vs (drop (length vs) ws) in
+    record {
+      room = g;
+      count = ap length (sym s);
+      whole = subst (λ (l : List ℕ). Whole l) (sym s) h;
+      text = ap textOf s;
+      only = λ us w q. one-text us vs w h q ∙ sym s;
+      rest = ap (λ (l : List ℕ). l ++ drop (length l) ws) (sym s);
+    }
+
+pub read-again : ReadAgain
+read-again vs ws e r h g p = one-answer (textOf vs) ws e (over vs ws) r (Words (length vs)) p (reads-text vs ws h g)

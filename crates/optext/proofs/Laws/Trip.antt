@@ -1,0 +1,139 @@
+-- The guess at a line is the line's words.
+-- Assumes nothing.
+use mathlib.Core.Path.{_≡_, refl, sym, _∙_}
+use mathlib.Core.Bool.{true, false}
+use mathlib.Core.Logic.{⊎-elim}
+use mathlib.Core.List.{List, [], _∷_, _++_, append-assoc, append-nil}
+use Prim.Native.Nat.{ℕ, suc, _+_, _%_, _^_, _<_}
+use native.Mathlib.Omega.{arith}
+use borrow.Author.Tests.{eqb-true}
+use lib.ListN.{length, drop}
+use lib.Seq.{drop-append-add}
+use Rattle.optext.specs.declared.rows.Kind.{Kind}
+use Rattle.optext.specs.declared.rows.Kind.the-variants.{None, Mask, Disp, Reg, Arg4, Arg6, Count, High, Mid, Dst, Addr, Src, Word}
+use Rattle.optext.specs.Rows.{rowCount, wordRow, rows, theRow, nameOf, baseOf, firstOf, secondOf}
+use Rattle.optext.specs.Line.{fieldOf, fitsRow, rowOf, isShown, operandText, sepText, lineText}
+use Rattle.optext.specs.Guess.{headOf, rowAt, op, unOp, guess, guessA, guessB, guessOf}
+use Rattle.optext.proofs.Laws.Choose.{no, bool-cases, lt-cases, first-le, first-hit}
+use Rattle.optext.proofs.Laws.Table.{none-both}
+use Rattle.optext.proofs.Laws.Near.{agree-self}
+use Rattle.optext.proofs.Laws.Heads.{head-own}
+use Rattle.optext.proofs.Laws.Reserved.{last-reserved, from-same}
+use Rattle.optext.proofs.Laws.Forms.{sep-none, sep-some}
+use Rattle.optext.specs.Back.{wordOf}
+use Rattle.optext.proofs.Laws.Back.{op-back}
+
+pub row-lt : (w : ℕ) → rowOf w < rowCount
+unfolding rowOf
+row-lt w = let h = first-le (fitsRow w) wordRow 0 in omega arith
+
+-- a word is the base op code of its row with the operands in it
+found : (w : ℕ) → rowOf w < wordRow → baseOf (rowOf w) + fieldOf (firstOf (rowOf w)) w + fieldOf (secondOf (rowOf w)) w ≡ w
+unfolding rowOf
+found w h = eqb-true (baseOf (rowOf w) + fieldOf (firstOf (rowOf w)) w + fieldOf (secondOf (rowOf w)) w) w (first-hit (fitsRow w) wordRow 0 (omega arith))
+
+last : (w : ℕ) → w < 65536 → rowOf w ≡ wordRow → baseOf (rowOf w) + fieldOf (firstOf (rowOf w)) w + fieldOf (secondOf (rowOf w)) w ≡ w
+unfolding theRow rows
+last w l e = rw (e, from-same w (last-reserved w l e)) (omega arith)
+
+pub word-back : (w : ℕ) → w < 65536 → baseOf (rowOf w) + fieldOf (firstOf (rowOf w)) w + fieldOf (secondOf (rowOf w)) w ≡ w
+word-back w l =
+    let r = row-lt w in
+    ⊎-elim (λ h. found w h) (λ h. last w l (omega arith)) (lt-cases (rowOf w) wordRow)
+
+-- an operand that is not shown
+pub none-text : (k : Kind) (w x : ℕ) → isShown k ≡ false → operandText k w x ≡ []
+none-text None w x e = refl
+none-text Mask w x e = absurd (no e)
+none-text Disp w x e = absurd (no e)
+none-text Reg w x e = absurd (no e)
+none-text Arg4 w x e = absurd (no e)
+none-text Arg6 w x e = absurd (no e)
+none-text Count w x e = absurd (no e)
+none-text High w x e = absurd (no e)
+none-text Mid w x e = absurd (no e)
+none-text Dst w x e = absurd (no e)
+none-text Addr w x e = absurd (no e)
+none-text Src w x e = absurd (no e)
+none-text Word w x e = absurd (no e)
+
+none-back : (k : Kind) (t : List ℕ) (w x : ℕ) → isShown k ≡ false → unOp k t ≡ op (fieldOf k w) (wordOf k w x) (length (operandText k w x))
+none-back None t w x e = refl
+none-back Mask t w x e = absurd (no e)
+none-back Disp t w x e = absurd (no e)
+none-back Reg t w x e = absurd (no e)
+none-back Arg4 t w x e = absurd (no e)
+none-back Arg6 t w x e = absurd (no e)
+none-back Count t w x e = absurd (no e)
+none-back High t w x e = absurd (no e)
+none-back Mid t w x e = absurd (no e)
+none-back Dst t w x e = absurd (no e)
+none-back Addr t w x e = absurd (no e)
+none-back Src t w x e = absurd (no e)
+none-back Word t w x e = absurd (no e)
+
+module _ (w x y : ℕ) (lw : w < 65536) (lx : x < 65536) (ly : y < 65536) where
+  line-none : isShown (firstOf (rowOf w)) ≡ false → lineText w x y ≡ nameOf (rowOf w)
+  unfolding lineText
+  line-none e =
+      rw (sep-none 32 (firstOf (rowOf w)) w x e, sep-none 44 (secondOf (rowOf w)) w y (none-both (rowOf w) (row-lt w) e))
+      (append-nil (nameOf (rowOf w) ++ []) ∙ append-nil (nameOf (rowOf w)))
+
+  line-some : isShown (firstOf (rowOf w)) ≡ true → lineText w x y ≡ nameOf (rowOf w) ++ (32 ∷ (operandText (firstOf (rowOf w)) w x ++ sepText 44 (secondOf (rowOf w)) w y))
+  unfolding lineText
+  line-some n = rw (sep-some 32 (firstOf (rowOf w)) w x n) (append-assoc (nameOf (rowOf w)) (32 ∷ operandText (firstOf (rowOf w)) w x) (sepText 44 (secondOf (rowOf w)) w y))
+
+  -- the line begins with its row's mnemonic
+  pub line-head : lineText w x y ≡ headOf (rowOf w) ++ (operandText (firstOf (rowOf w)) w x ++ sepText 44 (secondOf (rowOf w)) w y)
+  unfolding headOf
+  line-head =
+      ⊎-elim (λ e. line-none e ∙ sym (rw (e, none-text (firstOf (rowOf w)) w x e, sep-none 44 (secondOf (rowOf w)) w y (none-both (rowOf w) (row-lt w) e)) (append-nil (nameOf (rowOf w)))))
+      (λ n. rw (line-some n, n) (sym (append-assoc (nameOf (rowOf w)) (32 ∷ []) (operandText (firstOf (rowOf w)) w x ++ sepText 44 (secondOf (rowOf w)) w y))))
+      (bool-cases (isShown (firstOf (rowOf w))))
+
+  pub row-back : rowAt (lineText w x y) ≡ rowOf w
+  row-back =
+      head-own (lineText w x y) (rowOf w) (row-lt w)
+      (rw line-head (agree-self (headOf (rowOf w)) (operandText (firstOf (rowOf w)) w x ++ sepText 44 (secondOf (rowOf w)) w y)))
+
+  A-back : guessA (lineText w x y) ≡ op (fieldOf (firstOf (rowOf w)) w) (wordOf (firstOf (rowOf w)) w x) (length (operandText (firstOf (rowOf w)) w x))
+  unfolding guessA
+  A-back =
+      rw row-back
+      (⊎-elim (λ e. none-back (firstOf (rowOf w)) (drop (length (nameOf (rowOf w)) + 1) (lineText w x y)) w x e)
+      (λ n. rw (line-some n, drop-append-add (nameOf (rowOf w)) (32 ∷ (operandText (firstOf (rowOf w)) w x ++ sepText 44 (secondOf (rowOf w)) w y)) 1)
+      (op-back (firstOf (rowOf w)) w x (sepText 44 (secondOf (rowOf w)) w y) lw lx))
+      (bool-cases (isShown (firstOf (rowOf w)))))
+
+  B-back : guessB (lineText w x y) ≡ op (fieldOf (secondOf (rowOf w)) w) (wordOf (secondOf (rowOf w)) w y) (length (operandText (secondOf (rowOf w)) w y))
+  unfolding guessB
+  B-back =
+      rw (row-back, A-back)
+      (⊎-elim (λ e. none-back (secondOf (rowOf w)) (drop (length (nameOf (rowOf w)) + 1 + length (operandText (firstOf (rowOf w)) w x) + 1) (lineText w x y)) w y e)
+      (λ n. rw (after-comma n (both n)) (rw append-nil at (op-back (secondOf (rowOf w)) w y [] lw ly)))
+      (bool-cases (isShown (secondOf (rowOf w)))))
+    where
+      both : isShown (secondOf (rowOf w)) ≡ true → isShown (firstOf (rowOf w)) ≡ true
+      both n = ⊎-elim (λ e. absurd (no (sym n ∙ none-both (rowOf w) (row-lt w) e))) (λ e. e) (bool-cases (isShown (firstOf (rowOf w))))
+
+      after-comma : isShown (secondOf (rowOf w)) ≡ true → isShown (firstOf (rowOf w)) ≡ true → drop (length (nameOf (rowOf w)) + 1 + length (operandText (firstOf (rowOf w)) w x) + 1) (lineText w x y) ≡ operandText (secondOf (rowOf w)) w y
+      after-comma n f =
+          let N : List ℕ = nameOf (rowOf w) in
+          let A : List ℕ = operandText (firstOf (rowOf w)) w x in
+          let B : List ℕ = operandText (secondOf (rowOf w)) w y in
+          let m : length N + 1 + length A + 1 ≡ length N + suc (length A + 1) = omega arith in
+          rw (
+            m,
+            line-some f,
+            sep-some 44 (secondOf (rowOf w)) w y n,
+            drop-append-add N (32 ∷ (A ++ (44 ∷ B))) (suc (length A + 1)),
+          )
+          (drop-append-add A (44 ∷ B) 1)
+
+  -- the guess at the line of w, x and y
+  pub guess-back : guessOf (lineText w x y) ≡ guess w (wordOf (firstOf (rowOf w)) w x) (wordOf (secondOf (rowOf w)) w y)
+  unfolding guessOf
+  guess-back =
+      let e = word-back w lw in
+      let m : ((baseOf (rowOf w) + fieldOf (firstOf (rowOf w)) w) % 2 ^ 16 + fieldOf (secondOf (rowOf w)) w) % 2 ^ 16 ≡ w = omega arith in
+      rw (row-back, A-back, B-back, m) refl

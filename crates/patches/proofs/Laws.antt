@@ -1,0 +1,7 @@
+-- The laws of the crate's definitions.
+pub mod Again
+pub mod Listed
+pub mod Padded
+pub mod Pieces
+pub mod Rising
+pub mod Taken

@@ -1,0 +1,100 @@
+-- A step's ends: from what the work came to on the board to the step's definition on the image alone.
+use Prim.Native.Nat.{ℕ, zero, suc}
+use mathlib.Core.Bool.{true, false}
+use mathlib.Core.List.{List, [], _∷_}
+use mathlib.Core.Path.{_≡_, refl, sym, ap, _∙_}
+use native.Mathlib.Omega.{arith}
+use lib.ListN.{set, replicate, getD}
+use Rattle.board.specs.Work.{value, blank, run}
+use Rattle.board.specs.Exec.{beside, Lent, Board}
+use Rattle.board.proofs.Laws.Ended.{Fresh}
+use Rattle.board.specs.Undo.{undone}
+use Rattle.board.proofs.Laws.Undo.{none-left, board-fresh, board-back}
+use Rattle.state.specs.declared.State.{State}
+use Rattle.state.specs.declared.Outside.{Outside}
+use Rattle.state.specs.declared.Settings.{Settings}
+use Rattle.state.specs.declared.Mode.the-variants.{Locked}
+use Rattle.state.specs.State.{withMode, cleared, heard}
+use Rattle.step.specs.declared.Kind.{Kind}
+use Rattle.step.specs.declared.Kind.the-variants.{OpCode, HaltEnd, Boots, Saves, LocksUp, Restarts, Restores, NonVectored, Vectored, Waits, Stuck}
+use Rattle.step.specs.declared.Cause.{Cause}
+use Rattle.step.specs.declared.Cause.the-variants.{LockedAt}
+use Rattle.step.specs.Step.{After, after, kindOf, workOf, busError, causeOf, errorCauseOf, errorOf, stepOf, isCode, haltOption, powerUpOption, up, orLocked, powerUpOf}
+
+pub fresh-clear : {map m l l′ : List ℕ} → Board map (beside m l) → l′ ≡ set l 0 0 → Fresh map (beside m l′)
+fresh-clear {l = l} b e = rw e (record { board = board-fresh {l = l} b; empty = none-left l (b .whole) })
+
+pub fresh-back : {map m l m′ l′ : List ℕ} → Board map (beside m l) → m′ ≡ undone (beside m l) → l′ ≡ set l 0 0 → Fresh map (beside m′ l′)
+fresh-back {m = m} {l = l} b d e = rw (d, e) (record { board = board-back {m = m} {l = l} b; empty = none-left l (b .whole) })
+
+pub step-well : (map : List ℕ) (out : Outside) (s : State) (m : List ℕ) {k : Kind} {t : State} {n : List ℕ} {c : Cause}
+    → k ≡ kindOf s out → run map (workOf k out s) m ≡ value t n → c ≡ causeOf k → after t n c ≡ stepOf map out s m
+unfolding stepOf
+step-well map out s m e h d = rw (← e, h, d)
+
+pub step-ill : (map : List ℕ) (out : Outside) (s : State) (m : List ℕ) {k : Kind} {a : ℕ} {r : After} {u : List ℕ}
+    → k ≡ kindOf s out → run map (workOf k out s) m ≡ blank a → u ≡ m → r ≡ errorOf map k out s u a → r ≡ stepOf map out s m
+unfolding stepOf
+step-ill map out s m e h f d = rw (← e, h, ← f) d
+
+pub error-well : (map : List ℕ) (k : Kind) (out : Outside) (s : State) {m u : List ℕ} {t : State} {n : List ℕ} (a : ℕ) {c : Cause}
+    → m ≡ u → run map (busError k out s) m ≡ value t n → c ≡ errorCauseOf k a → after t n c ≡ errorOf map k out s u a
+unfolding errorOf
+error-well map k out s a e h d = rw (← e, h, d)
+
+pub error-ill : (map : List ℕ) (k : Kind) (out : Outside) (s : State) {m u n : List ℕ} {a b : ℕ} {t : State}
+    → m ≡ u → n ≡ m → run map (busError k out s) m ≡ blank b → t ≡ withMode s Locked → after t n (LockedAt a) ≡ errorOf map k out s u a
+unfolding errorOf
+error-ill map k out s e f h d = rw (← e, h, d, f)
+
+-- ---- power-up, from an empty log
+
+pub fresh-none : {map m : List ℕ} → Lent map m → Fresh map (beside m (replicate 32 0))
+fresh-none b = record { board = record { lent = b; whole = refl; few = omega arith }; empty = refl }
+
+module _ (settings : Settings) (map m : List ℕ) {s t : State} {out : Outside} {k : Kind} {n : List ℕ} where
+  pub powered : s ≡ cleared → out ≡ heard settings 0 → k ≡ powerUpOption settings → run map (workOf k out s) m ≡ value t n → up t n ≡ powerUpOf settings map m
+  unfolding powerUpOf
+  powered e o h r = sym (ap (λ c. orLocked c m) (rw (e, o, h) at r))
+
+  pub unpowered : {a : ℕ} → s ≡ cleared → out ≡ heard settings 0 → k ≡ powerUpOption settings → run map (workOf k out s) m ≡ blank a → n ≡ m → t ≡ withMode s Locked → up t n ≡ powerUpOf settings map m
+  unfolding powerUpOf
+  unpowered e o h r f d = rw (f, d, e) (sym (ap (λ c. orLocked c m) (rw (e, o, h) at r)))
+
+-- ---- a step is an op code, or it is not
+
+unlike : true ≡ false → ⊥
+unlike e = let z : _≡_ {A = ℕ} 0 1 = cc in absurd (omega arith)
+
+pub no-code : {k : Kind} → k ≡ OpCode → isCode k ≡ false → ⊥
+no-code e h = unlike (sym (ap isCode e) ∙ h)
+
+pub code-is : (k : Kind) → isCode k ≡ true → k ≡ OpCode
+code-is OpCode e = refl
+code-is HaltEnd e = absurd (unlike (sym e))
+code-is Boots e = absurd (unlike (sym e))
+code-is Saves e = absurd (unlike (sym e))
+code-is LocksUp e = absurd (unlike (sym e))
+code-is Restarts e = absurd (unlike (sym e))
+code-is Restores e = absurd (unlike (sym e))
+code-is NonVectored e = absurd (unlike (sym e))
+code-is Vectored e = absurd (unlike (sym e))
+code-is Waits e = absurd (unlike (sym e))
+code-is Stuck e = absurd (unlike (sym e))
+
+-- no option is an op code
+halt-no-code : (n : ℕ) → isCode (getD (Boots ∷ Saves ∷ LocksUp ∷ []) n Restarts) ≡ false
+halt-no-code zero = refl
+halt-no-code (suc zero) = refl
+halt-no-code (suc (suc zero)) = refl
+halt-no-code (suc (suc (suc n))) = refl
+
+power-no-code : (n : ℕ) (k : Kind) → isCode k ≡ false → isCode (getD (Boots ∷ Restores ∷ k ∷ []) n Restarts) ≡ false
+power-no-code zero k h = refl
+power-no-code (suc zero) k h = refl
+power-no-code (suc (suc zero)) k h = h
+power-no-code (suc (suc (suc n))) k h = refl
+
+pub option-no-code : (settings : Settings) {k : Kind} → k ≡ powerUpOption settings → isCode k ≡ false
+unfolding powerUpOption haltOption
+option-no-code settings e = ap isCode e ∙ power-no-code (settings .powerup) _ (halt-no-code (settings .halt))

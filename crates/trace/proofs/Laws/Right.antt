@@ -1,0 +1,142 @@
+-- A TRACE IS ACCEPTED IF AND ONLY IF IT IS THE MANUAL'S; what is made is accepted; no call has two outcomes.
+use Prim.Native.Nat.{ℕ, zero, suc, _+_, _<_}
+use mathlib.Core.Bool.{Bool, true, false, cond}
+use mathlib.Core.List.{List, [], _∷_}
+use mathlib.Core.Path.{_≡_, refl, sym, ap, _∙_}
+use native.Mathlib.Omega.{arith}
+use lib.Dec.{eqb}
+use lib.ListN.{length, take}
+use lib.Seq.{take-append-seam}
+use borrow.Author.Tests.{eqb-true, eq-eqb}
+use Rattle.words.specs.Words.{byteAt}
+use Rattle.letters.specs.Over.{over}
+use Rattle.step.specs.Step.{After}
+use Rattle.refusal.specs.Page.{refused, answered, unless}
+use Rattle.refusal.proofs.Laws.Page.{apart, answered-one, first-both}
+use Rattle.job.specs.Job.{whyRead, mapOf, linesOf}
+use Rattle.trace.specs.declared.Verdict.{Verdict}
+use Rattle.trace.specs.declared.Verdict.the-variants.{Accepted, Wrong, Missing, Extra}
+use Rattle.trace.specs.declared.Checked.{Checked}
+use Rattle.trace.specs.declared.Checked.the-variants as Checked
+use Rattle.trace.specs.declared.Made.{Made}
+use Rattle.trace.specs.declared.Made.the-variants as Made
+use Rattle.trace.specs.Trace.{entryOf, entriesOf, stepsOf, rightTrace, imageAfter, traceBytes, wordsFrom, entriesFrom, toldIn, whyTrace, orElse, differ, compared, verdictOf, Left, left, checkedPage, whyCheck, checkOf, madePage, whyMake, put, makeOf}
+use Rattle.trace.proofs.Laws.Bytes.{right-ten, words-length, told-again, taken-again, bytes-back}
+
+-- ---- entries that are the same, and only those, are accepted
+
+differ-self : (step k : ℕ) (xs : List ℕ) → differ step k xs xs ≡ Accepted
+unfolding differ
+differ-self step k [] = refl
+differ-self step k (x ∷ xs) = rw (eq-eqb x x refl) (differ-self step (k + 1) xs)
+
+pub compared-self : (step : ℕ) (es : List (List ℕ)) → compared step es es ≡ Accepted
+unfolding compared
+compared-self step [] = refl
+compared-self step (e ∷ es) = rw (differ-self step 0 e) (compared-self (step + 1) es)
+
+pub differ-same : (step k : ℕ) (xs ys : List ℕ) → length xs ≡ length ys → differ step k xs ys ≡ Accepted → xs ≡ ys
+unfolding differ
+differ-same step k [] [] l e = refl
+differ-same step k [] (y ∷ ys) l e = absurd (omega arith)
+differ-same step k (x ∷ xs) [] l e = absurd (omega arith)
+differ-same step k (x ∷ xs) (y ∷ ys) l e = split (eqb x y) refl (λ h. differ-same step (k + 1) xs ys (omega arith) h) e
+  where
+    split : (b : Bool) → eqb x y ≡ b → (differ step (k + 1) xs ys ≡ Accepted → xs ≡ ys) → cond b (differ step (k + 1) xs ys) (Wrong step k x) ≡ Accepted → x ∷ xs ≡ y ∷ ys
+    split true h later e = let i = eqb-true x y h in let j = later e in cc
+    split false h later e = let z : _≡_ {A = ℕ} 0 1 = cc in absurd (omega arith)
+
+both-accepted : (v w : Verdict) → orElse v w ≡ Accepted → (v ≡ Accepted) × (w ≡ Accepted)
+both-accepted Accepted w e = (refl, e)
+both-accepted (Wrong step k x) w e = let z : _≡_ {A = ℕ} 0 1 = cc in absurd (omega arith)
+both-accepted (Missing step) w e = let z : _≡_ {A = ℕ} 0 1 = cc in absurd (omega arith)
+both-accepted (Extra step) w e = let z : _≡_ {A = ℕ} 0 1 = cc in absurd (omega arith)
+
+compared-same : (step : ℕ) (rs : List After) (t : List ℕ) (at n : ℕ) → compared step (entriesOf rs) (entriesFrom t at n) ≡ Accepted → entriesOf rs ≡ entriesFrom t at n
+unfolding compared entriesOf entriesFrom
+compared-same step [] t at zero e = refl
+compared-same step [] t at (suc n) e = let z : _≡_ {A = ℕ} 0 1 = cc in absurd (omega arith)
+compared-same step (a ∷ rs) t at zero e = let z : _≡_ {A = ℕ} 0 1 = cc in absurd (omega arith)
+compared-same step (a ∷ rs) t at (suc n) e =
+    let both = both-accepted (differ step 0 (entryOf (a .state)) (wordsFrom t at 10)) _ e in
+    let here : entryOf (a .state) ≡ wordsFrom t at 10 = differ-same step 0 _ _ (right-ten (a .state) ∙ sym (words-length t at 10)) (both .0) in
+    let later = compared-same (step + 1) rs t (at + 20) n (both .1) in
+    cc
+
+-- ---- the check's verdict
+
+module _ (input t : List ℕ) where
+  accepted-right : ((i : ℕ) → byteAt t i < 256) → whyTrace t ≡ 0 → verdictOf input t ≡ Accepted → t ≡ traceBytes (rightTrace input)
+  unfolding toldIn
+  accepted-right bytes taken e = bytes-back t bytes taken ∙ ap traceBytes (sym (compared-same 0 (stepsOf input) t 2 _ e))
+
+  right-accepted : t ≡ traceBytes (rightTrace input) → (whyTrace t ≡ 0) × (verdictOf input t ≡ Accepted)
+  right-accepted e = rw e (taken-again (stepsOf input), ap (λ z. compared 0 (rightTrace input) z) (told-again (stepsOf input)) ∙ compared-self 0 (rightTrace input))
+
+-- what is right where nothing is refused
+taken : {A : Type 0} (why : ℕ) {p : A} {i m l : List ℕ} (i′ m′ l′ : List ℕ) (x : Left A) → left (answered p) i m l ≡ unless why x (left (refused why) i′ m′ l′) → (why ≡ 0) × (left (answered p) i m l ≡ x)
+taken zero i′ m′ l′ x e = (refl, e)
+taken (suc why) i′ m′ l′ x e = absurd (apart (ap (λ z. z .page) e))
+
+-- ACCEPTED IF AND ONLY IF IT IS THE MANUAL'S TRACE: of what the check answers to a job that is not refused and a trace of bytes
+module _ (input t image map lines : List ℕ) (job : whyRead (length image) (length map) (length lines) input ≡ 0) (bytes : (i : ℕ) → byteAt t i < 256)
+    (r : Checked) (image′ map′ lines′ : List ℕ) (met : left (checkedPage r) image′ map′ lines′ ≡ checkOf input t image map lines) where
+  pub accepted-only : r ≡ Checked.Done Accepted → t ≡ traceBytes (rightTrace input)
+  unfolding checkOf
+  accepted-only d =
+      let h = taken (whyCheck input t (length image) (length map) (length lines)) image map lines (left (answered (verdictOf input t)) (imageAfter input) (mapOf input) (linesOf input)) (rw d at met) in
+      let v : verdictOf input t ≡ Accepted = sym (answered-one (ap (λ z. z .page) (h .1))) in
+      accepted-right input t bytes (first-both (whyRead (length image) (length map) (length lines) input) (whyTrace t) (h .0) .1) v
+
+  pub accepted-if : t ≡ traceBytes (rightTrace input) → r ≡ Checked.Done Accepted
+  unfolding checkOf
+  accepted-if e =
+      let h = right-accepted input t e in
+      done r (ap (λ z. z .page) (rw (job, h .0, h .1) at met))
+    where
+      done : (r : Checked) → checkedPage r ≡ answered Accepted → r ≡ Checked.Done Accepted
+      done (Checked.Done v) e = ap Checked.Done (answered-one e)
+      done (Checked.Refused why) e = absurd (apart (sym e))
+
+-- ---- WHAT IS MADE IS ACCEPTED
+
+pub made-accepted : (input out image map lines : List ℕ) (n : ℕ) (out′ image′ map′ lines′ : List ℕ)
+    → put out′ (left (madePage (Made.Bytes n)) image′ map′ lines′) ≡ makeOf input out image map lines
+    → (i m l : List ℕ) → length i ≡ length image → length m ≡ length map → length l ≡ length lines
+    → checkOf input (take n out′) i m l .page ≡ answered Accepted
+unfolding makeOf checkOf over
+made-accepted input out image map lines n out′ image′ map′ lines′ e i m l hi hm hl = split (whyMake input (length out) (length image) (length map) (length lines)) refl e
+  where
+    t : List ℕ
+    t = traceBytes (rightTrace input)
+
+    split : (why : ℕ) → whyMake input (length out) (length image) (length map) (length lines) ≡ why
+        → put out′ (left (answered n) image′ map′ lines′) ≡ unless why (put (over t out) (left (answered (length t)) (imageAfter input) (mapOf input) (linesOf input))) (put out (left (refused why) image map lines))
+        → unless (whyCheck input (take n out′) (length i) (length m) (length l)) (left (answered (verdictOf input (take n out′))) (imageAfter input) (mapOf input) (linesOf input)) (left (refused (whyCheck input (take n out′) (length i) (length m) (length l))) i m l) .page ≡ answered Accepted
+    split zero why e =
+        let size : n ≡ length t = answered-one (ap (λ z. z .rest .page) e) in
+        let bytes : out′ ≡ over t out = ap (λ z. z .bytes) e in
+        let same : take n out′ ≡ t = rw (size, bytes) (take-append-seam t _) in
+        let h = right-accepted input (take n out′) same in
+        rw (hi, hm, hl, first-both (whyRead (length image) (length map) (length lines) input) _ why .0, h .0, h .1)
+    split (suc why) w e = absurd (apart (ap (λ z. z .rest .page) e))
+
+-- ---- ONE OUTCOME
+
+checked-one : (r q : Checked) → checkedPage r ≡ checkedPage q → r ≡ q
+checked-one (Checked.Done v) (Checked.Done w) e = ap Checked.Done (answered-one e)
+checked-one (Checked.Done v) (Checked.Refused why) e = absurd (apart e)
+checked-one (Checked.Refused why) (Checked.Done w) e = absurd (apart (sym e))
+checked-one (Checked.Refused why) (Checked.Refused more) e = let i : why ≡ more = cc in ap Checked.Refused i
+
+made-one : (r q : Made) → madePage r ≡ madePage q → r ≡ q
+made-one (Made.Bytes n) (Made.Bytes k) e = ap Made.Bytes (answered-one e)
+made-one (Made.Bytes n) (Made.Refused why) e = absurd (apart e)
+made-one (Made.Refused why) (Made.Bytes k) e = absurd (apart (sym e))
+made-one (Made.Refused why) (Made.Refused more) e = let i : why ≡ more = cc in ap Made.Refused i
+
+pub one-check : (r q : Checked) (i m l i′ m′ l′ : List ℕ) → left (checkedPage r) i m l ≡ left (checkedPage q) i′ m′ l′ → (r ≡ q) × (i ≡ i′) × (m ≡ m′) × (l ≡ l′)
+one-check r q i m l i′ m′ l′ e = (checked-one r q (ap (λ z. z .page) e), ap (λ z. z .image) e, ap (λ z. z .map) e, ap (λ z. z .lines) e)
+
+pub one-make : (r q : Made) (o i m l o′ i′ m′ l′ : List ℕ) → put o (left (madePage r) i m l) ≡ put o′ (left (madePage q) i′ m′ l′) → (r ≡ q) × (o ≡ o′) × (i ≡ i′) × (m ≡ m′) × (l ≡ l′)
+one-make r q o i m l o′ i′ m′ l′ e = (made-one r q (ap (λ z. z .rest .page) e), ap (λ z. z .bytes) e, ap (λ z. z .rest .image) e, ap (λ z. z .rest .map) e, ap (λ z. z .rest .lines) e)
