@@ -1,5 +1,4 @@
 -- Laws of the answer: the first fault, or the section.
--- Assumes nothing.
 use mathlib.Core.Path.{_≡_, refl}
 use mathlib.Core.List.{List, [], _∷_}
 use Prim.Native.Nat.{ℕ, _%_, _≤_, _<_}

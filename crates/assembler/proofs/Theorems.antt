@@ -1,5 +1,4 @@
 -- Theorems of the contract: one outcome only.
--- Assumes nothing.
 use mathlib.Core.Path.{_≡_, ap}
 use mathlib.Core.List.{List}
 use Prim.Native.Nat.{ℕ}

@@ -1,5 +1,4 @@
 -- What the assembler answers and leaves in the lent output, on any source and any output.
--- Assumes nothing.
 use mathlib.Core.Bool.{cond}
 use mathlib.Core.List.{List, [], _∷_}
 use Prim.Native.Nat.{ℕ, _%_}

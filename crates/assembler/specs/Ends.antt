@@ -1,7 +1,6 @@
--- How an assembly ends, by the number of the first refusal that applies.
--- Assumes nothing.
+-- How an assembly ends, by the number of the first refusal that applies; and what a line is like that has no fault.
 use Prim.Native.Nat.{ℕ, _%_}
-use mathlib.Core.Bool.{Bool, false, _&&_, cond}
+use mathlib.Core.Bool.{Bool, _&&_, cond, false}
 use mathlib.Core.List.{List, [], _∷_}
 use mathlib.Core.Path.{_≡_}
 use lib.Dec.{eqb, leb, ltb}
@@ -9,8 +8,9 @@ use lib.ListN.{length}
 use Rattle.refusal.specs.Numbers.{outputShort, sourceLines, unknownText, outOfPlace}
 use Rattle.refusal.specs.Page.{first}
 use Rattle.assembler.specs.declared.source.Fault.{Fault}
-use Rattle.assembler.specs.Source.{countOf, lowest}
-use Rattle.assembler.specs.Answer.{faults, numberOf, longestSection, section, refused, refusedAt, After, after}
+use Rattle.assembler.specs.Source.{countOf, lowest, lineAt, textAt, saidAt, hereOf, isUnknown, isGiven, lacks, misplaced, far}
+use Rattle.assembler.specs.Answer.{faults, numberOf, longestSection}
+use Rattle.patchline.specs.Text.{labelOf}
 
 -- the number of the first fault that a line has, 0 where none has any
 unfoldable pub faultWhy : List Fault → List ℕ → ℕ
@@ -35,8 +35,10 @@ pub record FaultLine (s : List ℕ) (number line : ℕ) : Type 0 where
   pub numberIs : number ≡ numberOf fault
   pub lineIs : line ≡ lowest fault s
 
--- under the number `why`: done; refused alone; refused with a line. A refusal leaves the output as lent
-pub data Ends (s out : List ℕ) (why : ℕ) (x : After) : Type 0 where
-  done : why ≡ 0 → (n : ℕ) → x .page ≡ section n → Ends s out why x
-  alone : (why ≡ 0 → ⊥) → tellsLine why ≡ false → x ≡ after (refused why) out → Ends s out why x
-  atLine : (line : ℕ) → FaultLine s why line → x ≡ after (refusedAt why line) out → Ends s out why x
+-- a line with none of the five faults
+pub record Right (s : List ℕ) (i : ℕ) : Type 0 where
+  pub known : isUnknown (saidAt s i .how) ≡ false
+  pub new : isGiven s i (labelOf (lineAt s i)) ≡ false
+  pub found : lacks s (textAt s i) ≡ false
+  pub in-place : misplaced s i ≡ false
+  pub near : far s (hereOf s i) (textAt s i) ≡ false

@@ -1,5 +1,4 @@
 -- A source of lines of 32 bytes: origins, the values of labels, and why it is refused.
--- Assumes nothing.
 use mathlib.Core.Bool.{Bool, true, false, cond, not, _&&_, _||_}
 use mathlib.Core.Path.{_≡_}
 use mathlib.Core.List.{List}

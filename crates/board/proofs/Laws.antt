@@ -4,6 +4,7 @@ pub mod Bounded
 pub mod Ended
 pub mod Follows
 pub mod Undo
+pub mod Exec
 use Prim.Native.Nat.{ℕ, _+_, _*_, _/_, _%_, _<_}
 use native.Mathlib.Omega.{arith}
 use native.Mathlib.Decide.{ℕ-discrete, decLt}
@@ -13,10 +14,10 @@ use mathlib.Core.Path.{_≡_, refl, sym, ap, _∙_, subst}
 use lib.ListN.{getD, set, length, length-set}
 use lib.Seq.{getD-set-same, getD-set-other, set-out}
 use borrow.Author.Tests.{ltb-true}
-use Rattle.board.specs.Work.{Work, give, readAt, writeAt, Size, word, byte, fitted, writable, even, wordAt, withWord, withByte, get, put}
+use Rattle.board.specs.Work.{Work, give, readAt, writeAt, Size, word, byte, fitted, writable, even, wordAt, withWord, withByte, get, put, _>>=_}
 use Rattle.board.specs.Work as Work
-use Rattle.board.specs.Bind.{_>>=_}
-use Rattle.board.specs.Exec.{and, Store, Now, good, gone, stateOf, count, room, note, noted, allowed, exec, Board, Got, Did, wordAs, byteAs, keptAs}
+use Rattle.board.specs.Exec.{and, Store, Now, good, gone, count, room, note, noted, allowed, exec, Board, Got, Did, wordAs, byteAs, keptAs}
+use Rattle.board.proofs.Laws.Exec.{stateOf}
 use Rattle.board.specs.declared.Word.{Word}
 use Rattle.board.specs.declared.Word.the-variants.{Value, Blank}
 use Rattle.board.specs.declared.Byte.{Byte}

@@ -1,11 +1,11 @@
 -- The same work on the lent image with the log of old words beside it: what the code does.
-use Prim.Native.Nat.{ℕ, _+_, _*_, _<_, _≤_}
+use Prim.Native.Nat.{ℕ, _+_, _*_, _<_, _≤_, zero, suc}
 use mathlib.Core.Bool.{Bool, true, false}
 use mathlib.Core.List.{List}
 use mathlib.Core.Path.{_≡_}
 use lib.ListN.{getD, set, length}
 use lib.Dec.{ltb}
-use Rattle.board.specs.Work.{Work, give, readAt, writeAt, Size, fitted, writable, wordAt, get, put}
+use Rattle.board.specs.Work.{Work, give, readAt, writeAt, Size, fitted, writable, wordAt, get, put, withWord}
 use Rattle.board.specs.declared.Word.{Word}
 use Rattle.board.specs.declared.Word.the-variants.{Value, Blank}
 use Rattle.board.specs.declared.Byte.{Byte}
@@ -24,10 +24,6 @@ beside m l = record { image = m; log = l }
 pub data Now (A : Type 0) : Type 0 where
   good : A → Store → Now A
   gone : ℕ → Store → Now A
-
-abbrev pub stateOf : {A : Type 0} → Now A → Store
-stateOf (good x st) = st
-stateOf (gone a st) = st
 
 -- element 0 of the log is the number of its entries, of which there are at most 15; an entry is an address and an old word
 abbrev pub count : List ℕ → ℕ
@@ -91,3 +87,13 @@ byteAs (Byte.Blank a) st = gone a st
 abbrev pub keptAs : Kept → Store → Now (Unit {0})
 keptAs Kept.Done st = good tt st
 keptAs (Kept.Blank a) st = gone a st
+
+-- ---- taking the log back, the newest entry first
+
+-- the last n entries of the log, put back, the newest first
+unfoldable pub back : ℕ → List ℕ → List ℕ → List ℕ
+back zero l m = m
+back (suc n) l m = back n l (withWord m (getD l (n * 2 + 1) 0) (getD l (n * 2 + 2) 0))
+
+unfoldable pub undone : Store → List ℕ
+undone st = back (count (st .log)) (st .log) (st .image)

@@ -4,6 +4,7 @@ use mathlib.Core.Bool.{Bool, true, false, not}
 use mathlib.Core.List.{List}
 use lib.ListN.{getD, set}
 use lib.Dec.{eqb}
+use mathlib.Core.Path.{_≡_}
 
 -- an access is of a word or of a byte
 pub data Size : Type 0 where
@@ -81,3 +82,25 @@ loadByte a = readAt byte a (λ v. give v)
 
 abbrev pub storeByte : ℕ → ℕ → Work (Unit {0})
 storeByte a v = writeAt byte a v (give tt)
+
+-- ---- work after work
+
+infixl 10 _>>=_
+infixl 10 _>>_
+unfoldable pub _>>=_ : {A B : Type 0} → Work A → (A → Work B) → Work B
+give x >>= f = f x
+readAt z a k >>= f = readAt z a (λ v. k v >>= f)
+writeAt z a v w >>= f = writeAt z a v (w >>= f)
+
+abbrev pub _>>_ : {A B : Type 0} → Work A → Work B → Work B
+w >> u = w >>= (λ _. u)
+
+-- ---- two images
+
+-- they agree on fitted bytes
+abbrev pub Agree : List ℕ → List ℕ → List ℕ → Type 0
+Agree map m n = (a : ℕ) → fitted map a ≡ true → getD m a 0 ≡ getD n a 0
+
+-- the byte at every address that can't be written, of an unfitted or a read-only page, is the same in both
+abbrev pub Untouched : List ℕ → List ℕ → List ℕ → Type 0
+Untouched map m n = (a : ℕ) → writable map a ≡ false → getD n a 0 ≡ getD m a 0

@@ -7,8 +7,7 @@ ghost use lib.ListN.{length, getD, set};
 ghost use Rattle.board.specs.Work as Work;
 ghost use Rattle.board.specs.Work.{wordAt, withWord};
 ghost use Rattle.board.specs.Exec as Exec;
-ghost use Rattle.board.specs.Exec.{and, beside, count, Lent, Board, Saw, Did, wordAs, byteAs, keptAs};
-ghost use Rattle.board.specs.Undo.{undone};
+ghost use Rattle.board.specs.Exec.{and, beside, count, Lent, Board, Saw, Did, wordAs, byteAs, keptAs, undone};
 
 // What a read answers: the value, or the address where nothing is fitted.
 pub enum Word {

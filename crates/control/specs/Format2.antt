@@ -4,9 +4,8 @@ use mathlib.Core.List.{List, [], _∷_}
 use lib.ListN.{getD}
 use Rattle.codes.specs.Fields.{onlyRegister}
 use Rattle.word.specs.Status.{flagsOf}
-use Rattle.board.specs.Work.{Work, give, load}
+use Rattle.board.specs.Work.{Work, give, load, _>>=_, _>>_}
 use Rattle.board.specs.Work as Work
-use Rattle.board.specs.Bind.{_>>=_, _>>_}
 use Rattle.state.specs.declared.State.{State}
 use Rattle.state.specs.declared.Outside.{Outside}
 use Rattle.state.specs.State.{reg, withReg, withSp, withPc, withFlags}

@@ -5,7 +5,7 @@ use mathlib.Core.List.{List}
 use mathlib.Core.Path.{_≡_}
 use lib.ListN.{length}
 use lib.Dec.{ltb}
-use Rattle.board.specs.Alike.{Agree}
+use Rattle.board.specs.Work.{Agree}
 use Rattle.state.specs.declared.Settings.{Settings}
 use Rattle.words.specs.Words.{byteAt}
 use Rattle.refusal.specs.Numbers.{noState, noChannel}

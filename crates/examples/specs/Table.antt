@@ -1,6 +1,6 @@
 -- THE STARRED EXAMPLES OF THE PAGE, one table under one proved statement: what the definitions give, beside what the page says.
-use Prim.Native.Nat.{ℕ, _+_, _*_}
-use mathlib.Core.Bool.{Bool, true, false}
+use Prim.Native.Nat.{ℕ, _+_, _*_, _/_, _<_}
+use mathlib.Core.Bool.{Bool, true, false, not, cond}
 use mathlib.Core.List.{List, [], _∷_, _++_, map}
 use lib.ListN.{replicate}
 use Rattle.word.specs.Number.{digit}
@@ -10,9 +10,13 @@ use Rattle.state.specs.declared.State.{State}
 use Rattle.state.specs.declared.Settings.{Settings}
 use Rattle.state.specs.State.{withReg, withPc, withSp, withFlags, withI2, cleared, heard}
 use Rattle.letters.specs.Digits.{letters}
-use Rattle.optext.specs.Line.{taken, textOf}
+use Rattle.optext.specs.Line.{taken, textOf, isReserved}
 use Rattle.step.specs.Step.{After, stepOf}
 use mathlib.Core.Path.{_≡_}
+use lib.Dec.{eqb}
+use Rattle.plate.specs.Plate.{formatOf}
+use Rattle.state.specs.declared.Outside.{Outside}
+use Rattle.step.specs.Xct.{trapsAlone}
 
 -- a row: what is got, and what the page says
 pub record Row : Type 0 where
@@ -93,3 +97,8 @@ table =
 -- EVERY ROW HOLDS
 abbrev pub Starred : Type 0
 Starred = map (λ (r : Row). r .got) table ≡ map (λ (r : Row). r .says) table
+
+-- RESERVED AND ILLEGAL ARE ONE RULE: the op codes whose own trap ends an XCT are those of format 8 where their microm is not fitted, and
+-- those that the text has no name for
+abbrev pub TrapsReserved : Type 0
+TrapsReserved = (out : Outside) (w : ℕ) → w < 65536 → trapsAlone out (formatOf (w / 256)) w ≡ cond (eqb (formatOf (w / 256)) 8) (not (out .settings .blocks)) (isReserved w)

@@ -5,9 +5,8 @@ use mathlib.Core.List.{List, [], _∷_}
 use lib.Bits.{bitOr}
 use lib.Dec.{ltb}
 use lib.ListN.{getD}
-use Rattle.board.specs.Work.{Work, give, load}
+use Rattle.board.specs.Work.{Work, give, load, _>>=_, _>>_}
 use Rattle.board.specs.Work as Work
-use Rattle.board.specs.Bind.{_>>=_, _>>_}
 use Rattle.state.specs.declared.State.{State}
 use Rattle.state.specs.declared.Outside.{Outside}
 use Rattle.state.specs.declared.Mode.the-variants.{Waiting, PowerHalt, SwitchHalt}

@@ -10,8 +10,7 @@ use Rattle.arith.specs.Binary.{binaryOf, byteBinaryOf}
 use Rattle.codes.specs.Codes.{binaryAt, byteBinaryAt}
 use Rattle.codes.specs.Fields.{highDigit, sourceMode, sourceRegister, destinationRegister}
 use Rattle.arith.specs.Ops.{extended}
-use Rattle.board.specs.Work.{Work, give, Size, word, byte}
-use Rattle.board.specs.Bind.{_>>=_, _>>_}
+use Rattle.board.specs.Work.{Work, give, Size, word, byte, _>>=_, _>>_}
 use Rattle.state.specs.declared.State.{State}
 use Rattle.state.specs.State.{withReg, withFlags}
 use Rattle.word.specs.Address.{minus}

@@ -8,8 +8,7 @@ use Rattle.unary.specs.Ops.{iw2Of, sxtOf, adcOf, sbcOf}
 use Rattle.unary.specs.Unary.{unaryOf}
 use Rattle.codes.specs.Codes.{unaryAt}
 use Rattle.codes.specs.Fields.{destinationMode, destinationRegister}
-use Rattle.board.specs.Work.{Work, give, Size, word, byte}
-use Rattle.board.specs.Bind.{_>>=_, _>>_}
+use Rattle.board.specs.Work.{Work, give, Size, word, byte, _>>=_, _>>_}
 use Rattle.state.specs.declared.State.{State}
 use Rattle.state.specs.declared.Outside.{Outside}
 use Rattle.state.specs.State.{withFlags, withStatus, psOf}

@@ -4,8 +4,7 @@ use mathlib.Core.Bool.{Bool, true, false, cond}
 use mathlib.Core.List.{List, [], _∷_}
 use lib.Dec.{eqb}
 use lib.ListN.{getD}
-use Rattle.board.specs.Work.{Work, give, readAt, write, Size, word, byte}
-use Rattle.board.specs.Bind.{_>>=_, _>>_}
+use Rattle.board.specs.Work.{Work, give, readAt, write, Size, word, byte, _>>=_, _>>_}
 use Rattle.board.specs.declared.Word.{Word}
 use Rattle.board.specs.declared.Word.the-variants as Word
 use Rattle.board.specs.declared.Byte.{Byte}

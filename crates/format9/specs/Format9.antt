@@ -8,8 +8,7 @@ use lib.ListN.{getD}
 use Rattle.codes.specs.Fields.{destinationMode, destinationRegister, register, format9Code, offset}
 use Rattle.shift.specs.Shifted.{ashOf, ashcOf, preset}
 use Rattle.arith.specs.Wide.{mulOf, divOf}
-use Rattle.board.specs.Work.{Work, give, word, byte}
-use Rattle.board.specs.Bind.{_>>=_, _>>_}
+use Rattle.board.specs.Work.{Work, give, word, byte, _>>=_, _>>_}
 use Rattle.state.specs.declared.State.{State}
 use Rattle.state.specs.declared.Outside.{Outside}
 use Rattle.state.specs.State.{reg, withReg, withPc, withFlags, next}

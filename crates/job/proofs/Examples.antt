@@ -1,5 +1,4 @@
 -- Small jobs and the refusal that the definition gives each, computed.
--- Assumes nothing.
 use mathlib.Core.Path.{_≡_, refl}
 use mathlib.Core.List.{List, [], _∷_, _++_}
 use Prim.Native.Nat.{ℕ}

@@ -1,5 +1,4 @@
 -- Laws of the job's definitions, in the order in which the proofs use them.
--- Assumes nothing.
 pub mod Sound
 use Prim.Native.Nat.{ℕ, zero, suc, _+_, _-_, _*_, _<_, _≤_}
 use mathlib.Core.Bool.{true, false, cond}

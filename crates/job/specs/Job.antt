@@ -1,5 +1,4 @@
 -- A job: three sections, each after its count, and perhaps a fourth. What is refused, and what an accepted job leaves in the lent buffers.
--- Assumes nothing.
 use Prim.Native.Nat.{ℕ, zero, suc, _+_, _*_, _/_, _%_}
 use mathlib.Core.Bool.{Bool, false, cond}
 use mathlib.Core.List.{List, [], _∷_}

@@ -10,7 +10,7 @@ use Prim.Native.Nat.{ℕ}
 use mathlib.Core.Bool.{true, false}
 use mathlib.Core.List.{List, [], _∷_, _++_}
 use mathlib.Core.Path.{_≡_}
-use lib.ListN.{replicate, set, length}
+use lib.ListN.{getD, replicate, set, length}
 use Rattle.board.specs.Work.{withWord}
 use Rattle.state.specs.declared.State.{State}
 use Rattle.state.specs.declared.Settings.{Settings}
@@ -23,7 +23,6 @@ use Rattle.machine.specs.declared.Finished.the-variants as Finished
 use Rattle.machine.specs.Run.{End, end, runOf}
 use Rattle.machine.specs.Trail.{trailOf}
 use Rattle.machine.specs.Entry.{powerWhy, left, finishedPage, runPage, steppedPage, stepPage}
-use Rattle.laws.specs.More.{Plugged}
 use Rattle.step.specs.declared.Turn.{Turn}
 use Rattle.step.specs.Step.{isBlank}
 use Rattle.words.specs.Words.{byteAt}
@@ -32,6 +31,12 @@ use Rattle.machine.specs.declared.Stepped.{Stepped}
 use Rattle.machine.specs.declared.Stepped.the-variants as Stepped
 use Rattle.firmware.specs.Layout.{settingsFrom}
 use Rattle.firmware.specs.Calls.{went, stepCall, ended, runCall}
+
+-- ---- FURTHER CARDS
+
+-- pages that were fitted keep their byte of the map; an unfitted page may get any
+abbrev pub Plugged : List ℕ → List ℕ → Type 0
+Plugged map big = (p : ℕ) → (getD map p 0 ≡ 0 → ⊥) → getD big p 0 ≡ getD map p 0
 
 -- ---- A RUN
 

@@ -11,11 +11,10 @@ use Rattle.words.specs.Words.{wordAt}
 use Rattle.machine.specs.declared.Ran.{Ran}
 use Rattle.machine.specs.declared.Finished.{Finished}
 use Rattle.machine.specs.declared.Finished.the-variants as Finished
-use Rattle.machine.specs.Run.{noBlanks}
+use Rattle.machine.specs.Run.{noBlanks, End, end, runOf}
 use Rattle.machine.specs.Trail.{moved}
-use Rattle.machine.specs.Counted.{orFirst}
-use Rattle.laws.specs.Calls.{firstPlace, firstTold}
-use mathlib.Core.Bool.{true, false}
+use Rattle.machine.specs.Counted.{orFirst, joined}
+use mathlib.Core.Bool.{true, false, cond}
 use lib.ListN.{length}
 use Rattle.state.specs.declared.Settings.{Settings}
 use Rattle.refusal.specs.Refusal.{allOf, plain}
@@ -24,6 +23,30 @@ use Rattle.machine.specs.Entry.{powerWhy, left, steppedPage, finishedPage, step
 use Rattle.firmware.specs.Layout.{settingsFrom, refusedStep}
 use Rattle.firmware.specs.Calls.{went, stepCall, ended, runCall}
 use Rattle.laws.specs.One.{asRun, OneCall}
+use Rattle.machine.specs.declared.Tally.{Tally}
+use lib.Dec.{eqb}
+
+-- ---- a run that goes on
+
+-- an end, with the tally of n steps before it
+abbrev pub behind : ℕ → Tally → End → End
+behind n t (end s m u) = end s m (joined n t u)
+
+-- after n steps that ended so, the run over the lines that follow
+abbrev pub goOn : Settings → List ℕ → ℕ → List ℕ → End → End
+goOn settings map n lines (end s m t) = behind n t (runOf settings map lines s m)
+
+-- ---- the first blank of two calls for C, by the words of their tallies
+
+-- FFFF where there is none; else the first's place, or the second's moved on by n
+abbrev pub firstPlace : ℕ → ℕ → ℕ → ℕ
+firstPlace n p q = cond (eqb p 65535) (cond (eqb q 65535) 65535 (n + q)) p
+
+-- its address, 0 where there is none
+abbrev pub firstTold : ℕ → ℕ → ℕ → ℕ
+firstTold p a b = cond (eqb p 65535) b a
+
+-- ---- two runs and the whole
 
 -- the whole run, beside its halves: n is the length of the first list
 pub record Halves (n : ℕ) (first second whole : Ran) : Type 0 where

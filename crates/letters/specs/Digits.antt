@@ -1,5 +1,4 @@
 -- Letters and hex digits, as the writers of text write them.
--- Assumes nothing.
 use mathlib.Core.List.{List, [], _∷_}
 use Prim.Native.Nat.{ℕ, _/_, _%_}
 use Prim.Native.Char.{code}

@@ -1,5 +1,4 @@
 -- What a writer leaves in a lent buffer: the text in front, and every entry after it as it was.
--- Assumes nothing.
 use mathlib.Core.Bool.{cond}
 use mathlib.Core.Path.{_≡_}
 use mathlib.Core.List.{List, _++_}

@@ -1,5 +1,4 @@
 -- Laws of the line's lengths.
--- Assumes nothing.
 pub mod Lengths
 use mathlib.Core.Path.{_≡_, refl, ap, _∙_}
 use mathlib.Core.Bool.{Bool, true, false, cond}

@@ -1,5 +1,4 @@
 -- The line that bench prints: R0-R5, SP, PC, PS, mode digit, blanks, the first one's place and address, or ---- ----. Or REFUSED and a number in decimal.
--- Assumes nothing.
 use mathlib.Core.Bool.{cond}
 use mathlib.Core.List.{List, [], _∷_, _++_}
 use Prim.Native.Nat.{ℕ, zero, suc, _+_, _/_, _%_}

@@ -1,4 +1,4 @@
--- What the law of the block moves asks for can be met: MBWU R1,R2 at 0100 with R0 2, R1 0200, R2 0300. Assumes nothing.
+-- What the law of the block moves asks for can be met: MBWU R1,R2 at 0100 with R0 2, R1 0200, R2 0300.
 use Prim.Native.Nat.{ℕ, zero, suc, _/_, _<_}
 use native.Mathlib.Omega.{arith}
 use mathlib.Core.Bool.{true}

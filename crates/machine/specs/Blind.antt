@@ -2,8 +2,7 @@
 use Prim.Native.Nat.{ℕ}
 use mathlib.Core.List.{List}
 use mathlib.Core.Path.{_≡_}
-use Rattle.board.specs.Alike.{Agree}
-use Rattle.step.specs.Alike.{Untouched}
+use Rattle.board.specs.Work.{Agree, Untouched}
 
 -- ---- two calls
 

@@ -1,4 +1,4 @@
--- THE END IS THE PAGE'S: the steps of a whole block move end where the manual's page says. Assumes nothing.
+-- THE END IS THE PAGE'S: the steps of a whole block move end where the manual's page says.
 use Prim.Native.Nat.{ℕ}
 use mathlib.Core.Bool.{Bool}
 use mathlib.Core.List.{List, [], _∷_}

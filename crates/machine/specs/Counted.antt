@@ -1,12 +1,9 @@
 -- A run's end is its trail's, its count of blanks the number of blanks on the trail, its first place the least of theirs, with the address told there.
 use Prim.Native.Nat.{ℕ, _+_}
-use mathlib.Core.List.{List}
-use Rattle.step.specs.Step.{After}
 use Rattle.machine.specs.declared.Tally.{Tally}
 use Rattle.machine.specs.declared.First.{First}
 use Rattle.machine.specs.declared.First.the-variants.{At, Never}
-use Rattle.machine.specs.Run.{End, end}
-use Rattle.machine.specs.Trail.{lastOf, moved, tallyIn}
+use Rattle.machine.specs.Trail.{moved}
 
 -- ---- tallies add up
 
@@ -18,9 +15,3 @@ orFirst Never other = other
 -- The tally of steps that follow n steps: counts add up; the first blank is the first's, or else the second's moved on by n.
 unfoldable pub joined : ℕ → Tally → Tally → Tally
 joined n t u = record { blanks = t .blanks + u .blanks; first = orFirst (t .first) (moved n (u .first)) }
-
--- ---- A RUN'S END AND TALLY ARE ITS TRAIL'S
-
--- where a trail from b ends, with the tally of n steps before it
-abbrev pub endOf : After → ℕ → Tally → List After → End
-endOf b n t rs = end (lastOf b rs .state) (lastOf b rs .image) (joined n t (tallyIn rs))

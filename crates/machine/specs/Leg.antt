@@ -5,8 +5,7 @@ use mathlib.Core.List.{List}
 use mathlib.Core.Path.{_≡_}
 use lib.ListN.{length, drop, getD}
 use Rattle.board.specs.Work.{blank, run}
-use Rattle.board.specs.Exec.{Store, Board}
-use Rattle.board.specs.Undo.{undone}
+use Rattle.board.specs.Exec.{Store, Board, undone}
 use Rattle.state.specs.declared.State.{State}
 use Rattle.state.specs.declared.Settings.{Settings}
 use Rattle.state.specs.declared.Went.{Went}

@@ -1,8 +1,7 @@
 -- A decoded operand and its value, for the op codes that read one.
 use Prim.Native.Nat.{ℕ}
 use Rattle.codes.specs.Fields.{destinationMode, destinationRegister}
-use Rattle.board.specs.Work.{Work, give, Size}
-use Rattle.board.specs.Bind.{_>>=_, _>>_}
+use Rattle.board.specs.Work.{Work, give, Size, _>>=_, _>>_}
 use Rattle.board.specs.Exec.{Store, Now, good, gone}
 use Rattle.state.specs.declared.State.{State}
 use Rattle.state.specs.declared.Went.{Went}

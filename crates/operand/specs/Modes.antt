@@ -2,12 +2,11 @@
 use Prim.Native.Nat.{ℕ, _/_, _%_}
 use mathlib.Core.Bool.{Bool, true, false, _&&_, not, cond}
 use lib.Dec.{eqb, ltb}
-use Rattle.board.specs.Work.{Work, give, load}
-use Rattle.board.specs.Bind.{_>>=_}
+use Rattle.board.specs.Work.{Work, give}
 use Rattle.word.specs.Address.{plus, minus}
 use Rattle.operand.specs.declared.Place.{Place}
 use Rattle.operand.specs.declared.Place.the-variants.{Mem}
-use Rattle.operand.specs.Operand.{baseOf, deferred}
+use Rattle.operand.specs.Operand.{deferred}
 
 -- modes 1 to 5 in one: the register points to the operand, or in modes 3 and 5 to its address
 abbrev pub defers : ℕ → Bool
@@ -29,9 +28,3 @@ through false at k next = give (Mem at k next)
 unfoldable pub pointed : ℕ → ℕ → ℕ → ℕ → Work Place
 pointed step k r mode =
     through (defers mode) (pointer r (stride step mode) mode) k (beyond (pointer r (stride step mode) mode) (stride step mode) mode)
-
--- modes 6 and 7 in one: the sum with the next word is the operand's address, or the address of its address
-unfoldable pub offset : ℕ → ℕ → ℕ → ℕ → Work Place
-offset k r pc mode = do
-  x ← load pc
-  through (ltb 6 mode) (plus (baseOf k r pc) x) 7 (plus pc 2)

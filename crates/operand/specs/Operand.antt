@@ -5,9 +5,8 @@ use mathlib.Core.Bool.{cond}
 use lib.Dec.{eqb, ltb}
 use lib.ListN.{getD}
 use Rattle.arith.specs.Ops.{withLow}
-use Rattle.board.specs.Work.{Work, give, readAt, load, Size, word, byte}
+use Rattle.board.specs.Work.{Work, give, readAt, load, Size, word, byte, _>>=_, _>>_}
 use Rattle.board.specs.Work as Work
-use Rattle.board.specs.Bind.{_>>=_, _>>_}
 use Rattle.board.specs.Exec.{Store, Now, good, gone}
 use Rattle.state.specs.declared.State.{State}
 use Rattle.state.specs.declared.Went.{Went}

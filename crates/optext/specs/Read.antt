@@ -1,5 +1,4 @@
 -- The reader as a function: the words of the op code whose text a text is, or none.
--- Assumes nothing.
 use mathlib.Core.Bool.{Bool, true, false, cond}
 use mathlib.Core.List.{List, [], _∷_}
 use Prim.Native.Nat.{ℕ}

@@ -1,5 +1,4 @@
 -- The table of op codes: a row for each, with its mnemonic, its base op code and its operands, in the order of the manual's chapter 3.
--- Assumes nothing.
 use mathlib.Core.Bool.{cond}
 use mathlib.Core.List.{List, [], _∷_, _++_}
 use Prim.Native.Nat.{ℕ, _-_}

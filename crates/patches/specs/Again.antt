@@ -1,5 +1,4 @@
 -- A LINE THAT 01'S READER TAKES GIVES EXACTLY THAT READER'S WORDS, whatever the other lines are; so the texts of a listing give back the words that they list.
--- Assumes nothing.
 use mathlib.Core.List.{List, _++_, [], _∷_}
 use Prim.Native.Nat.{ℕ, suc, _<_}
 use Rattle.letters.specs.Digits.{letters, hex4}

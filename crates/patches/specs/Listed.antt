@@ -1,6 +1,5 @@
 -- A LISTING, ASSEMBLED AGAIN, GIVES THE IMAGE'S WORDS BACK: the texts of its lines, each after .ORG with its address, are a source whose section has the
 -- fitted words of the stretch, no other and no fewer.
--- Assumes nothing.
 use mathlib.Core.Bool.{cond}
 use mathlib.Core.List.{List, [], _∷_, _++_}
 use Prim.Native.Nat.{ℕ, zero, suc, _+_, _%_, _≤_, _<_}

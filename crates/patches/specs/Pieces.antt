@@ -1,5 +1,4 @@
 -- A SOURCE OF PIECES, .ORG and a text each, at rising addresses: it is assembled, and its section has exactly the pieces' words.
--- Assumes nothing.
 use mathlib.Core.Path.{_≡_}
 use mathlib.Core.List.{List, [], _∷_, _++_}
 use Prim.Native.Nat.{ℕ, _+_, _*_, _%_, _≤_}

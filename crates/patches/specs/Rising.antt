@@ -1,5 +1,4 @@
 -- THE ADDRESSES OF A SECTION RISE AND ARE EVEN, whatever the order of the .ORGs, where no line is out of place.
--- Assumes nothing.
 use mathlib.Core.Path.{_≡_}
 use mathlib.Core.List.{List, [], _∷_}
 use Prim.Native.Nat.{ℕ, _+_, _/_, _%_, _≤_, _<_}

@@ -1,5 +1,4 @@
 -- THE JOB READER TAKES A SECTION that the assembler made: as a job's words it is not refused by 14, 15 or 16, and the reader goes on after its last byte.
--- Assumes nothing.
 use mathlib.Core.Path.{_≡_}
 use mathlib.Core.Logic.{_⊎_}
 use Prim.Native.Nat.{ℕ, _+_}

@@ -1,5 +1,4 @@
 -- Laws of one line: parts of a text, labels, aliases, texts with digits for their labels, and what a line says.
--- Assumes nothing.
 pub mod Joined
 pub mod Search
 use mathlib.Core.Path.{_≡_, refl, ap, sym, _∙_}

@@ -1,6 +1,5 @@
 -- A text over 33 characters is no op code's, whatever digits stand for its labels: an op code's text has 24 at most, a name gives
 -- way to two digits or more, and an alias to a name that is one shorter at most.
--- Assumes nothing.
 use mathlib.Core.Path.{_≡_, refl, ap}
 use mathlib.Core.Bool.{Bool, true, false, cond}
 use mathlib.Core.List.{List, [], _++_}

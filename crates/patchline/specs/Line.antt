@@ -1,5 +1,4 @@
 -- What the rest of a line says. A label in it stands for digits: the text with zeros in its place is read by 01's reader, and what the label comes to is put in later.
--- Assumes nothing.
 use mathlib.Core.Bool.{Bool, true, false, cond, _&&_, _||_}
 use mathlib.Core.List.{List, [], _∷_, _++_}
 use Prim.Native.Nat.{ℕ, _+_, _/_, _%_}

@@ -21,7 +21,7 @@ use Rattle.job.specs.Job.{after, linesAt, imageOf, mapOf, linesOf, lineWords, w
 use Rattle.letters.specs.Over.{Left, written}
 use Rattle.line.specs.Line.{refusedText}
 use Rattle.report.specs.Report.{benchBoard, endText}
-use Rattle.runjob.specs.Taken.{Read}
+use Rattle.runjob.proofs.Laws.Taken.{Read}
 use Rattle.runjob.specs.Bench.{told, lineAt, imageAt, fromPowerUp, runIn, benchOf}
 
 -- ---- a run that is not refused, on bench's board

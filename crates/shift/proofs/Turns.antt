@@ -1,4 +1,4 @@
--- One turn more, and the bit that N is on a byte. Assumes nothing.
+-- One turn more, and the bit that N is on a byte.
 use Prim.Native.Nat.{ℕ, _+_}
 use mathlib.Core.Path.{_≡_, refl}
 use native.Mathlib.Numerals.{add-one}

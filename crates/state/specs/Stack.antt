@@ -1,9 +1,8 @@
 -- The moves that op codes are made of, in the manual's words: push, pop, fetch, and the common trap.
 use Prim.Native.Nat.{ℕ}
 use mathlib.Core.Bool.{false}
-use Rattle.board.specs.Work.{Work, give, load}
+use Rattle.board.specs.Work.{Work, give, load, _>>=_, _>>_}
 use Rattle.board.specs.Work as Work
-use Rattle.board.specs.Bind.{_>>=_, _>>_}
 use Rattle.state.specs.declared.State.{State}
 use Rattle.state.specs.declared.Outside.{Outside}
 use Rattle.state.specs.declared.Mode.the-variants.{Running}

@@ -1,5 +1,5 @@
 -- A block move's steps, where its microm is fitted, nothing is heard, no element meets a blank, nothing is written over the op code, and
--- neither register is R0 or PC. Assumes nothing.
+-- neither register is R0 or PC.
 use Prim.Native.Nat.{ℕ, _/_, _<_}
 use mathlib.Core.Bool.{Bool, true}
 use mathlib.Core.List.{List}

@@ -1,9 +1,8 @@
 -- The nine places: R0 to R5, SP, PC and PS as words at 0 to 10 (hex). A halt option saves them, its end and a power-up option pick them up.
 use Prim.Native.Nat.{ℕ}
 use mathlib.Core.Bool.{false}
-use Rattle.board.specs.Work.{Work, give, load}
+use Rattle.board.specs.Work.{Work, give, load, _>>=_, _>>_}
 use Rattle.board.specs.Work as Work
-use Rattle.board.specs.Bind.{_>>=_, _>>_}
 use Rattle.board.specs.declared.Word.{Word}
 use Rattle.board.specs.declared.Word.the-variants as Word
 use Rattle.state.specs.declared.State.{State}

@@ -1,4 +1,4 @@
--- A RESTORE AFTER A SAVE, with nothing changed between, gives back registers, PC, indicators and I2; the mode is running, whatever it was. Assumes nothing.
+-- A RESTORE AFTER A SAVE, with nothing changed between, gives back registers, PC, indicators and I2; the mode is running, whatever it was.
 use Prim.Native.Nat.{ℕ, zero, suc, _<_, _≤_}
 use mathlib.Core.Bool.{false}
 use mathlib.Core.List.{List}

@@ -4,10 +4,8 @@ use mathlib.Core.Bool.{Bool, true, false, not, _&&_, cond}
 use mathlib.Core.List.{List, [], _∷_}
 use mathlib.Core.Path.{_≡_}
 use lib.ListN.{getD}
-use Rattle.board.specs.Work.{Work, give, Came, value, blank, run}
-use Rattle.board.specs.Bind.{_>>=_, _>>_}
-use Rattle.board.specs.Exec.{Store, Lent, Board}
-use Rattle.board.specs.Undo.{undone}
+use Rattle.board.specs.Work.{Work, give, Came, value, blank, run, _>>=_, _>>_}
+use Rattle.board.specs.Exec.{Store, Lent, Board, undone}
 use Rattle.state.specs.declared.State.{State}
 use Rattle.state.specs.declared.Outside.{Outside}
 use Rattle.state.specs.declared.Settings.{Settings}

@@ -1,9 +1,9 @@
 -- Which address a step tells: that of the first access, in the manual's order, that finds nothing fitted; in the work that is dropped, never in the trap.
-use Prim.Native.Nat.{ℕ}
+use Prim.Native.Nat.{ℕ, _/_}
 use mathlib.Core.Bool.{Bool, true, false, cond}
 use mathlib.Core.List.{List, [], _∷_}
 use mathlib.Core.Path.{_≡_}
-use Rattle.board.specs.Work.{Work, give, readAt, writeAt, fitted, writable, get, put}
+use Rattle.board.specs.Work.{Work, give, readAt, writeAt, fitted, writable, get, put, Size}
 
 -- ---- the accesses of work, in order
 
@@ -31,3 +31,10 @@ accesses map (writeAt z a v w) m = writes a ∷ cond (writable map a) (accesses 
 pub data StopsAt (map : List ℕ) (a : ℕ) : List Access → Type 0 where
   here : {x : Access} → reached x ≡ a → answered map x ≡ false → StopsAt map a (x ∷ [])
   later : {x : Access} {xs : List Access} → answered map x ≡ true → StopsAt map a xs → StopsAt map a (x ∷ xs)
+
+-- ---- page 0, where 12 and 16 lie
+
+-- work that reads page 0 and nothing else
+pub data Low {A : Type 0} : Work A → Type 0 where
+  gives : (x : A) → Low (give x)
+  reads : (z : Size) (a : ℕ) {k : ℕ → Work A} → a / 256 ≡ 0 → ((v : ℕ) → Low (k v)) → Low (readAt z a k)

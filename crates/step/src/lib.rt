@@ -10,9 +10,8 @@ use word::address::plus;
 use xct::op_work;
 ghost use mathlib.Core.Bool.{cond, false};
 ghost use mathlib.Core.Path.{_≡_};
-ghost use Rattle.board.specs.Exec.{beside, Lent, Board, Saw};
+ghost use Rattle.board.specs.Exec.{beside, Lent, Board, Saw, undone};
 ghost use Rattle.state.specs.Answer.{Works, wentAs};
-ghost use Rattle.board.specs.Undo.{undone};
 ghost use Rattle.plate.specs.Plate.{table};
 ghost use Rattle.step.specs.Step as Spec;
 

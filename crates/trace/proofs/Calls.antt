@@ -19,7 +19,7 @@ use Rattle.job.specs.declared.Answer.the-variants as Answer
 use Rattle.job.specs.Job.{after, linesAt, mapOf, linesOf, lineWords, whyRead, pageOf, jobOf}
 use Rattle.job.proofs.Laws.Sound.{lines-length}
 use Rattle.report.specs.Report.{benchBoard}
-use Rattle.runjob.specs.Taken.{Read}
+use Rattle.runjob.proofs.Laws.Taken.{Read}
 use Rattle.runjob.proofs.Laws.Taken.{read-taken}
 use Rattle.trace.specs.declared.Verdict.{Verdict}
 use Rattle.trace.specs.Trace.{entriesOf, upOf, stepsOf, rightTrace, imageAfter, joined, traceBytes, toldIn, whyTrace, compared, left, checkOf, longest, put, makeOf}

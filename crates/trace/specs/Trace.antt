@@ -1,5 +1,4 @@
 -- The trace of a job: after each step from power-up, the bench line's fields from R0 to the mode. What is right, and what another shop's trace is found to be.
--- Assumes nothing.
 use Prim.Native.Nat.{ℕ, zero, suc, _+_, _*_, _%_}
 use mathlib.Core.Bool.{false, cond}
 use mathlib.Core.List.{List, [], _∷_, _++_}

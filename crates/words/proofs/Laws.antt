@@ -1,5 +1,4 @@
 -- Laws of lent bytes and of a word's two bytes.
--- Assumes nothing.
 use Prim.Native.Nat.{ℕ, _+_, _*_, _/_, _%_, _<_}
 use mathlib.Core.List.{List, _++_, append-nil}
 use mathlib.Core.Path.{_≡_, _∙_}

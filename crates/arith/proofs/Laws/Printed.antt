@@ -1,4 +1,4 @@
--- The manual's fifteen lines of format 5, and the theorem that the seven conditions and the reversal are these. Assumes nothing.
+-- The manual's fifteen lines of format 5, and the theorem that the seven conditions and the reversal are these.
 use mathlib.Core.Bool.{Bool, true, false, not, _||_}
 use mathlib.Core.List.{List, [], _∷_, map}
 use mathlib.Core.Path.{_≡_, refl}

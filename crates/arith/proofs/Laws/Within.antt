@@ -1,4 +1,4 @@
--- A byte's result is a byte. Assumes nothing.
+-- A byte's result is a byte.
 use Prim.Native.Nat.{ℕ, _<_}
 use native.Mathlib.Omega.{arith}
 use lib.Bits.{or-lt}

@@ -1,4 +1,4 @@
--- Laws of specs/Ends.antt.
+-- How an assembly ends: refused under the number of the first refusal that applies, with its line, or with the section.
 use Prim.Native.Nat.{ℕ, _%_}
 use mathlib.Core.Bool.{Bool, true, false, cond}
 use mathlib.Core.List.{List, [], _∷_}
@@ -11,8 +11,14 @@ use Rattle.refusal.specs.Page.{first}
 use Rattle.assembler.specs.declared.source.Fault.{Fault}
 use Rattle.assembler.specs.declared.source.Fault.the-variants.{Text, Given, Missing, Place, Far}
 use Rattle.assembler.specs.Source.{countOf, lowest}
-use Rattle.assembler.specs.Answer.{faults, numberOf, longestSection, refused, refusedAt, after, assembled, checked, asmOf}
-use Rattle.assembler.specs.Ends.{faultWhy, assembleWhy, tellsLine, FaultLine, Ends, done, alone, atLine}
+use Rattle.assembler.specs.Answer.{faults, numberOf, longestSection, refused, refusedAt, after, assembled, checked, asmOf, section, After}
+use Rattle.assembler.specs.Ends.{faultWhy, assembleWhy, tellsLine, FaultLine}
+
+-- under the number `why`: done; refused alone; refused with a line. A refusal leaves the output as lent
+pub data Ends (s out : List ℕ) (why : ℕ) (x : After) : Type 0 where
+  done : why ≡ 0 → (n : ℕ) → x .page ≡ section n → Ends s out why x
+  alone : (why ≡ 0 → ⊥) → tellsLine why ≡ false → x ≡ after (refused why) out → Ends s out why x
+  atLine : (line : ℕ) → FaultLine s why line → x ≡ after (refusedAt why line) out → Ends s out why x
 
 checked-ends : (fs : List Fault) (s out : List ℕ) → Ends s out (faultWhy fs s) (checked fs s out)
 unfolding faultWhy checked

@@ -1,4 +1,4 @@
--- Laws of specs/Good.antt.
+-- What an answer that is no refusal tells of the source; and a source in which no line is wrong is assembled.
 use mathlib.Core.Path.{_≡_, refl, ap, sym, _∙_}
 use mathlib.Core.Bool.{Bool, true, false, cond}
 use mathlib.Core.List.{List, [], _∷_}
@@ -16,7 +16,7 @@ use Rattle.assembler.specs.Source.{countOf, misplaced, fails, lowest}
 use Rattle.assembler.specs.Answer.{section, refused, refusedAt, faults, After, after, assembled, checked, asmOf}
 use Rattle.assembler.specs.declared.source.Fault.{Fault}
 use Rattle.assembler.specs.declared.source.Fault.the-variants.{Text, Given, Missing, Place, Far}
-use Rattle.assembler.specs.Good.{Right}
+use Rattle.assembler.specs.Ends.{Right}
 
 apart : (why n : ℕ) → refused why ≡ section n → ⊥
 apart why n e = let z : _≡_ {A = ℕ} 0 1 = cc in omega arith

@@ -1,4 +1,4 @@
--- Laws of specs/Section.antt.
+-- The entries of a source, in the order of their addresses, as the code inserts them.
 use mathlib.Core.List.{List, [], _∷_}
 use Prim.Native.Nat.{ℕ, _*_}
 use mathlib.Core.Path.{_≡_, refl}

@@ -1,4 +1,4 @@
--- Laws of specs/Alike.antt.
+-- Two memories that agree on fitted bytes: the same work comes to the same.
 use Prim.Native.Nat.{ℕ, zero, suc, _+_, _/_, _%_, _<_}
 use native.Mathlib.Omega.{arith}
 use native.Mathlib.Decide.{ℕ-discrete, decLt}
@@ -9,9 +9,13 @@ use lib.ListN.{getD, set, length, length-set}
 use lib.Seq.{getD-set-same, getD-set-other, set-out}
 use lib.Dec.{eqb}
 use borrow.Author.Tests.{ne-eqb}
-use Rattle.board.specs.Work.{Work, give, readAt, writeAt, Size, word, byte, Came, value, fitted, writable, even, wordAt, withWord, withByte, get, put, found, run}
+use Rattle.board.specs.Work.{Work, give, readAt, writeAt, Size, word, byte, Came, value, fitted, writable, even, wordAt, withWord, withByte, get, put, found, run, blank, Agree}
 use Rattle.board.proofs.Laws.{size-put}
-use Rattle.board.specs.Alike.{Agree, Alike, both, neither}
+
+-- both blank at the same address, or the same value over images that agree
+pub data Alike {A : Type 0} (map : List ℕ) : Came A → Came A → Type 0 where
+  both : {x : A} {m n : List ℕ} → length m ≡ length n → Agree map m n → Alike map (value x m) (value x n)
+  neither : {a : ℕ} → Alike map (blank a) (blank a)
 
 even-page : (a : ℕ) → even a / 256 ≡ a / 256
 unfolding even

@@ -1,16 +1,24 @@
--- Laws of specs/Bounded.antt.
-use Prim.Native.Nat.{ℕ, zero, suc, _+_, _<_, _≤_}
+-- Work that writes at most n times, with room for n entries in the log, comes to what it comes to on the image alone.
+use Prim.Native.Nat.{ℕ, zero, suc, _+_, _<_, _≤_, _-_}
 use native.Mathlib.Omega.{arith}
 use mathlib.Core.Bool.{Bool, true, false}
 use mathlib.Core.List.{List, [], _∷_}
 use mathlib.Core.Path.{_≡_, refl}
 use lib.ListN.{getD}
 use borrow.Author.Tests.{lt-ltb}
-use Rattle.board.specs.Work.{Work, give, readAt, writeAt, Size, fitted, writable, get, wordAt, Came, found, run}
-use Rattle.board.specs.Bind.{_>>=_}
-use Rattle.board.specs.Exec.{Store, Now, count, room, noted, allowed, exec, Board}
+use Rattle.board.specs.Work.{Work, give, readAt, writeAt, Size, fitted, writable, get, wordAt, Came, found, run, value, blank, _>>=_}
+use Rattle.board.specs.Exec.{Store, Now, count, room, noted, allowed, exec, Board, good, gone}
 use Rattle.board.proofs.Laws.{board-noted, count-note}
-use Rattle.board.specs.Bounded.{Bounded, gives, reads, writes, shown}
+
+pub data Bounded {A : Type 0} : ℕ → Work A → Type 0 where
+  gives : {n : ℕ} (x : A) → Bounded n (give x)
+  reads : {n : ℕ} (z : Size) (a : ℕ) {k : ℕ → Work A} → ((v : ℕ) → Bounded n (k v)) → Bounded n (readAt z a k)
+  writes : {n : ℕ} (z : Size) (a v : ℕ) {w : Work A} → 0 < n → Bounded (n - 1) w → Bounded n (writeAt z a v w)
+
+-- what shows of a store: the image
+abbrev pub shown : {A : Type 0} → Now A → Came A
+shown (good x st) = value x (st .image)
+shown (gone a st) = blank a
 
 more : {A : Type 0} {n k : ℕ} {w : Work A} → n ≤ k → Bounded n w → Bounded k w
 more l (gives x) = gives x

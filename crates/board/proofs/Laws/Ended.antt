@@ -4,10 +4,10 @@ use native.Mathlib.Omega.{arith}
 use mathlib.Core.List.{List}
 use mathlib.Core.Path.{_≡_, sym, ap, _∙_}
 use Rattle.board.specs.Work.{Work, value, blank, run}
-use Rattle.board.specs.Exec.{Store, Now, good, gone, stateOf, count, exec, Board, Got}
-use Rattle.board.specs.Undo.{undone}
+use Rattle.board.specs.Exec.{Store, Now, good, gone, count, exec, Board, Got, undone}
+use Rattle.board.proofs.Laws.Exec.{stateOf}
 use Rattle.board.proofs.Laws.Undo.{undo, undone-none}
-use Rattle.board.specs.Bounded.{Bounded, shown}
+use Rattle.board.proofs.Laws.Bounded.{Bounded, shown}
 use Rattle.board.proofs.Laws.Bounded.{exec-is-run}
 
 pub record Fresh (map : List ℕ) (st : Store) : Type 0 where

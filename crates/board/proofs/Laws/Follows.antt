@@ -1,4 +1,4 @@
--- What work comes to when other work follows it, and what a write leaves of a word that it does not reach. Assumes nothing.
+-- What work comes to when other work follows it, and what a write leaves of a word that it does not reach.
 use Prim.Native.Nat.{ℕ, _+_, _*_, _/_, _%_}
 use native.Mathlib.Omega.{arith}
 use mathlib.Core.Bool.{Bool, true, false}
@@ -6,8 +6,7 @@ use mathlib.Core.List.{List}
 use mathlib.Core.Path.{_≡_, refl, ap, _∙_}
 use lib.ListN.{set}
 use lib.Seq.{getD-set-other}
-use Rattle.board.specs.Work.{Work, give, readAt, writeAt, Size, word, byte, Came, value, blank, found, run, fitted, writable, even, wordAt, withWord, withByte, get, put}
-use Rattle.board.specs.Bind.{_>>=_}
+use Rattle.board.specs.Work.{Work, give, readAt, writeAt, Size, word, byte, Came, value, blank, found, run, fitted, writable, even, wordAt, withWord, withByte, get, put, _>>=_}
 
 abbrev follow : {A B : Type 0} → Came A → (A → List ℕ → Came B) → Came B
 follow (value x m) f = f x m

@@ -1,4 +1,4 @@
--- Laws of specs/Undo.antt.
+-- Taking the log back gives the memory as it was.
 use Prim.Native.Nat.{ℕ, zero, suc, _+_, _-_, _*_, _/_, _%_, _<_, _≤_}
 use native.Mathlib.Omega.{arith}
 use native.Mathlib.Numerals.{add-one}
@@ -11,9 +11,9 @@ use lib.ListN.{getD, set, length, length-set}
 use lib.Seq.{getD-set-same, getD-set-other, set-getD, set-set, set-comm}
 use Rattle.words.proofs.Laws.{low-of}
 use Rattle.board.specs.Work.{Work, give, readAt, writeAt, Size, word, byte, fitted, writable, even, wordAt, withWord, withByte, get, put}
-use Rattle.board.specs.Exec.{Store, beside, Now, stateOf, count, room, note, noted, allowed, exec, Lent, Board}
+use Rattle.board.specs.Exec.{Store, beside, Now, count, room, note, noted, allowed, exec, Lent, Board, back, undone}
+use Rattle.board.proofs.Laws.Exec.{stateOf}
 use Rattle.board.proofs.Laws.{board-noted, count-note, room-few, size-put, bytes-put}
-use Rattle.board.specs.Undo.{back, undone}
 
 -- ---- one word put back
 

@@ -4,9 +4,8 @@ use mathlib.Core.Path.{_≡_, refl, sym, ap, _∙_}
 use lib.ListN.{length}
 use borrow.Author.Needs.{needs}
 use Rattle.board.specs.Work.{word}
-use Rattle.board.specs.Exec.{beside}
+use Rattle.board.specs.Exec.{beside, back, undone}
 use Rattle.board.proofs.Laws.{size-put}
-use Rattle.board.specs.Undo.{back, undone}
 use Rattle.board.proofs.Laws.Undo.{back-more, back-none}
 use Rattle.board.proofs.rollback.Statement.{statement}
 use Rattle.board.proofs.rollback.Tie as tie

@@ -1,4 +1,4 @@
--- The last arm of every decoder: a number that none of the arms 0 to n - 1 took is at least n, and past a table's end stands its default. Assumes nothing.
+-- The last arm of every decoder: a number that none of the arms 0 to n - 1 took is at least n, and past a table's end stands its default.
 use Prim.Native.Nat.{ℕ, zero, suc, _≤_}
 use mathlib.Core.List.{List}
 use mathlib.Core.Path.{_≡_, sym}

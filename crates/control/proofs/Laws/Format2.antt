@@ -1,4 +1,4 @@
--- Laws of specs/Format2.antt.
+-- Which op code of format 2 a number is.
 use Prim.Native.Nat.{ℕ, _≤_}
 use mathlib.Core.Path.{_≡_}
 use lib.ListN.{List·getD-eq-default}

@@ -1,4 +1,4 @@
--- Laws of specs/Low.antt.
+-- The op codes whose high byte is 00, in the order in which the code tells them apart.
 use Prim.Native.Nat.{ℕ, _/_}
 use mathlib.Core.Path.{_≡_}
 use native.Mathlib.Omega.{arith}

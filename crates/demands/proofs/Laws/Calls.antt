@@ -3,8 +3,7 @@ use Prim.Native.Nat.{ℕ, zero, suc}
 use mathlib.Core.Bool.{Bool, true, false, cond}
 use mathlib.Core.List.{List}
 use mathlib.Core.Path.{_≡_, refl, ap, _∙_}
-use Rattle.board.specs.Alike.{Agree}
-use Rattle.step.specs.Alike.{Untouched}
+use Rattle.board.specs.Work.{Agree, Untouched}
 use Rattle.refusal.specs.Numbers.{noState}
 use Rattle.refusal.specs.Page.{Page, refused, answered, first, unless}
 use Rattle.machine.specs.Run.{End, end}

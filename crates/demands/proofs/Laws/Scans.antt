@@ -6,8 +6,7 @@ use mathlib.Core.Path.{_≡_, refl, sym, ap, _∙_}
 use native.Mathlib.Omega.{arith}
 use lib.ListN.{length}
 use lib.Dec.{ltb}
-use Rattle.board.specs.Alike.{Agree}
-use Rattle.step.specs.Alike.{Untouched}
+use Rattle.board.specs.Work.{Agree, Untouched}
 use Rattle.words.specs.Words.{byteAt}
 use Rattle.refusal.specs.Numbers.{noState, noChannel}
 use Rattle.refusal.specs.Page.{Page, refused, answered, first, unless}

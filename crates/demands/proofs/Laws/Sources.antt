@@ -7,7 +7,8 @@ use Rattle.refusal.specs.Numbers.{noState}
 use Rattle.refusal.specs.Page.{first}
 use Rattle.refusal.proofs.Laws.Page.{apart}
 use Rattle.assembler.specs.Answer.{After, asmOf}
-use Rattle.assembler.specs.Ends.{assembleWhy, tellsLine, FaultLine, Ends, done, alone, atLine}
+use Rattle.assembler.specs.Ends.{assembleWhy, tellsLine, FaultLine}
+use Rattle.assembler.proofs.Laws.Ends.{Ends, done, alone, atLine}
 use Rattle.assembler.proofs.Laws.Ends.{assemble-ends, line-told}
 use Rattle.assembler_c.specs.Call.{Went, went, answerBytes, wentFrom}
 use Rattle.demands.specs.Terms.{Answers, Numbered, OrPlace, asLent, placeAlone, lineless}

@@ -9,7 +9,7 @@ use borrow.Author.Tests.{eqb-true, eqb-false}
 use Rattle.plate.specs.Plate.{formatOf}
 use Rattle.optext.specs.Line.{isReserved}
 use Rattle.step.specs.Xct.{trapsAlone}
-use Rattle.examples.specs.Reserved.{TrapsReserved}
+use Rattle.examples.specs.Table.{TrapsReserved}
 
 -- one test over all high bytes: format 11 begins at F0
 abbrev same : Bool → Bool → Bool

@@ -2,8 +2,7 @@
 use mathlib.Core.Path.{refl}
 use Rattle.shift.specs.Shift.{turns}
 use Rattle.plate.specs.Plate.{formatOf}
-use Rattle.board.specs.Work.{run, fitted, writable, even, wordAt, withWord, withByte}
-use Rattle.board.specs.Bind.{_>>=_}
+use Rattle.board.specs.Work.{run, fitted, writable, even, wordAt, withWord, withByte, _>>=_}
 use Rattle.state.specs.Registers.{regOf, setReg}
 use Rattle.state.specs.State.{reg, withReg, withFlags, withI2, withMode, withMark, withStatus, cleared, psOf, withDone, withPair}
 use Rattle.state.specs.Stack.{push, pushReg, pop, popReg, popStatus, fetch, fromLoc, pushBoth, trap}

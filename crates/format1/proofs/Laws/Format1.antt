@@ -1,4 +1,4 @@
--- Laws of specs/Format1.antt.
+-- The op codes of format 1 by their number.
 use Prim.Native.Nat.{ℕ, _≤_}
 use mathlib.Core.Path.{_≡_}
 use lib.ListN.{List·getD-eq-default}

@@ -8,7 +8,7 @@ use Rattle.codes.specs.declared.ByteBinary.the-variants.{Cmpb, Movb, Bisb}
 use Rattle.board.specs.Work.{Work, Size, word, byte}
 use Rattle.word.specs.declared.Flags.{Flags}
 use Rattle.word.specs.declared.Done.{Done}
-use Rattle.board.specs.Bounded.{Bounded, gives}
+use Rattle.board.proofs.Laws.Bounded.{Bounded, gives}
 use Rattle.board.proofs.Laws.Bounded.{bounded-then}
 use Rattle.state.specs.declared.State.{State}
 use Rattle.state.proofs.Laws.Bounds.{bounded-cond}

@@ -12,8 +12,7 @@ use Rattle.codes.specs.declared.ByteBinary.{ByteBinary}
 use Rattle.codes.specs.declared.ByteBinary.the-variants.{Movb}
 use Rattle.codes.specs.Codes.{binaryAt, byteBinaryAt}
 use Rattle.word.specs.Address.{minus}
-use Rattle.board.specs.Work.{Work, give, Size, word, byte, fitted, writable, get}
-use Rattle.board.specs.Bind.{_>>=_, _>>_}
+use Rattle.board.specs.Work.{Work, give, Size, word, byte, fitted, writable, get, _>>=_, _>>_}
 use Rattle.board.specs.Exec.{Store, Now, good, gone, and, exec, Got}
 use Rattle.board.proofs.Laws.{got-then, got-gone, got-as, got-give, got-read, got-unread, got-lost}
 use Rattle.board.proofs.Laws.Alike.{unfitted-unwritable}

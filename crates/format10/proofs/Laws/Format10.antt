@@ -1,4 +1,4 @@
--- Laws of specs/Format10.antt.
+-- Format 10 in the order in which the code goes: the source, then the destination's half.
 use Prim.Native.Nat.{ℕ}
 use mathlib.Core.Bool.{true, false}
 use mathlib.Core.Path.{_≡_}

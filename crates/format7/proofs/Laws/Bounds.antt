@@ -3,7 +3,7 @@ use Prim.Native.Nat.{ℕ}
 use native.Mathlib.Omega.{arith}
 use lib.Dec.{eqb, ltb}
 use Rattle.board.specs.Work.{Size, word, byte}
-use Rattle.board.specs.Bounded.{Bounded, gives}
+use Rattle.board.proofs.Laws.Bounded.{Bounded, gives}
 use Rattle.board.proofs.Laws.Bounded.{bounded-then}
 use Rattle.state.specs.declared.State.{State}
 use Rattle.state.specs.declared.Outside.{Outside}

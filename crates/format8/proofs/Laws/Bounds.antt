@@ -2,7 +2,7 @@
 use Prim.Native.Nat.{ℕ}
 use native.Mathlib.Omega.{arith}
 use Rattle.board.specs.Work.{Size}
-use Rattle.board.specs.Bounded.{Bounded, gives}
+use Rattle.board.proofs.Laws.Bounded.{Bounded, gives}
 use Rattle.board.proofs.Laws.Bounded.{bounded-then, bounded-load, bounded-store}
 use Rattle.state.specs.declared.State.{State}
 use Rattle.format8.specs.declared.Row.{Row}

@@ -1,4 +1,4 @@
--- Laws of specs/Format8.antt.
+-- An element of a block move as the code makes it.
 use Prim.Native.Nat.{ℕ}
 use mathlib.Core.Path.{_≡_, ap, _∙_}
 use Rattle.board.specs.Exec.{Store, gone, keptAs}

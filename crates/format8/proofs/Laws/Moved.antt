@@ -1,4 +1,4 @@
--- The registers after an element, and after all of them: what is left after an element comes to what the whole comes to. Assumes nothing.
+-- The registers after an element, and after all of them: what is left after an element comes to what the whole comes to.
 use Prim.Native.Nat.{ℕ, suc, _+_, _*_, _≤_}
 use native.Mathlib.Omega.{arith}
 use native.Mathlib.Decide.{ℕ-discrete}

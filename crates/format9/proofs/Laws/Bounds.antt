@@ -4,7 +4,7 @@ use native.Mathlib.Omega.{arith}
 use Rattle.codes.specs.Fields.{format9Code}
 use Rattle.shift.specs.Shifted.{preset}
 use Rattle.board.specs.Work.{word, byte}
-use Rattle.board.specs.Bounded.{Bounded, gives}
+use Rattle.board.proofs.Laws.Bounded.{Bounded, gives}
 use Rattle.board.proofs.Laws.Bounded.{bounded-then, bounded-getD, none, also}
 use Rattle.state.specs.declared.State.{State}
 use Rattle.state.specs.declared.Outside.{Outside}

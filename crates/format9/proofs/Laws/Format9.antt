@@ -1,4 +1,4 @@
--- Laws of specs/Format9.antt.
+-- The op codes of format 9 in the order in which the code tells them apart.
 use Prim.Native.Nat.{ℕ, _≤_}
 use mathlib.Core.Path.{_≡_}
 use lib.ListN.{List·getD-eq-default}

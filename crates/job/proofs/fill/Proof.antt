@@ -1,5 +1,4 @@
 -- The filling pass: each buffer is cleared, then its section is written, and the sections start where the definition says.
--- Assumes nothing.
 use Prim.Native.Nat.{ℕ, _+_}
 use Rattle.words.specs.Words.{wordAt}
 use Rattle.job.proofs.Laws.{map-filled, image-filled, lines-filled, words-at, lines-at, read-only-at}

@@ -1,5 +1,4 @@
 -- The section and entry loops: what is left from here comes to the refusal of the whole job. A labelled break hands out the first refusal.
--- Assumes nothing.
 use Rattle.job.proofs.Laws.{whyRest, count-room, entry-room, sections-end, section-absent, count-refused, count-taken, entry-refused, entry-taken, entries-end}
 use Rattle.job.specs.Job.{sections, whySections, whyJob}
 use lib.ListN.{length, drop}

@@ -1,5 +1,4 @@
 -- The line words that are left, listed in the buffer as it is now, come to all of them listed in the buffer as lent.
--- Assumes nothing.
 use Rattle.job.proofs.Laws.{listed-more, listed-end}
 use Rattle.job.specs.Job.{listed}
 use lib.ListN.{length}

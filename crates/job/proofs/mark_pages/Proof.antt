@@ -1,5 +1,4 @@
 -- The pages that are left, noted in the map as it is now, come to all of them noted in the map as lent.
--- Assumes nothing.
 use Rattle.job.proofs.Laws.{marked-more, marked-end}
 use Rattle.job.specs.Job.{marked}
 use lib.ListN.{length, length-set}

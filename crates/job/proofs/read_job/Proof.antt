@@ -1,5 +1,4 @@
 -- A refusal leaves the buffers as lent; where nothing is refused they are filled.
--- Assumes nothing.
 use Rattle.job.proofs.Laws.{read-lengths, read-refused, read-filled}
 use mathlib.Core.Path.{sym, _∙_}
 use borrow.Author.Needs.{needs}

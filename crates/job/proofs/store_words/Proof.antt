@@ -1,5 +1,4 @@
 -- The words that are left, stored in the image as it is now, come to all of them stored in the image as lent.
--- Assumes nothing.
 use Rattle.job.proofs.Laws.{stored-more, stored-end}
 use Rattle.job.specs.Job.{stored}
 use lib.ListN.{length}

@@ -1,4 +1,4 @@
--- Laws of specs/Append.antt.
+-- A run over two line lists joined, over the definitions: the steps of the first, then those of the second from where it ended.
 use Prim.Native.Nat.{ℕ, _+_}
 use native.Mathlib.Omega.{arith}
 use mathlib.Core.List.{List, [], _∷_, _++_}
@@ -17,7 +17,7 @@ use Rattle.machine.specs.Trail.{trailOf, lastOf}
 use Rattle.machine.specs.Counted.{joined}
 use Rattle.machine.proofs.Laws.Counted.{rest-trail, run-trail}
 use Rattle.laws.proofs.Laws.Taken.{ran-is}
-use Rattle.laws.specs.Append.{behind, goOn}
+use Rattle.laws.specs.Halves.{behind, goOn}
 
 -- the trail over both is the trail over the first, then the trail over the second
 pub trail-append : (settings : Settings) (map xs ys : List ℕ) (s : State) (m : List ℕ) (c : Cause)

@@ -1,4 +1,4 @@
--- Laws of specs/Calls.antt.
+-- The run for C: from its bytes to the run's answer.
 use Prim.Native.Nat.{ℕ, _<_, _≤_}
 use native.Mathlib.Omega.{arith}
 use mathlib.Core.Bool.{Bool, true, false, cond}
@@ -32,7 +32,7 @@ use Rattle.firmware.specs.Layout.{bytesOf, tallyBytes, placeNumber, placeTold, 
 use Rattle.firmware.specs.Calls.{ended, endedFrom, runCall, stepBytes, Went, went, stepCall}
 use Rattle.demands.proofs.Laws.Demand1.{wd16-step-answers, wd16-run-answers}
 use Rattle.refusal.proofs.Laws.Refusal.{neither}
-use Rattle.laws.specs.Calls.{firstPlace, firstTold}
+use Rattle.laws.specs.Halves.{firstPlace, firstTold}
 
 -- a tally's bytes
 abbrev pub bytesFor : Ran → List ℕ

@@ -5,8 +5,7 @@ use mathlib.Core.Bool.{true, false}
 use mathlib.Core.List.{List, [], _∷_}
 use mathlib.Core.Path.{_≡_, refl, sym, ap, _∙_}
 use lib.ListN.{length, getD, length-set, length-replicate}
-use Rattle.board.specs.Work.{run, fitted, writable, even, wordAt, withWord}
-use Rattle.board.specs.Bind.{_>>=_}
+use Rattle.board.specs.Work.{run, fitted, writable, even, wordAt, withWord, _>>=_}
 use Rattle.state.specs.declared.State.{State}
 use Rattle.state.specs.declared.Mode.the-variants.{Locked}
 use Rattle.state.specs.Registers.{regOf, setReg}
@@ -36,9 +35,9 @@ use Rattle.firmware.specs.Layout.{bytesOf, stateFrom, settingsFrom}
 use Rattle.firmware.specs.Calls.{went}
 use Rattle.laws.proofs.Laws.Taken.{taken-run, run-taken, run-answer-of, step-page-is, step-taken, ran-is}
 use Rattle.laws.proofs.Laws.Calls.{bytesFor, call-answered, run-not-refused, step-not-refused, tally-taken, stepped, step-call-is, blanks-word, mode-byte, cause-byte, number-no-blank}
-use Rattle.laws.specs.More.{Plugged, SoundStep}
+use Rattle.laws.proofs.Laws.More.{SoundStep}
 use Rattle.laws.proofs.Laws.More.{plugged-one, plugged-more, step-more, trail-more, run-more, none-first}
-use Rattle.laws.specs.Cards.{Sound, settings, bare, card, image, before, ranIn, seen, heals, spares, RunPlugged, StepPlugged, Wd16StepPlugged, Wd16RunPlugged, BothSuffice, BlankNeeded, LockNeeded}
+use Rattle.laws.specs.Cards.{Plugged, Sound, settings, bare, card, image, before, ranIn, seen, heals, spares, RunPlugged, StepPlugged, Wd16StepPlugged, Wd16RunPlugged, BothSuffice, BlankNeeded, LockNeeded}
 
 -- ---- A RUN
 

@@ -25,9 +25,8 @@ use Rattle.laws.proofs.Laws.Taken.{taken-run, all-append, run-answer-of
 use Rattle.laws.proofs.Laws.Append.{followed, joined-ends}
 use Rattle.laws.specs.One.{asRun}
 use Rattle.laws.proofs.Laws.One.{step-as-run, calls-one}
-use Rattle.laws.specs.Calls.{firstPlace, firstTold}
+use Rattle.laws.specs.Halves.{firstPlace, firstTold, Halves, stateAfter, still, RunJoined, RunNone, NoneBefore, NoneAfter, RunOne, Wd16RunJoined, Wd16RunOne}
 use Rattle.laws.proofs.Laws.Calls.{bytesFor, Within, call-answered, settings-taken, step-taken, buffers-taken, blanks-word, place-word, told-word, place-after, told-after, run-low}
-use Rattle.laws.specs.Halves.{Halves, stateAfter, still, RunJoined, RunNone, NoneBefore, NoneAfter, RunOne, Wd16RunJoined, Wd16RunOne}
 
 halves-of : (n : ℕ) (a b c : Ran) → c ≡ followed n a b → Halves n a b c
 unfolding joined

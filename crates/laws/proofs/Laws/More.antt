@@ -1,4 +1,5 @@
--- Laws of specs/More.antt.
+-- Plugging in a card, over the definitions: what work comes to on a map, it comes to on every map that fits more; so do a step that was
+-- sound, and a trail of such steps.
 use Prim.Native.Nat.{ℕ, _+_, _/_}
 use native.Mathlib.Omega.{arith}
 use mathlib.Core.Bool.{Bool, true, false, cond}
@@ -23,9 +24,21 @@ use Rattle.machine.specs.declared.First.the-variants.{Never}
 use Rattle.machine.specs.Run.{end, runOf}
 use Rattle.machine.specs.Trail.{trailOf, lastOf, blanksIn, firstIn, here, moved, tallyIn}
 use Rattle.machine.proofs.Laws.Counted.{run-trail}
-use Rattle.laws.specs.More.{Plugged, More, SoundStep}
+use Rattle.laws.specs.Cards.{Plugged}
+
+-- ---- a step
+
+-- no blank, and not locked after it
+pub record SoundStep (a : After) : Type 0 where
+  pub noBlank : isBlank (a .cause) ≡ false
+  pub unlocked : a .state .mode ≡ Locked → ⊥
 
 -- ---- the map
+
+-- What can be read on the one map can be on the other, and what can be written.
+pub record More (map big : List ℕ) : Type 0 where
+  pub reads : (a : ℕ) → fitted map a ≡ true → fitted big a ≡ true
+  pub writes : (a : ℕ) → writable map a ≡ true → writable big a ≡ true
 
 not-both : {b : Bool} → b ≡ true → b ≡ false → ⊥
 not-both e f = let z : _≡_ {A = ℕ} 0 1 = cc in omega arith
@@ -44,7 +57,7 @@ plugged-then map big full g h p n = h p (λ z. n (sym (g p n) ∙ z)) ∙ g p n
 
 -- ---- A VALUE ON A MAP IS THE SAME VALUE, WITH THE SAME IMAGE, ON ANY MAP THAT FITS MORE
 
-pub value-more : {A : Type 0} (map big : List ℕ) → More map big → (w : Work A) (m : List ℕ) (x : A) (n : List ℕ) → run map w m ≡ value x n → run big w m ≡ value x n
+value-more : {A : Type 0} (map big : List ℕ) → More map big → (w : Work A) (m : List ℕ) (x : A) (n : List ℕ) → run map w m ≡ value x n → run big w m ≡ value x n
 unfolding run
 value-more map big g (give y) m x n h = h
 value-more map big g (readAt z a k) m x n h =

@@ -1,4 +1,4 @@
--- Laws of specs/One.antt.
+-- A run of one line word and a step: from the definitions to the pages, and from the pages to the bytes for C.
 use Prim.Native.Nat.{ℕ, zero, suc}
 use native.Mathlib.Omega.{arith}
 use mathlib.Core.Bool.{Bool, true, false, _||_, cond}

@@ -1,5 +1,4 @@
 -- After i turns the first i registers' fields stand in front, five characters each.
--- Assumes nothing.
 use borrow.Author.Needs.{needs}
 use Rattle.letters.proofs.Laws.Laid.{then, wrote-none}
 use Rattle.line.proofs.Laws.Lengths.{field-length, fields-more}

@@ -1,5 +1,4 @@
 -- The parts of the line stand one after the other; each has its room, since the buffer has 61 characters.
--- Assumes nothing.
 use Rattle.letters.proofs.Laws.Laid.{then, written-is, written-none}
 use Rattle.line.proofs.Laws.Lengths.{field-length, fields-length}
 use Rattle.line.proofs.Laws.{mode-length, line-length}

@@ -1,5 +1,4 @@
 -- The name, then the digits; both have room.
--- Assumes nothing.
 use borrow.Author.Needs.{needs}
 use Rattle.letters.proofs.Laws.Laid.{then, written-is, written-none}
 use Rattle.line.proofs.Laws.{name-length, refused-length, digits-few}

@@ -10,8 +10,7 @@ use lib.ListN.{length, getD}
 use Rattle.letters.specs.Over.{over}
 use Rattle.refusal.specs.Page.{refused, answered, unless}
 use Rattle.words.specs.Words.{wordAt}
-use Rattle.board.specs.Work.{fitted}
-use Rattle.board.specs.Alike.{Agree}
+use Rattle.board.specs.Work.{fitted, Agree}
 use Rattle.line.specs.Line.{fields}
 use Rattle.optext.specs.Line.{taken}
 use Rattle.listing.specs.declared.Found.{Found}

@@ -1,4 +1,4 @@
--- Laws of specs/Calls.antt.
+-- One outcome of a call that lists a line: its page is one to one.
 use Prim.Native.Nat.{ℕ}
 use mathlib.Core.List.{List}
 use mathlib.Core.Path.{_≡_, refl, ap, sym, _∙_}

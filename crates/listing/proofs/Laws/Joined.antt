@@ -1,4 +1,4 @@
--- Laws of specs/Joined.antt.
+-- The lines that calls write one after the other, each from the address that the one before it answered, are the listing.
 use Prim.Native.Nat.{ℕ, zero, suc, _+_, _*_, _%_, _≤_, _<_}
 use mathlib.Core.Bool.{Bool, true, false, cond, _||_}
 use mathlib.Core.List.{List, [], _∷_}

@@ -1,4 +1,4 @@
--- Laws of specs/Answered.antt.
+-- An answer that meets its contract and is no refusal is the definition's, in the page's numbers.
 use Prim.Native.Nat.{ℕ, zero, suc}
 use mathlib.Core.List.{List}
 use mathlib.Core.Path.{_≡_, refl, ap, _∙_}

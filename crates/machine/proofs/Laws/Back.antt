@@ -1,4 +1,4 @@
--- Laws of specs/Back.antt.
+-- ONE OUTCOME: a page keeps all of its answer, so two outcomes of a call that meet its contract are the same.
 use Prim.Native.Nat.{ℕ, _+_, _*_}
 use mathlib.Core.Bool.{Bool, true, false}
 use mathlib.Core.List.{List, [], _∷_}

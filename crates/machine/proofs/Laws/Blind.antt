@@ -1,14 +1,13 @@
--- Laws of specs/Blind.antt.
+-- Demand 3 from the definitions to the pages: what a call answers and leaves does not depend on unfitted bytes.
 use Prim.Native.Nat.{ℕ, zero, suc}
 use mathlib.Core.List.{List}
 use mathlib.Core.Path.{_≡_, refl, sym, ap, _∙_}
 use lib.ListN.{length, getD}
-use Rattle.board.specs.Alike.{Agree}
+use Rattle.board.specs.Work.{Agree, Untouched}
 use Rattle.state.specs.declared.State.{State}
 use Rattle.state.specs.declared.Settings.{Settings}
 use Rattle.state.specs.State.{heard}
 use Rattle.step.specs.Step.{After, stepOf, Up, powerUpOf}
-use Rattle.step.specs.Alike.{Untouched}
 use Rattle.step.proofs.Laws.Alike.{SameUp, power-alike, Same, step-alike, power-untouched, step-untouched}
 use Rattle.refusal.specs.Page.{Page, refused, unless}
 use Rattle.machine.specs.Run.{End, end, runOf, noBlanks}

@@ -1,4 +1,4 @@
--- Laws of specs/Counted.antt.
+-- A run's end is its trail's, its count of blanks the number of blanks on the trail, its first place the least of theirs, with the address told there.
 use Prim.Native.Nat.{ℕ, zero, suc, _+_, _<_}
 use native.Mathlib.Omega.{arith}
 use mathlib.Core.Bool.{false, cond}
@@ -16,9 +16,15 @@ use Rattle.machine.specs.declared.Tally.{Tally}
 use Rattle.machine.specs.declared.First.{First}
 use Rattle.machine.specs.declared.First.the-variants.{At, Never}
 use Rattle.machine.specs.Numbers.{placeOf}
-use Rattle.machine.specs.Run.{end, rest, runOf, noted, noBlanks, firstOf}
+use Rattle.machine.specs.Run.{end, rest, runOf, noted, noBlanks, firstOf, End}
 use Rattle.machine.specs.Trail.{trailOf, lastOf, blanksIn, moved, here, firstIn, tallyIn, causeAt, Least, least, nowhere}
-use Rattle.machine.specs.Counted.{orFirst, joined, endOf}
+use Rattle.machine.specs.Counted.{orFirst, joined}
+
+-- ---- A RUN'S END AND TALLY ARE ITS TRAIL'S
+
+-- where a trail from b ends, with the tally of n steps before it
+abbrev pub endOf : After → ℕ → Tally → List After → End
+endOf b n t rs = end (lastOf b rs .state) (lastOf b rs .image) (joined n t (tallyIn rs))
 
 -- ---- tallies add up
 

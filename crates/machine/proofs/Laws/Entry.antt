@@ -1,4 +1,4 @@
--- Laws of specs/Entry.antt.
+-- What a call leaves, by its page.
 use Prim.Native.Nat.{ℕ}
 use mathlib.Core.List.{List}
 use mathlib.Core.Path.{_≡_, ap}

@@ -1,4 +1,4 @@
--- Laws of specs/Leg.antt.
+-- A run by legs: a burst of op codes, and the step that ends it.
 use Prim.Native.Nat.{ℕ, _+_, _<_, _≤_}
 use native.Mathlib.Omega.{arith}
 use native.Mathlib.Decide.{ℕ-discrete}
@@ -7,9 +7,8 @@ use mathlib.Core.Bool.{false}
 use mathlib.Core.List.{List}
 use mathlib.Core.Path.{_≡_, refl, sym, ap, _∙_}
 use lib.ListN.{length, getD}
-use Rattle.board.specs.Exec.{Store, Board}
+use Rattle.board.specs.Exec.{Store, Board, undone}
 use Rattle.board.proofs.Laws.Ended.{Fresh}
-use Rattle.board.specs.Undo.{undone}
 use Rattle.board.proofs.Laws.Undo.{undone-none}
 use Rattle.state.specs.declared.State.{State}
 use Rattle.state.specs.declared.Settings.{Settings}

@@ -1,4 +1,4 @@
--- Laws of specs/Run.antt.
+-- A run from any place on: one step more, or none left.
 use Prim.Native.Nat.{ℕ, _+_, _<_}
 use mathlib.Core.List.{List, [], _∷_}
 use mathlib.Core.Path.{_≡_, refl, ap}

@@ -1,9 +1,8 @@
 -- How often decoding, reading and writing an operand writes, at most.
 use Prim.Native.Nat.{ℕ}
 use native.Mathlib.Omega.{arith}
-use Rattle.board.specs.Work.{give, load, Size, word}
-use Rattle.board.specs.Bind.{_>>=_}
-use Rattle.board.specs.Bounded.{Bounded, gives}
+use Rattle.board.specs.Work.{give, load, Size, word, _>>=_}
+use Rattle.board.proofs.Laws.Bounded.{Bounded, gives}
 use Rattle.board.proofs.Laws.Bounded.{bounded-then, bounded-load, bounded-store, bounded-getD, none, also}
 use Rattle.state.specs.declared.State.{State}
 use Rattle.operand.specs.declared.Place.{Place}

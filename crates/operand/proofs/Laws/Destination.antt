@@ -1,4 +1,4 @@
--- Laws of specs/Destination.antt.
+-- A destination that is decoded and read, in the order in which the code goes; once for words and bytes.
 use Prim.Native.Nat.{ℕ}
 use mathlib.Core.List.{List}
 use mathlib.Core.Path.{_≡_, refl, ap, _∙_}

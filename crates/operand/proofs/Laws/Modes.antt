@@ -1,4 +1,4 @@
--- Laws of specs/Modes.antt.
+-- The modes as the code goes through them, 1 to 5 in one, 6 and 7 in one, are `locate`.
 use Prim.Native.Nat.{ℕ, zero, suc, _≤_, _<_}
 use native.Mathlib.Nat.{le-of-suc-le-suc, not-suc-le-zero}
 use native.Mathlib.Omega.{arith}
@@ -7,8 +7,18 @@ use mathlib.Core.List.{[], _∷_}
 use mathlib.Core.Path.{_≡_, refl, ap}
 use borrow.Author.Tests.{lt-ltb}
 use lib.ListN.{List·getD-eq-default}
-use Rattle.operand.specs.Operand.{direct, indirect, increment, incrementDeferred, decrement, decrementDeferred, indexed, indexedDeferred, locate}
-use Rattle.operand.specs.Modes.{defers, stride, pointer, beyond, through, pointed, offset}
+use Rattle.operand.specs.Operand.{direct, indirect, increment, incrementDeferred, decrement, decrementDeferred, indexed, indexedDeferred, locate, baseOf}
+use Rattle.operand.specs.Modes.{defers, stride, pointer, beyond, through, pointed}
+use lib.Dec.{ltb}
+use Rattle.board.specs.Work.{Work, load, _>>=_}
+use Rattle.word.specs.Address.{plus}
+use Rattle.operand.specs.declared.Place.{Place}
+
+-- modes 6 and 7 in one: the sum with the next word is the operand's address, or the address of its address
+unfoldable pub offset : ℕ → ℕ → ℕ → ℕ → Work Place
+offset k r pc mode = do
+  x ← load pc
+  through (ltb 6 mode) (plus (baseOf k r pc) x) 7 (plus pc 2)
 
 pub pointed-is : (step k r mode : ℕ) {by at next : ℕ} {b : Bool}
     → by ≡ stride step mode → at ≡ pointer r by mode → next ≡ beyond at by mode → defers mode ≡ b

@@ -1,4 +1,4 @@
--- Laws of specs/Operand.antt.
+-- What a decode, a read and a write of an operand come to, answered or not.
 use Prim.Native.Nat.{ℕ}
 use mathlib.Core.List.{List}
 use mathlib.Core.Path.{_≡_, refl, ap, _∙_}

@@ -1,5 +1,4 @@
 -- Words by value: what is stored in three zeros, read back one by one.
--- Assumes nothing.
 use mathlib.Core.Bool.{Bool, true, false, cond, _&&_}
 use mathlib.Core.Path.{_≡_, refl, ap, sym, _∙_, subst}
 use mathlib.Core.List.{List, [], _∷_, append-nil}
@@ -10,7 +9,7 @@ use borrow.Author.Tests.{eq-eqb, eqb-true}
 use lib.ListN.{length, getD, length-append}
 use Rattle.letters.specs.Over.{over, Wrote}
 use Rattle.optext.specs.declared.reading.Guess.{Guess}
-use Rattle.optext.specs.Agree.{agree}
+use Rattle.optext.specs.First.{agree}
 use Rattle.optext.specs.Rows.{firstOf, secondOf}
 use Rattle.optext.specs.Line.{rowOf, takes, lineText}
 use Rattle.optext.specs.Guess.{guessOf}

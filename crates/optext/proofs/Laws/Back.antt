@@ -1,4 +1,4 @@
--- Laws of specs/Back.antt.
+-- Reading back what was written: each piece of the guess undoes its piece of the line, whatever follows it.
 use mathlib.Core.Path.{_≡_, refl, ap, sym, _∙_, subst}
 use mathlib.Core.Bool.{Bool, true, false, cond}
 use mathlib.Core.Logic.{⊎-elim}
@@ -18,7 +18,30 @@ use Rattle.optext.specs.Line.{reservedFrom, registers, regA, regB, regTe
 use Rattle.optext.specs.Guess.{unCount, unReg, notPc, op, high, unPlain, unMode, unOp}
 use Rattle.optext.proofs.Laws.Choose.{eq-cases, at}
 use Rattle.optext.proofs.Laws.Forms.{mode-plain, mode-at}
-use Rattle.optext.specs.Back.{plainWord, modeWord, wordOf}
+
+-- the four forms, and the operand's own word: x where the form shows it
+unfoldable pub plainWord : ℕ → ℕ → ℕ → ℕ
+plainWord p r x = cond (eqb p 3) x (cond (eqb p 1) (cond (eqb r 7) x 0) 0)
+
+-- a mode
+unfoldable pub modeWord : ℕ → ℕ → ℕ
+modeWord f x = plainWord (f / 16) (f % 8) x
+
+-- an operand: its own word is x where its text shows it
+abbrev pub wordOf : Kind → ℕ → ℕ → ℕ
+wordOf None w x = 0
+wordOf Mask w x = x
+wordOf Disp w x = 0
+wordOf Reg w x = 0
+wordOf Arg4 w x = 0
+wordOf Arg6 w x = 0
+wordOf Count w x = 0
+wordOf High w x = 0
+wordOf Mid w x = 0
+wordOf Dst w x = modeWord (w % 64) x
+wordOf Addr w x = modeWord (w % 64) x
+wordOf Src w x = modeWord (w / 64 % 64) x
+wordOf Word w x = 0
 
 -- digits
 pub hex-back : (d : ℕ) → d < 16 → unHex (hexOf d) ≡ d

@@ -1,5 +1,4 @@
 -- Laws of choices: two numbers compared, a test over all numbers below one, and the first place that passes a test.
--- Assumes nothing.
 use mathlib.Core.Path.{_≡_, refl, ap, sym, _∙_, subst}
 use mathlib.Core.Bool.{Bool, true, false, cond}
 use mathlib.Core.Logic.{_⊎_, inl, inr, ⊎-elim}

@@ -1,4 +1,4 @@
--- Laws of specs/Columns.antt.
+-- The column and the number of a refused text, from the guess: the promises that do not speak of it.
 use mathlib.Core.Path.{_≡_, refl, ap, sym, _∙_, subst}
 use mathlib.Core.Bool.{true, false}
 use mathlib.Core.List.{List, [], append-nil}
@@ -9,18 +9,20 @@ use borrow.Author.Tests.{eq-eqb, ne-eqb}
 use lib.ListN.{length, take, drop, getD, take-append-drop, drop-of-length-le}
 use lib.Seq.{take-length, length-take-le, drop-cons}
 use Rattle.optext.specs.declared.reading.Guess.{Guess}
-use Rattle.optext.specs.Agree.{agree}
+use Rattle.optext.specs.First.{agree}
 use Rattle.optext.specs.Rows.{firstOf}
 use Rattle.optext.specs.Line.{rowOf, takes, lineText, textOf}
 use Rattle.optext.specs.Guess.{guessOf}
 use Rattle.optext.specs.Column.{Whole, IsText, Column, spaceIn, Why, early, after, name, operand}
 use Rattle.optext.specs.Words.{RefusedText, wordsOf}
-use Rattle.optext.specs.Near.{Near}
-use Rattle.optext.proofs.Laws.Near.{agree-le, agree-le-text, agree-self, agree-take, take-agree}
+use Rattle.optext.proofs.Laws.Near.{Near, agree-le, agree-le-text, agree-self, agree-take, take-agree}
 use Rattle.optext.proofs.Laws.Furthest.{lt-w, lt-x, lt-y, nearest}
 use Rattle.optext.proofs.Laws.Longest.{line-le}
 use Rattle.optext.proofs.Laws.Meets.{text-words, whole-words}
-use Rattle.optext.specs.Columns.{guessLine}
+
+-- the line of the guess at a text
+unfoldable pub guessLine : List ℕ → List ℕ
+guessLine t = lineText (guessOf t .w) (guessOf t .x) (guessOf t .y)
 
 -- two texts that agree to the end of both are one
 pub same-text : (t p : List ℕ) → agree t p ≡ length t → agree t p ≡ length p → p ≡ t

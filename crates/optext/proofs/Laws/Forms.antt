@@ -1,5 +1,4 @@
 -- Laws of the forms of operands: which form each is, and how long.
--- Assumes nothing.
 use mathlib.Core.Path.{_≡_, refl}
 use mathlib.Core.Bool.{Bool, true, false, cond}
 use mathlib.Core.List.{List, [], _∷_}

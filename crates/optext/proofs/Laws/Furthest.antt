@@ -1,5 +1,4 @@
 -- The line of the guess at a text agrees with the text as far as any line does, and is the line that the text begins with, if it begins with one.
--- Assumes nothing.
 use mathlib.Core.Path.{_≡_, refl, ap, _∙_}
 use mathlib.Core.Bool.{Bool, true, false, cond}
 use mathlib.Core.Logic.{⊎-elim}
@@ -12,19 +11,19 @@ use lib.Seq.{drop-drop}
 use Rattle.optext.specs.declared.rows.Kind.{Kind}
 use Rattle.optext.specs.declared.rows.Kind.the-variants.{None, Mask, Disp, Reg, Arg4, Arg6, Count, High, Mid, Dst, Addr, Src, Word}
 use Rattle.optext.specs.declared.reading.Operand.{Operand}
-use Rattle.optext.specs.Agree.{agree}
+use Rattle.optext.specs.First.{agree}
 use Rattle.optext.specs.Rows.{rowCount, nameOf, baseOf, firstOf, secondOf}
 use Rattle.optext.specs.Line.{rowOf, isShown, operandText, sepText, lineText}
 use Rattle.optext.specs.Guess.{headOf, rowAt, unPlain, unMode, unOp, guessA, guessB, guessOf}
 use Rattle.optext.proofs.Laws.Choose.{bool-cases}
-use Rattle.optext.specs.Near.{Near}
+use Rattle.optext.proofs.Laws.Near.{Near}
 use Rattle.optext.proofs.Laws.Near.{near-nil, near-at, near-next, near-seq, whole-split}
 use Rattle.optext.proofs.Laws.Heads.{rowAt-lt, head-own, head-some, near-head}
 use Rattle.optext.proofs.Laws.Forms.{sep-none, sep-some}
 use Rattle.optext.proofs.Laws.Table.{none-both}
 use Rattle.optext.proofs.Laws.Back.{op-back}
 use Rattle.optext.proofs.Laws.Trip.{row-lt, none-text, line-head}
-use Rattle.optext.specs.Operands.{Allowed, PartOk, again}
+use Rattle.optext.proofs.Laws.Operands.{Allowed, PartOk, again}
 use Rattle.optext.proofs.Laws.Operands.{part-ok, near-operand, hex4-lt}
 use Rattle.optext.proofs.Laws.Inside.{guess-lt, inside, part-1, part-2, allowed-1, allowed-2}
 

@@ -1,5 +1,4 @@
 -- The row whose mnemonic agrees furthest with a text: no other agrees further, and it is the text's own where the text begins with a mnemonic.
--- Assumes nothing.
 use mathlib.Core.Path.{_≡_, refl, ap, sym, _∙_}
 use mathlib.Core.Bool.{Bool, true, false, cond}
 use mathlib.Core.Logic.{_⊎_, inl, inr, ⊎-elim}
@@ -11,14 +10,13 @@ use lib.Dec.{T, ltb, eqb}
 use borrow.Author.Tests.{eq-eqb, ne-eqb, lt-ltb, le-ltb, ltb-true, ltb-false}
 use lib.ListN.{length, drop, getD}
 use lib.Seq.{getD-drop}
-use Rattle.optext.specs.Agree.{agree}
-use Rattle.optext.specs.First.{bestFrom}
+use Rattle.optext.specs.First.{agree, bestFrom}
 use Rattle.optext.specs.Rows.{Row, rowCount, wordRow, rows, theRow, noRow, nameOf, firstOf}
 use Rattle.optext.specs.Line.{isShown}
 use Rattle.optext.specs.Guess.{headIn, headOf, headFar, rowAt}
 use Rattle.optext.proofs.Laws.Table.{row-count}
 use Rattle.optext.proofs.Laws.Choose.{eq-cases, lt-cases, bool-cases, both, both-left, both-right}
-use Rattle.optext.specs.Near.{Near}
+use Rattle.optext.proofs.Laws.Near.{Near}
 use Rattle.optext.proofs.Laws.Near.{agree-nil, agree-le, agree-short, agree-whole, agree-through}
 
 -- a place at which a number is greatest

@@ -1,4 +1,4 @@
--- Laws of specs/Inside.antt.
+-- A row's base op code with any operands of its kinds in it is a word of that row: the guess is always an op code of the row that it was read as.
 use mathlib.Core.Path.{_≡_, refl, ap, sym, _∙_, subst}
 use mathlib.Core.Bool.{Bool, true, false, cond}
 use mathlib.Core.Logic.{⊎-elim}
@@ -16,9 +16,11 @@ use Rattle.optext.proofs.Laws.Heads.{pairs, pairs-at}
 use Rattle.optext.proofs.Laws.Shapes.{isKind, is-kind, fit, fit-at, Pairs, by-kinds}
 use Rattle.optext.proofs.Laws.Reserved.{reserved-elim, addressed-same, last-reserved, from-same, from-ok}
 use Rattle.optext.proofs.Laws.Trip.{row-lt, word-back}
-use Rattle.optext.specs.Operands.{Allowed, PartOk}
-use Rattle.optext.proofs.Laws.Operands.{addressed-ok}
-use Rattle.optext.specs.Inside.{Fits}
+use Rattle.optext.proofs.Laws.Operands.{Allowed, PartOk, addressed-ok}
+
+-- a word that a row makes
+abbrev pub Fits : ℕ → ℕ → Type 0
+Fits w k = baseOf k + fieldOf (firstOf k) w + fieldOf (secondOf k) w ≡ w
 
 abbrev Fields : Kind → Kind → ℕ → Type 0
 Fields f s n = (a b : ℕ) → PartOk f a → PartOk s b → (fieldOf f (n + a + b) ≡ a) × (fieldOf s (n + a + b) ≡ b)

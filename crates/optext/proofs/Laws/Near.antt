@@ -1,4 +1,4 @@
--- Laws of specs/Near.antt.
+-- Laws of how far two texts agree, and of the text that agrees furthest with another.
 use mathlib.Core.Path.{_≡_, refl, ap, sym, _∙_, subst}
 use mathlib.Core.Bool.{Bool, true, false, cond}
 use mathlib.Core.Logic.{_⊎_, inl, inr, ⊎-elim}
@@ -10,9 +10,13 @@ use borrow.Author.Tests.{eq-eqb, ne-eqb, eqb-true}
 use lib.ListN.{length, take, drop, getD, length-append, drop-of-length-le}
 use lib.Seq.{drop-cons}
 use native.Mathlib.Numerals.{add-one}
-use Rattle.optext.specs.Agree.{agree}
+use Rattle.optext.specs.First.{agree}
 use Rattle.optext.proofs.Laws.Choose.{lt-cases}
-use Rattle.optext.specs.Near.{Near}
+
+-- q is as near to the text t as p is: it agrees with t as far, and it is p where t begins with p
+pub record Near (t p q : List ℕ) : Type 0 where
+  pub far : agree t p ≤ agree t q
+  pub whole : agree t p ≡ length p → q ≡ p
 
 pub agree-nil : (t : List ℕ) → agree t [] ≡ 0
 agree-nil [] = refl
@@ -162,11 +166,6 @@ near-next u a s r n = record {
   where
     same : suc (agree u s) ≡ suc (length s) → agree u s ≡ length s
     same e = omega arith
-
-pub near-cons : (t : List ℕ) (a b : ℕ) (s r : List ℕ) → ((u : List ℕ) → t ≡ a ∷ u → (b ≡ a) × Near u s r) → Near t (a ∷ s) (b ∷ r)
-near-cons t a b s r h =
-    near-first t a s (b ∷ r) (λ u e. let z = h u e in
-    subst (λ (l : List ℕ). Near l (a ∷ s) (b ∷ r)) (sym e) (subst (λ (c : ℕ). Near (a ∷ u) (a ∷ s) (c ∷ r)) (sym (z .0)) (near-next u a s r (z .1))))
 
 -- a piece, and what follows it
 pub near-seq : (t p s q r : List ℕ) → Near t p q → (agree t p ≡ length p → q ≡ p → Near (drop (length p) t) s r) → Near t (p ++ s) (q ++ r)

@@ -1,5 +1,4 @@
 -- One answer of the reader, and one list of words: no two meet what `Reads` says of a text.
--- Assumes nothing.
 use mathlib.Core.Bool.{Bool, true, false, cond}
 use mathlib.Core.Path.{_≡_, ap, sym, _∙_, subst}
 use mathlib.Core.List.{List, [], _∷_}

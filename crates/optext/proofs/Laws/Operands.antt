@@ -1,4 +1,4 @@
--- Laws of specs/Operands.antt.
+-- Each operand of the guess is the nearest of its kind to the text it is read from.
 use mathlib.Core.Path.{_≡_, refl, ap, sym, _∙_}
 use mathlib.Core.Bool.{Bool, true, false, cond}
 use mathlib.Core.Logic.{⊎-elim}
@@ -17,13 +17,46 @@ use Rattle.optext.specs.Digits.{unHex, unHex2, unHex4}
 use Rattle.optext.specs.Line.{regA, regB, regText, upText, literalText, downText, offsetText, plainText, modeText, operandText, addressed, isReserved, reservedFrom}
 use Rattle.optext.specs.Guess.{op, unReg, notPc, unPlain, unMode, unCount, unOp}
 use Rattle.optext.proofs.Laws.Choose.{eq-cases, lt-cases}
-use Rattle.optext.specs.Near.{Near}
-use Rattle.optext.proofs.Laws.Near.{near-nil, near-next, near-at, near-seq, near-refl, near-off}
+use Rattle.optext.proofs.Laws.Near.{Near, near-nil, near-next, near-at, near-seq, near-refl, near-off}
 use Rattle.optext.proofs.Laws.Forms.{plain-reg, plain-pc, plain-up, plain-down, plain-offset, mode-plain, mode-at}
 use Rattle.optext.proofs.Laws.Back.{hex-back, reg-high, digit-low, digit-high, plain-sign}
 use Rattle.optext.proofs.Laws.Reserved.{addressed-same, from-same, from-ok, from-digits}
 use Rattle.optext.proofs.Laws.Pieces.{unHex-lt, near-hex1, near-hex2, near-arg6, near-count, near-hex4, near-reg, near-up, unReg-lt}
-use Rattle.optext.specs.Operands.{Allowed, again, PartOk}
+
+-- what a first word must be, beside its row's base op code, to have an operand of a kind
+abbrev pub Allowed : Kind → ℕ → Type 0
+Allowed None w = Unit {0}
+Allowed Mask w = Unit {0}
+Allowed Disp w = Unit {0}
+Allowed Reg w = Unit {0}
+Allowed Arg4 w = Unit {0}
+Allowed Arg6 w = Unit {0}
+Allowed Count w = Unit {0}
+Allowed High w = Unit {0}
+Allowed Mid w = Unit {0}
+Allowed Dst w = Unit {0}
+Allowed Addr w = 8 ≤ w % 64
+Allowed Src w = Unit {0}
+Allowed Word w = isReserved w ≡ true
+
+-- the text of the operand that is read
+abbrev pub again : Kind → Operand → List ℕ
+again k o = operandText k (o .part) (o .word)
+
+abbrev pub PartOk : Kind → ℕ → Type 0
+PartOk None a = a ≡ 0
+PartOk Mask a = a ≡ 0
+PartOk Disp a = a < 256
+PartOk Reg a = a < 8
+PartOk Arg4 a = a < 16
+PartOk Arg6 a = a < 64
+PartOk Count a = a < 16
+PartOk High a = (a / 64 * 64 ≡ a) × (a < 512)
+PartOk Mid a = (a / 8 * 8 ≡ a) × (a < 64)
+PartOk Dst a = a < 64
+PartOk Addr a = (8 ≤ a) × (a < 64)
+PartOk Src a = (a / 64 * 64 ≡ a) × (a < 4096)
+PartOk Word a = (isReserved a ≡ true) × (a < 65536)
 
 notPc-lt : (r : ℕ) → r < 8 → notPc r < 7
 unfolding notPc
@@ -156,9 +189,6 @@ plain-even t =
     (let b = unReg-lt (getD t 0 0) (getD t 1 0) in (omega arith, omega arith)))))
 
 -- a mode
-pub modeOf : Operand → List ℕ
-modeOf o = modeText (o .part) (o .word)
-
 mode-plain-of : (t : List ℕ) → (getD t 0 0 ≡ 64 → ⊥) → modeText (unMode t .part) (unMode t .word) ≡ plainOf (unPlain t)
 unfolding unMode
 mode-plain-of t n = rw (ne-eqb (getD t 0 0) 64 n) (mode-plain (unPlain t .part) (unPlain t .word) (plain-even t .0))

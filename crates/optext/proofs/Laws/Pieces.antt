@@ -1,5 +1,4 @@
 -- Each piece of the guess is the nearest of its kind to the text it is read from.
--- Assumes nothing.
 use mathlib.Core.Path.{_≡_, refl, sym, subst}
 use mathlib.Core.Logic.{_⊎_, ⊎-elim}
 use mathlib.Core.List.{List, [], _∷_}
@@ -14,7 +13,7 @@ use Rattle.optext.specs.Digits.{unHex, unHex4, unHex2}
 use Rattle.optext.specs.Line.{registers, regA, regB, regText}
 use Rattle.optext.specs.Guess.{unCount, unReg, notPc}
 use Rattle.optext.proofs.Laws.Choose.{eq-cases, lt-cases, at}
-use Rattle.optext.specs.Near.{Near}
+use Rattle.optext.proofs.Laws.Near.{Near}
 use Rattle.optext.proofs.Laws.Near.{near-nil, near-next, near-at, near-refl}
 use Rattle.optext.proofs.Laws.Back.{hex-back, reg-back}
 

@@ -1,4 +1,4 @@
--- Laws of specs/Read.antt.
+-- The reader as a function: it compares the text with the line of its guess.
 use mathlib.Core.Bool.{Bool, true, false, cond}
 use mathlib.Core.List.{List, [], _∷_}
 use mathlib.Core.Path.{_≡_, refl, sym}

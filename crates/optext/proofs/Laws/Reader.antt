@@ -1,5 +1,4 @@
 -- Theorems of the reader as a function: it undoes the writer, and is what the reader answers.
--- Assumes nothing.
 use mathlib.Core.Bool.{Bool, true, false, cond}
 use mathlib.Core.Path.{_≡_, refl, ap, sym, _∙_}
 use mathlib.Core.List.{List, [], _∷_, _++_}
@@ -24,7 +23,7 @@ use Rattle.optext.proofs.Laws.Back.{hex4-back}
 use Rattle.optext.proofs.Laws.Trip.{row-lt}
 use Rattle.optext.proofs.Laws.Furthest.{lt-w, lt-x, lt-y}
 use Rattle.optext.proofs.Laws.Meets.{text-words, whole-words}
-use Rattle.optext.specs.Columns.{guessLine}
+use Rattle.optext.proofs.Laws.Columns.{guessLine}
 use Rattle.optext.proofs.Laws.Columns.{own-line}
 use Rattle.optext.proofs.Laws.Theorems.{wordsIn, guess-words}
 

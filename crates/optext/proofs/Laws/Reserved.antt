@@ -1,5 +1,4 @@
 -- Which first words have no row of their own: the reserved op codes, and JSR and LEA with mode 0.
--- Assumes nothing.
 use mathlib.Core.Path.{_≡_, refl, sym, _∙_, subst}
 use mathlib.Core.Bool.{Bool, true, false, cond}
 use mathlib.Core.Logic.{⊎-elim}

@@ -1,5 +1,4 @@
 -- Which operands a row may have together, and the room that its base op code leaves for them: one test over the table, and one case for each pair of kinds.
--- Assumes nothing.
 use mathlib.Core.Path.{_≡_, ap, sym, _∙_, subst}
 use mathlib.Core.Bool.{Bool, false}
 use Prim.Native.Nat.{ℕ, _/_, _%_, _<_}

@@ -1,4 +1,4 @@
--- Laws of specs/Shown.antt.
+-- THE TEXT OF AN OP CODE STANDS IN A LINE OF A SOURCE AS IT IS: it fits the line, has no colon, and does not end with a space.
 use mathlib.Core.Path.{_≡_, refl}
 use mathlib.Core.Bool.{Bool, true, false, cond}
 use mathlib.Core.List.{List, [], _∷_, _++_}

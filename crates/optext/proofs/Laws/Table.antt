@@ -1,5 +1,4 @@
 -- Laws of the table of op codes: each is one test over its rows.
--- Assumes nothing.
 use mathlib.Core.Path.{_≡_, refl, ap, sym, _∙_}
 use mathlib.Core.Bool.{Bool, true, false, cond}
 use mathlib.Core.Logic.{⊎-elim}
@@ -41,10 +40,6 @@ unfolding theRow hex4
 table-at k i h g =
     sym (getD-drop (k * rowWidth) (flat rows) i 0) ∙ ap (λ (l : List ℕ). getD l i 0) (flat-drop rows k (rw row-count h))
     ∙ List·getD-append (lineOf (getD rows k noRow)) (drop (k * rowWidth + rowWidth) (flat rows)) 0 i g
-
-pub table-drop : (k : ℕ) → k < rowCount → drop (k * rowWidth) (flat rows) ≡ lineOf (theRow k) ++ drop (k * rowWidth + rowWidth) (flat rows)
-unfolding theRow
-table-drop k h = flat-drop rows k (rw row-count h)
 
 -- the five places of a mnemonic
 pub line-name : (r : Row) (i : ℕ) → i < 5 → getD (lineOf r) i 0 ≡ getD (r .name) i 32

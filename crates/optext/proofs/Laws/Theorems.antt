@@ -13,7 +13,7 @@ use Rattle.optext.specs.declared.ReadBack.{ReadBack}
 use Rattle.optext.specs.declared.ReadBack.the-variants.{Words, WordsShort, EarlyEnd, AfterText, UnknownName, BadOperand}
 use lib.Seq.{take-append-seam}
 use Rattle.letters.specs.Over.{over}
-use Rattle.optext.specs.Agree.{agree}
+use Rattle.optext.specs.First.{agree}
 use Rattle.optext.specs.Rows.{firstOf, secondOf}
 use Rattle.optext.specs.Line.{rowOf, takes, lineText, taken, textOf}
 use Rattle.optext.specs.Guess.{guess, guessOf}
@@ -23,7 +23,7 @@ use Rattle.optext.specs.Words.{Reads, own, wordsOf}
 use Rattle.optext.proofs.Laws.Once.{not-less, reads-one}
 use Rattle.optext.proofs.Laws.Choose.{no}
 use Rattle.optext.proofs.Laws.Forms.{takes-le}
-use Rattle.optext.specs.Back.{wordOf}
+use Rattle.optext.proofs.Laws.Back.{wordOf}
 use Rattle.optext.proofs.Laws.Back.{word-taken}
 use Rattle.optext.proofs.Laws.Trip.{guess-back}
 use Rattle.optext.proofs.Laws.Near.{agree-self}

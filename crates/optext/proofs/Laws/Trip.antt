@@ -1,5 +1,4 @@
 -- The guess at a line is the line's words.
--- Assumes nothing.
 use mathlib.Core.Path.{_≡_, refl, sym, _∙_}
 use mathlib.Core.Bool.{true, false}
 use mathlib.Core.Logic.{⊎-elim}
@@ -20,7 +19,7 @@ use Rattle.optext.proofs.Laws.Near.{agree-self}
 use Rattle.optext.proofs.Laws.Heads.{head-own}
 use Rattle.optext.proofs.Laws.Reserved.{last-reserved, from-same}
 use Rattle.optext.proofs.Laws.Forms.{sep-none, sep-some}
-use Rattle.optext.specs.Back.{wordOf}
+use Rattle.optext.proofs.Laws.Back.{wordOf}
 use Rattle.optext.proofs.Laws.Back.{op-back}
 
 pub row-lt : (w : ℕ) → rowOf w < rowCount

@@ -1,4 +1,4 @@
--- Laws of specs/Padded.antt.
+-- TEXTS AS THE LINES OF A SOURCE, each padded with spaces: the assembler finds every text again, and no label before it.
 use mathlib.Core.Path.{_≡_, refl, ap, _∙_}
 use mathlib.Core.Bool.{Bool, true, false, cond, not, _&&_}
 use mathlib.Core.List.{List, [], _∷_, _++_}
@@ -12,7 +12,13 @@ use Rattle.patchline.specs.Text.{isName, gives, nameIn, labelOf, endFrom, shown
 use Rattle.assembler.specs.Source.{countOf, lineAt, textAt}
 use Rattle.optext.specs.Shown.{Other, Without, none, more, lastOf, Stands}
 use Rattle.optext.proofs.Laws.Shown.{without-append, without-at}
-use Rattle.patches.specs.Padded.{padded, sourceOf, AllStand}
+use Rattle.patches.specs.Padded.{padded, sourceOf}
+
+-- ---- the lines of a source
+
+unfoldable pub AllStand : List (List ℕ) → Type 0
+AllStand [] = Unit {0}
+AllStand (t ∷ ts) = Stands t × AllStand ts
 
 not-at : (c x : ℕ) → Other c x → eqb x c ≡ false
 not-at c x h = go (eqb x c) (h .is)

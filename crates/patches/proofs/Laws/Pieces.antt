@@ -21,11 +21,12 @@ use Rattle.patchline.specs.Line.{op, says, saidOf, reaches}
 use Rattle.assembler.specs.Source.{countOf, textAt, saidAt, originAt, endAt, hereOf, isUnknown, isGiven, hasLabels, lacks, overlaps, isOdd, misplaced, isFar, far, valueOf}
 use Rattle.assembler.specs.Section.{inserted, entryOf, entered, placed, sectionOf}
 use Rattle.assembler.specs.Answer.{section, after, assembled}
-use Rattle.assembler.specs.Good.{Right}
+use Rattle.assembler.specs.Ends.{Right}
 use Rattle.assembler.proofs.Laws.Good.{no-first, nothing-wrong}
 use Rattle.patches.specs.Again.{originLine}
 use Rattle.patches.proofs.Laws.Again.{origin-again, origin-words, plain-words}
-use Rattle.patches.specs.Padded.{sourceOf, AllStand}
+use Rattle.patches.specs.Padded.{sourceOf}
+use Rattle.patches.proofs.Laws.Padded.{AllStand}
 use Rattle.patches.proofs.Laws.Padded.{source-lines, count-is, label-none, text-is}
 use Rattle.patches.specs.Pieces.{Piece, endOf, linesOf, entriesFrom, entriesOf, Good, Rise, PiecesAgain}
 

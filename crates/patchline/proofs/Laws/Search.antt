@@ -1,5 +1,4 @@
 -- Laws of searches for the first place that passes a test, beside those of optext Choose.
--- Assumes nothing.
 use mathlib.Core.Path.{_≡_, refl}
 use mathlib.Core.Bool.{Bool, true, false, cond}
 use Prim.Native.Nat.{ℕ, zero, suc, _-_, _≤_, _<_}

@@ -1,4 +1,4 @@
--- Laws of specs/Plate.antt.
+-- The program's table is the plate: one test over all 256 entries.
 use Prim.Native.Nat.{ℕ, zero, suc, _+_, _<_}
 use native.Mathlib.Nat.{add-zero, zero-add, add-suc, suc-add, le-of-suc-le-suc, not-suc-le-zero}
 use mathlib.Core.Path.{_≡_, sym, ap, _∙_}

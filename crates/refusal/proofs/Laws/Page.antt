@@ -1,4 +1,4 @@
--- Laws of specs/Page.antt.
+-- The first refusal met, and what is right where nothing is refused.
 use Prim.Native.Nat.{ℕ, zero, suc}
 use mathlib.Core.Path.{_≡_, refl}
 use native.Mathlib.Omega.{arith}

@@ -1,4 +1,4 @@
--- Laws of specs/Refusal.antt.
+-- Tests over all bytes of the map and over all line words, one by one.
 use Prim.Native.Nat.{ℕ, _+_, _<_, _≤_}
 use mathlib.Core.Bool.{Bool, true, false, cond, _||_, true≢false}
 use mathlib.Core.List.{List}

@@ -1,4 +1,4 @@
--- Laws of specs/Taken.antt.
+-- What is known after the calls that a job goes through before its first step: it was accepted, and its power-up is not refused.
 use Prim.Native.Nat.{ℕ, zero, suc, _≤_}
 use mathlib.Core.List.{List}
 use mathlib.Core.Path.{_≡_, refl, sym, ap, _∙_}
@@ -22,7 +22,17 @@ use Rattle.job.specs.declared.Answer.the-variants as Answer
 use Rattle.job.specs.Job.{after, linesAt, imageOf, mapOf, linesOf, lineWords, whyRead, pageOf, jobOf}
 use Rattle.job.proofs.Laws.Sound.{job-taken}
 use Rattle.report.specs.Report.{benchBoard}
-use Rattle.runjob.specs.Taken.{Read}
+
+-- ---- a job
+
+module _ (input image map lines : List ℕ) where
+  -- what is known of a job that was accepted
+  pub record Read (image′ map′ lines′ : List ℕ) (count : ℕ) : Type 0 where
+    pub none : whyRead (length image) (length map) (length lines) input ≡ 0
+    pub countIs : count ≡ wordAt input (linesAt input)
+    pub imageIs : image′ ≡ imageOf input
+    pub mapIs : map′ ≡ mapOf input
+    pub linesIs : lines′ ≡ linesOf input
 
 -- ---- a job
 

@@ -1,4 +1,4 @@
--- A number that is shifted stays within its w bits. Assumes nothing.
+-- A number that is shifted stays within its w bits.
 use Prim.Native.Nat.{ℕ, zero, suc, _-_, _*_, _^_, _<_}
 use mathlib.Core.Bool.{Bool, true, false}
 use mathlib.Core.Path.{_≡_, ap}

@@ -1,4 +1,4 @@
--- `speed::fit` is safe and ends. Each page is one of 256. Assumes nothing.
+-- `speed::fit` is safe and ends. Each page is one of 256.
 use borrow.Author.Needs.{needs}
 use Prim.Native.Nat.{_≤_, _-_}
 use lib.ListN.{length}

@@ -1,4 +1,4 @@
--- `speed::main` is safe and ends. The measure is what is left of the input. Assumes nothing.
+-- `speed::main` is safe and ends. The measure is what is left of the input.
 use borrow.Author.Needs.{needs}
 use Prim.Native.Nat.{_≤_, _-_}
 use Rattle.speed.proofs.main.Statement.{statement}

@@ -1,4 +1,4 @@
--- `speed::print_eight` is safe and ends. From the last digit to the first. Assumes nothing.
+-- `speed::print_eight` is safe and ends. From the last digit to the first.
 use borrow.Author.Needs.{needs}
 use Prim.Native.Nat.{_≤_, _-_}
 use Rattle.speed.proofs.print_eight.Statement.{statement}

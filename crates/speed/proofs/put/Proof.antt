@@ -1,4 +1,4 @@
--- `speed::put` is safe and ends. Each address is even, and below 65535. Assumes nothing.
+-- `speed::put` is safe and ends. Each address is even, and below 65535.
 use borrow.Author.Needs.{needs}
 use Prim.Native.Nat.{_≤_, _-_}
 use lib.ListN.{length}

@@ -1,4 +1,4 @@
--- `speed::repeat` is safe and ends. The measure is the runs that are left. Assumes nothing.
+-- `speed::repeat` is safe and ends. The measure is the runs that are left.
 use borrow.Author.Needs.{needs}
 use Prim.Native.Nat.{_≤_, _-_}
 use Rattle.speed.proofs.repeat.Statement.{statement}

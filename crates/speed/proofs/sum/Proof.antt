@@ -1,4 +1,4 @@
--- `speed::sum` is safe and ends. The measure is what is left of the image. Assumes nothing.
+-- `speed::sum` is safe and ends. The measure is what is left of the image.
 use borrow.Author.Needs.{needs}
 use Prim.Native.Nat.{_≤_, _-_}
 use lib.ListN.{length}

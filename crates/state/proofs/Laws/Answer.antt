@@ -1,7 +1,8 @@
--- Laws of specs/Answer.antt.
+-- From a callee's answer to the caller's: answered, or gone at a blank.
 use Prim.Native.Nat.{ℕ}
 use mathlib.Core.Path.{_≡_, refl, ap, _∙_}
-use Rattle.board.specs.Exec.{Store, good, gone, stateOf, keptAs}
+use Rattle.board.specs.Exec.{Store, good, gone, keptAs}
+use Rattle.board.proofs.Laws.Exec.{stateOf}
 use Rattle.board.specs.declared.Kept.{Kept}
 use Rattle.board.specs.declared.Kept.the-variants as Kept
 use Rattle.state.specs.declared.State.{State}

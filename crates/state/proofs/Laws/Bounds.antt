@@ -3,7 +3,7 @@ use Prim.Native.Nat.{ℕ}
 use native.Mathlib.Omega.{arith}
 use mathlib.Core.Bool.{Bool, true, false, cond}
 use Rattle.board.specs.Work.{Work, word}
-use Rattle.board.specs.Bounded.{Bounded, gives}
+use Rattle.board.proofs.Laws.Bounded.{Bounded, gives}
 use Rattle.board.proofs.Laws.Bounded.{bounded-then, bounded-load, bounded-store}
 use Rattle.state.specs.declared.State.{State}
 use Rattle.state.specs.Stack.{push, pushReg, pop, popReg, popStatus, fetch, fromLoc, pushBoth, trap, tabled}

@@ -1,4 +1,4 @@
--- Laws of specs/Registers.antt.
+-- A register that was set is read back, and the others stay.
 use Prim.Native.Nat.{ℕ, zero, suc, _<_, _≤_}
 use mathlib.Core.Bool.{cond}
 use mathlib.Core.List.{[], _∷_}

@@ -1,4 +1,4 @@
--- Laws of specs/State.antt.
+-- The named updates leave the other fields as they were.
 use Prim.Native.Nat.{ℕ, _≤_}
 use mathlib.Core.Bool.{Bool, true, false, cond}
 use mathlib.Core.Path.{_≡_, ap, _∙_}

@@ -1,10 +1,10 @@
--- Laws of specs/Alike.antt.
+-- Demand 3 over the definitions, for a step: what stands at unfitted addresses can influence nothing.
 use Prim.Native.Nat.{ℕ}
 use mathlib.Core.List.{List}
 use mathlib.Core.Path.{_≡_, refl}
 use lib.ListN.{length, getD}
-use Rattle.board.specs.Work.{Work, Came, value, blank, run}
-use Rattle.board.specs.Alike.{Agree, Alike, both, neither}
+use Rattle.board.specs.Work.{Work, Came, value, blank, run, Agree, Untouched}
+use Rattle.board.proofs.Laws.Alike.{Alike, both, neither}
 use Rattle.board.proofs.Laws.Alike.{alike, kept}
 use Rattle.state.specs.declared.State.{State}
 use Rattle.state.specs.declared.Outside.{Outside}
@@ -12,7 +12,6 @@ use Rattle.state.specs.declared.Settings.{Settings}
 use Rattle.state.specs.State.{cleared, heard}
 use Rattle.step.specs.declared.Cause.{Cause}
 use Rattle.step.specs.Step.{After, stepOf, errorOf, orElse, Up, orLocked, powerUpOption, powerUpOf, kindOf, workOf, busError, causeOf, errorCauseOf}
-use Rattle.step.specs.Alike.{Untouched}
 
 -- ---- two images that agree on fitted bytes
 

@@ -1,4 +1,5 @@
--- Laws of specs/Block.antt.
+-- A block move's steps, where its microm is fitted, nothing is heard, no element meets a blank, nothing is written over the op code, and
+-- neither register is R0 or PC.
 use Prim.Native.Nat.{ℕ, zero, suc, _*_, _/_, _%_, _<_, _≤_}
 use native.Mathlib.Omega.{arith}
 use native.Mathlib.Decide.{ℕ-discrete}
@@ -9,8 +10,7 @@ use lib.Dec.{eqb}
 use borrow.Author.Tests.{ne-eqb, eqb-true, eqb-false}
 use Rattle.plate.specs.Plate.{formatOf}
 use Rattle.word.specs.Address.{plus, minus}
-use Rattle.board.specs.Work.{Size, value, run, fitted, writable, wordAt, get, put}
-use Rattle.board.specs.Bind.{_>>=_}
+use Rattle.board.specs.Work.{Size, value, run, fitted, writable, wordAt, get, put, _>>=_}
 use Rattle.board.proofs.Laws.Follows.{run-then, put-apart}
 use Rattle.state.specs.declared.State.{State}
 use Rattle.state.specs.declared.Outside.{Outside}
@@ -85,23 +85,9 @@ all-left s h = counting (reg s 0) (eqb (reg s 0) 0) refl h refl
     counting c true e h i = let z = eqb-true c 0 e in record { togo = omega arith; some = omega arith; most = omega arith }
     counting c false e h i = let z = eqb-false c 0 e in record { togo = omega arith; some = omega (arith, z); most = omega arith }
 
--- the address of the element k, in numbers
-pub along-is : (d k a : ℕ) → a < 65536 → along d k a ≡ plus a (k * d)
-unfolding along
-along-is d zero a h = omega arith
-along-is d (suc k) a h = along-is d k (plus a d) (omega arith) ∙ sum d k a
-  where
-    sum : (d k a : ℕ) → plus (plus a d) (k * d) ≡ plus a (suc k * d)
-    sum d k a = omega arith
-
 pub unheard-disabled : (out : Outside) → out .i3 ≡ false → Unheard false out
 unfolding kindIn
 unheard-disabled out e = rw e
-
-pub unheard-quiet : (hearing : Bool) (out : Outside) → out .i3 ≡ false → out .i1 ≡ false → out .i0 ≡ false → Unheard hearing out
-unfolding kindIn
-unheard-quiet true out e f g = rw (e, f, g)
-unheard-quiet false out e f g = rw e
 
 -- what an unmarked state doesn't hear, a marked one doesn't
 unheard-false : (hearing : Bool) (out : Outside) → Unheard hearing out → Unheard false out

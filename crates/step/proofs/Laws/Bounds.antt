@@ -5,7 +5,7 @@ use mathlib.Core.Bool.{Bool}
 use lib.Dec.{eqb}
 use Rattle.plate.specs.Plate.{formatOf}
 use Rattle.board.specs.Work.{word}
-use Rattle.board.specs.Bounded.{Bounded, gives}
+use Rattle.board.proofs.Laws.Bounded.{Bounded, gives}
 use Rattle.board.proofs.Laws.Bounded.{bounded-then, bounded-more, bounded-load, bounded-store}
 use Rattle.state.specs.declared.State.{State}
 use Rattle.state.specs.declared.Outside.{Outside}

@@ -4,8 +4,7 @@ use native.Mathlib.Omega.{arith}
 use mathlib.Core.Bool.{true, false}
 use mathlib.Core.List.{List}
 use mathlib.Core.Path.{_≡_, refl, sym, ap, _∙_}
-use Rattle.board.specs.Work.{value, blank, run, fitted, writable, withWord}
-use Rattle.board.specs.Bind.{_>>=_}
+use Rattle.board.specs.Work.{value, blank, run, fitted, writable, withWord, _>>=_}
 use Rattle.board.proofs.Laws.Alike.{found-value}
 use Rattle.state.specs.declared.State.{State}
 use Rattle.state.specs.declared.Outside.{Outside}

@@ -6,9 +6,8 @@ use mathlib.Core.Path.{_≡_, refl, sym, ap, _∙_}
 use native.Mathlib.Omega.{arith}
 use lib.ListN.{set, replicate, getD}
 use Rattle.board.specs.Work.{value, blank, run}
-use Rattle.board.specs.Exec.{beside, Lent, Board}
+use Rattle.board.specs.Exec.{beside, Lent, Board, undone}
 use Rattle.board.proofs.Laws.Ended.{Fresh}
-use Rattle.board.specs.Undo.{undone}
 use Rattle.board.proofs.Laws.Undo.{none-left, board-fresh, board-back}
 use Rattle.state.specs.declared.State.{State}
 use Rattle.state.specs.declared.Outside.{Outside}

@@ -1,11 +1,10 @@
--- Laws of specs/Jumpers.antt.
+-- With the jumpers 11 and 11 every step and every power-up is what it is without jumpers: the same PS, the same kinds from modes 0 to 4, the same power-up, on every state, image and line.
 use Prim.Native.Nat.{ℕ, _≤_}
 use native.Mathlib.Omega.{arith}
 use mathlib.Core.Bool.{Bool, true, false}
 use mathlib.Core.List.{List}
 use mathlib.Core.Path.{_≡_, refl, ap}
-use Rattle.board.specs.Work.{value, run, fitted, wordAt, found}
-use Rattle.board.specs.Bind.{_>>=_}
+use Rattle.board.specs.Work.{value, run, fitted, wordAt, found, _>>=_}
 use Rattle.state.specs.declared.State.{State}
 use Rattle.state.specs.declared.Outside.{Outside}
 use Rattle.state.specs.declared.Settings.{Settings}

@@ -1,13 +1,12 @@
--- Laws of specs/Late.antt.
+-- IEN is one op code late: where it found I2 clear, exactly one more op code is executed before I0 or I1 is heard; where it found I2 set, none.
 use Prim.Native.Nat.{ℕ}
 use native.Mathlib.Omega.{arith}
 use mathlib.Core.Bool.{Bool, true, false, not, _&&_, _||_, cond}
 use mathlib.Core.List.{List}
 use mathlib.Core.Path.{_≡_, refl, sym, ap, _∙_}
 use lib.Dec.{eqb}
-use Rattle.board.specs.Work.{give, fitted, writable, wordAt, value, run}
+use Rattle.board.specs.Work.{give, fitted, writable, wordAt, value, run, _>>=_}
 use Rattle.board.proofs.Laws.Alike.{found-value}
-use Rattle.board.specs.Bind.{_>>=_}
 use Rattle.state.specs.declared.State.{State}
 use Rattle.state.specs.declared.Outside.{Outside}
 use Rattle.state.specs.declared.Mode.the-variants.{Running}

@@ -1,4 +1,4 @@
--- Laws of specs/Places.antt.
+-- The nine places, one by one.
 use Prim.Native.Nat.{ℕ}
 use mathlib.Core.Path.{_≡_, ap, _∙_}
 use Rattle.board.specs.Exec.{Store, gone}

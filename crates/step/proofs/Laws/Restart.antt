@@ -1,11 +1,11 @@
--- Laws of specs/Restart.antt.
+-- WHY CAUSE 7 IS NEVER GIVEN: a step that can't fetch 16 can't fetch 12 either. Both lie on page 0, and a read asks only that the page is fitted; so its bus error fails too, and it locks.
+-- The same holds of all work that only reads page 0, and so of the end of a save.
 use Prim.Native.Nat.{ℕ, _/_}
 use native.Mathlib.Omega.{arith}
 use mathlib.Core.Bool.{Bool, true, false}
 use mathlib.Core.List.{List}
 use mathlib.Core.Path.{_≡_, refl, sym, ap, _∙_}
-use Rattle.board.specs.Work.{Work, Came, value, blank, run, fitted, writable, found, get}
-use Rattle.board.specs.Bind.{_>>=_}
+use Rattle.board.specs.Work.{Work, Came, value, blank, run, fitted, writable, found, get, _>>=_}
 use Rattle.state.specs.declared.State.{State}
 use Rattle.state.specs.declared.Outside.{Outside}
 use Rattle.state.specs.declared.Mode.the-variants.{Locked}
@@ -17,7 +17,7 @@ use Rattle.step.specs.declared.Cause.the-variants.{LockedAt}
 use Rattle.step.specs.Places.{placeOf, pickUp, pickUpRegisters, restore}
 use Rattle.step.specs.Step.{After, after, orElse, restart, past, kindOf, workOf, busError, errorCauseOf, errorOf, stepOf}
 use Rattle.step.proofs.Laws.Ends.{step-ill}
-use Rattle.step.specs.Restart.{Low, gives, reads}
+use Rattle.step.specs.Told.{Low, gives, reads}
 
 -- the end of a halt, and the option that fetches from 16
 pub restart-low : (s : State) → Low (restart s)

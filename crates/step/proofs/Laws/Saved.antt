@@ -1,4 +1,4 @@
--- Laws of specs/Saved.antt.
+-- A RESTORE AFTER A SAVE, with nothing changed between, gives back registers, PC, indicators and I2; the mode is running, whatever it was.
 use Prim.Native.Nat.{ℕ, zero, suc, _+_, _*_, _/_, _%_, _<_, _≤_}
 use native.Mathlib.Omega.{arith}
 use native.Mathlib.Decide.{ℕ-discrete}
@@ -9,8 +9,7 @@ use lib.Dec.{eqb}
 use lib.ListN.{length, getD, set, length-set}
 use lib.Seq.{getD-set-same, getD-set-other}
 use borrow.Author.Tests.{eqb-true}
-use Rattle.board.specs.Work.{word, value, run, fitted, writable, even, wordAt, withWord}
-use Rattle.board.specs.Bind.{_>>=_}
+use Rattle.board.specs.Work.{word, value, run, fitted, writable, even, wordAt, withWord, _>>=_}
 use Rattle.board.proofs.Laws.{size-put}
 use Rattle.board.proofs.Laws.Follows.{put-apart}
 use Rattle.word.specs.Number.{digit}

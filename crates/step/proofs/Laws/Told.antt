@@ -1,4 +1,4 @@
--- Laws of specs/Told.antt.
+-- Which address a step tells: that of the first access, in the manual's order, that finds nothing fitted; in the work that is dropped, never in the trap.
 use Prim.Native.Nat.{ℕ}
 use native.Mathlib.Omega.{arith}
 use mathlib.Core.Bool.{Bool, true, false, cond}

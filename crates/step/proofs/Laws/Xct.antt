@@ -1,4 +1,4 @@
--- Laws of specs/Xct.antt.
+-- XCT in the order in which the code goes.
 use Prim.Native.Nat.{ℕ}
 use mathlib.Core.Bool.{Bool, true, false, not, cond}
 use mathlib.Core.List.{List}

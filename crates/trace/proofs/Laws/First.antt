@@ -1,4 +1,4 @@
--- Laws of specs/First.antt.
+-- A WRONG TRACE IS TOLD BY ITS FIRST FAULT: the first wrong step and its first wrong field, or the first missing or extra step.
 use Prim.Native.Nat.{ℕ, zero, suc, _+_, _-_, _≤_}
 use mathlib.Core.Bool.{Bool, true, false, cond}
 use mathlib.Core.List.{List, [], _∷_}

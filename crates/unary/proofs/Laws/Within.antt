@@ -1,4 +1,4 @@
--- A byte's result is a byte. Assumes nothing.
+-- A byte's result is a byte.
 use Prim.Native.Nat.{ℕ, _-_, _<_}
 use mathlib.Core.Bool.{Bool}
 use native.Mathlib.Omega.{arith}

@@ -1,4 +1,4 @@
--- `vectors::run_table` is safe and ends. Each line ends behind the place where it begins. Assumes nothing.
+-- `vectors::run_table` is safe and ends. Each line ends behind the place where it begins.
 use borrow.Author.Needs.{needs}
 use Prim.Native.Nat.{_-_}
 use lib.ListN.{length}

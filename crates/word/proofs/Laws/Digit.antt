@@ -1,4 +1,4 @@
--- A bool's number is at most 1, and what it takes of a weight is at most that weight. Assumes nothing.
+-- A bool's number is at most 1, and what it takes of a weight is at most that weight.
 use Prim.Native.Nat.{ℕ, _*_, _≤_}
 use mathlib.Core.Bool.{Bool, true, false}
 use native.Mathlib.Omega.{arith}

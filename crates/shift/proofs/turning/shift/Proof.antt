@@ -1,4 +1,4 @@
--- The loop's invariant: after i turns s is the start turned i times. The measure is what is left of the count. Assumes nothing.
+-- The loop's invariant: after i turns s is the start turned i times. The measure is what is left of the count.
 use Prim.Native.Nat.{_-_, _≤_}
 use mathlib.Core.Path.{_≡_, refl, sym, ap, _∙_}
 use native.Mathlib.Omega.{arith}

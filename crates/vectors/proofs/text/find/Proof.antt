@@ -1,4 +1,4 @@
--- `vectors::text::find` is safe and ends. The measure is what is left of the text. Assumes nothing.
+-- `vectors::text::find` is safe and ends. The measure is what is left of the text.
 use borrow.Author.Needs.{needs}
 use Prim.Native.Nat.{_≤_, _-_}
 use lib.ListN.{length}

@@ -1,4 +1,4 @@
--- `vectors::text::hex` is safe and ends. The measure is what is left of the word. Assumes nothing.
+-- `vectors::text::hex` is safe and ends. The measure is what is left of the word.
 use borrow.Author.Needs.{needs}
 use Prim.Native.Nat.{_-_}
 use lib.ListN.{length}

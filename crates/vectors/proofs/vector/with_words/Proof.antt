@@ -1,4 +1,4 @@
--- `vectors::vector::with_words` is safe and ends. Each word ends behind the place where it begins. Assumes nothing.
+-- `vectors::vector::with_words` is safe and ends. Each word ends behind the place where it begins.
 use borrow.Author.Needs.{needs}
 use mathlib.Core.Path.{_≡_}
 use Prim.Native.Nat.{_-_}
