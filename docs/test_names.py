@@ -86,7 +86,7 @@ def wrong_names(text, names):
 
 
 def wrong_files(text):
-    for path in re.findall(r"(?<![\w/])(?:crates|docs|edits|c|jobs|compare)/[\w./-]*\w", text):
+    for path in re.findall(r"(?<![\w/])(?:crates|docs|edits|c|jobs|compare|believed)/[\w./-]*\w", text):
         if not os.path.exists(os.path.join(ROOT, path)):
             yield f"{path}: no such file"
 
