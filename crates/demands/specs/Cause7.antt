@@ -5,10 +5,10 @@ use mathlib.Core.Path.{_≡_}
 use Rattle.state.specs.declared.State.{State}
 use Rattle.state.specs.declared.Settings.{Settings}
 use Rattle.step.specs.Step.{causeNumber}
-use Rattle.refusal.specs.Page.{answered}
+use Rattle.refusal.specs.Page.{answered, left}
 use Rattle.machine.specs.declared.Stepped.{Stepped}
 use Rattle.machine.specs.Numbers.{TurnPage}
-use Rattle.machine.specs.Entry.{left, steppedPage, stepPage}
+use Rattle.machine.specs.Entry.{steppedPage, stepPage}
 use Rattle.machine.specs.Trail.{trailOf, causeAt}
 
 -- A STEP

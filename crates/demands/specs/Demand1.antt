@@ -12,14 +12,13 @@ use lib.ListN.{length}
 use Rattle.state.specs.declared.State.{State}
 use Rattle.state.specs.declared.Settings.{Settings}
 use Rattle.refusal.specs.Numbers.{noState, wordsOdd, textShort}
-use Rattle.refusal.specs.Page.{first}
+use Rattle.refusal.specs.Page.{first, left, told}
 use Rattle.machine.specs.declared.Powered.{Powered}
 use Rattle.machine.specs.declared.Stepped.{Stepped}
 use Rattle.machine.specs.declared.Finished.{Finished}
-use Rattle.machine.specs.Entry.{powerWhy, stepWhy, runWhy, poweredPage, powerUpPage, left, steppedPage, stepPage, finishedPage, runPage}
+use Rattle.machine.specs.Entry.{powerWhy, stepWhy, runWhy, poweredPage, powerUpPage, steppedPage, stepPage, finishedPage, runPage}
 use Rattle.firmware.specs.Layout.{settingsFrom, refusedUp, refusedStep, refusedRun}
-use Rattle.firmware.specs.Calls.{powerUpCall, went, stepCall, runCall}
-use Rattle.firmware.specs.Calls as Calls
+use Rattle.firmware.specs.Calls.{powerUpCall, stepCall, runCall}
 use Rattle.job.specs.declared.Answer.{Answer}
 use Rattle.job.specs.Job.{whyJob, whyRead, pageOf, after, jobOf}
 use Rattle.letters.specs.Over.{Left, written}
@@ -29,7 +28,8 @@ use Rattle.optext.specs.Answer.{writtenAs, readAs, Writes, WritesWord}
 use Rattle.optext.specs.Column.{Column}
 use Rattle.optext.specs.Words.{Reads}
 use Rattle.line.specs.Line.{refusedText}
-use Rattle.runjob.specs.Bench.{told, benchOf}
+use Rattle.runjob.specs.Bench.{benchOf}
+use Rattle.runjob.specs.Bench as Bench
 use Rattle.listing.specs.declared.Listed.{Listed}
 use Rattle.listing.specs.Calls.{listedPage, lineWhy, lineCall}
 use Rattle.listing.specs.Calls as Listing
@@ -73,7 +73,7 @@ JobAnswers = (input image map lines : List ℕ) (r : Answer) (image′ map′ li
 -- BENCH, from the job's bytes to the line: REFUSED and the number, and every other buffer as it was lent
 abbrev pub BenchAnswers : Type 0
 BenchAnswers = (input text image map lines : List ℕ) (line : Left) (image′ map′ lines′ : List ℕ)
-    → told line image′ map′ lines′ ≡ benchOf input text image map lines
+    → Bench.told line image′ map′ lines′ ≡ benchOf input text image map lines
     → (whyRead (length image) (length map) (length lines) input ≡ 0 → ⊥)
     → (line ≡ written (refusedText (whyRead (length image) (length map) (length lines) input)) text) × (image′ ≡ image) × (map′ ≡ map) × (lines′ ≡ lines)
 
@@ -113,15 +113,15 @@ MakeAnswers = (input out image map lines : List ℕ) (r : Made) (out′ image′
 
 -- THE SAME FOR C, whose answer is the number: 21 before the others. w are the settings' bytes
 abbrev pub Wd16PowerUpAnswers : Type 0
-Wd16PowerUpAnswers = (b m map w : List ℕ) (number : ℕ) (b′ m′ : List ℕ) → went number b′ m′ ≡ powerUpCall b m map w
+Wd16PowerUpAnswers = (b m map w : List ℕ) (number : ℕ) (b′ m′ : List ℕ) → told number (b′, m′) ≡ powerUpCall b m map w
     → Numbered (first (cond (refusedUp b w) noState 0) (powerWhy (settingsFrom w) m map)) number ((b′ ≡ b) × (m′ ≡ m))
 
 abbrev pub Wd16StepAnswers : Type 0
-Wd16StepAnswers = (b m map w : List ℕ) (line number : ℕ) (b′ m′ : List ℕ) → went number b′ m′ ≡ stepCall b m map w line
+Wd16StepAnswers = (b m map w : List ℕ) (line number : ℕ) (b′ m′ : List ℕ) → told number (b′, m′) ≡ stepCall b m map w line
     → Numbered (first (cond (refusedStep b w) noState 0) (stepWhy (settingsFrom w) m map line)) number ((b′ ≡ b) × (m′ ≡ m))
 
 abbrev pub Wd16RunAnswers : Type 0
-Wd16RunAnswers = (b t m map w lines : List ℕ) (number : ℕ) (b′ t′ m′ : List ℕ) → Calls.ended number b′ t′ m′ ≡ runCall b t m map w lines
+Wd16RunAnswers = (b t m map w lines : List ℕ) (number : ℕ) (b′ t′ m′ : List ℕ) → told number (b′, t′, m′) ≡ runCall b t m map w lines
     → Numbered (first (cond (refusedRun b t w) noState 0) (runWhy (settingsFrom w) m map lines)) number ((b′ ≡ b) × (t′ ≡ t) × (m′ ≡ m))
 
 -- the text written: 38, 8, 6, 7. a is the answer's buffer

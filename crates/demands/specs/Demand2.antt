@@ -11,12 +11,12 @@ use Rattle.state.specs.declared.Settings.{Settings}
 use Rattle.state.specs.State.{heard}
 use Rattle.step.specs.declared.Cause.the-variants as Cause
 use Rattle.step.specs.Step.{After, after, stepOf, powerUpOf}
-use Rattle.refusal.specs.Page.{answered}
+use Rattle.refusal.specs.Page.{answered, left}
 use Rattle.machine.specs.declared.Powered.{Powered}
 use Rattle.machine.specs.declared.Stepped.{Stepped}
 use Rattle.machine.specs.declared.Finished.{Finished}
 use Rattle.machine.specs.Numbers.{StatePage, TurnPage, RanPage}
-use Rattle.machine.specs.Entry.{poweredPage, powered, powerUpPage, left, steppedPage, turned, stepPage, finishedPage, runPage}
+use Rattle.machine.specs.Entry.{poweredPage, powered, powerUpPage, steppedPage, turned, stepPage, finishedPage, runPage}
 use Rattle.machine.specs.Trail.{trailOf, lastOf}
 use Rattle.machine.specs.Answered.{shown}
 

@@ -11,15 +11,15 @@ use Rattle.state.specs.declared.Settings.{Settings}
 use Rattle.state.specs.State.{heard}
 use Rattle.step.specs.Step.{stepOf, causeNumber, isBlank}
 use Rattle.step.specs.Told.{accesses, StopsAt}
-use Rattle.refusal.specs.Page.{answered}
+use Rattle.refusal.specs.Page.{answered, left, told}
 use Rattle.machine.specs.declared.Powered.{Powered}
 use Rattle.machine.specs.declared.Stepped.{Stepped}
 use Rattle.machine.specs.declared.Finished.{Finished}
 use Rattle.machine.specs.Numbers.{TurnPage, RanPage}
-use Rattle.machine.specs.Entry.{poweredPage, powerUpPage, left, steppedPage, stepPage, finishedPage, runPage}
+use Rattle.machine.specs.Entry.{poweredPage, powerUpPage, steppedPage, stepPage, finishedPage, runPage}
 use Rattle.machine.specs.Blind.{Blind}
 use Rattle.machine.specs.Trail.{trailOf, blanksIn, Least}
-use Rattle.firmware.specs.Calls.{powerUpCall, went, stepCall, ended, runCall}
+use Rattle.firmware.specs.Calls.{powerUpCall, stepCall, runCall}
 use Rattle.listing.specs.declared.Listed.{Listed}
 use Rattle.listing.specs.Calls.{listedPage, lineCall}
 use Rattle.listing.specs.Calls as Listing
@@ -47,15 +47,15 @@ module _ (settings : Settings) (map m n : List ℕ) (l : length m ≡ length n) 
 -- the same for C: the number, the state's bytes, the tally's; w are the settings' bytes
 module _ (w map m n : List ℕ) (l : length m ≡ length n) (g : Agree map m n) where
   abbrev pub Wd16PowerUpBlind : Type 0
-  Wd16PowerUpBlind = (b : List ℕ) (k j : ℕ) (b₁ b₂ m′ n′ : List ℕ) → went k b₁ m′ ≡ powerUpCall b m map w → went j b₂ n′ ≡ powerUpCall b n map w
+  Wd16PowerUpBlind = (b : List ℕ) (k j : ℕ) (b₁ b₂ m′ n′ : List ℕ) → told k (b₁, m′) ≡ powerUpCall b m map w → told j (b₂, n′) ≡ powerUpCall b n map w
       → Blind {A = ℕ × List ℕ} map m n (k, b₁) (j, b₂) m′ n′
 
   abbrev pub Wd16StepBlind : Type 0
-  Wd16StepBlind = (b : List ℕ) (line k j : ℕ) (b₁ b₂ m′ n′ : List ℕ) → went k b₁ m′ ≡ stepCall b m map w line → went j b₂ n′ ≡ stepCall b n map w line
+  Wd16StepBlind = (b : List ℕ) (line k j : ℕ) (b₁ b₂ m′ n′ : List ℕ) → told k (b₁, m′) ≡ stepCall b m map w line → told j (b₂, n′) ≡ stepCall b n map w line
       → Blind {A = ℕ × List ℕ} map m n (k, b₁) (j, b₂) m′ n′
 
   abbrev pub Wd16RunBlind : Type 0
-  Wd16RunBlind = (b t lines : List ℕ) (k j : ℕ) (b₁ b₂ t₁ t₂ m′ n′ : List ℕ) → ended k b₁ t₁ m′ ≡ runCall b t m map w lines → ended j b₂ t₂ n′ ≡ runCall b t n map w lines
+  Wd16RunBlind = (b t lines : List ℕ) (k j : ℕ) (b₁ b₂ t₁ t₂ m′ n′ : List ℕ) → told k (b₁, t₁, m′) ≡ runCall b t m map w lines → told j (b₂, t₂, n′) ≡ runCall b t n map w lines
       → Blind {A = ℕ × List ℕ × List ℕ} map m n (k, b₁, t₁) (j, b₂, t₂) m′ n′
 
 -- a line of a listing: the same answer, and the same text

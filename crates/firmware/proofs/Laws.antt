@@ -22,12 +22,13 @@ use Rattle.machine.specs.declared.Stepped.the-variants as Stepped
 use Rattle.machine.specs.declared.Finished.{Finished}
 use Rattle.machine.specs.declared.Finished.the-variants as Finished
 use Rattle.refusal.specs.Numbers.{noState}
+use Rattle.refusal.specs.Page.{left, told}
 use Rattle.refusal.proofs.Laws.Refusal.{neither}
 use Rattle.machine.specs.Numbers.{statePage, nowhere, toldOf, placeOf}
-use Rattle.machine.specs.Entry.{left, poweredPage, steppedPage, finishedPage, powerUpPage, stepPage, runPage}
+use Rattle.machine.specs.Entry.{poweredPage, steppedPage, finishedPage, powerUpPage, stepPage, runPage}
 use Rattle.firmware.specs.Layout.{bytesOf, tallyBytes, stateFrom, settingsFrom, over, notState, notTally, refusedState, refusedSettings, refusedUp, refusedStep, refusedRun, laid}
 use Rattle.firmware.proofs.Laws.Laid.{laid-all, laid-state, laid-tally}
-use Rattle.firmware.specs.Calls.{powerUpCall, went, stepCall, ended, runCall}
+use Rattle.firmware.specs.Calls.{powerUpCall, stepCall, runCall}
 
 -- bytes are copied over a buffer of as many, and another is left as lent
 pub laid-copy : (bytes from b b′ : List ℕ) → from ≡ bytes → length b ≡ length bytes → b′ ≡ take (length from) from ++ drop (length from) b → b′ ≡ laid bytes b
@@ -61,55 +62,55 @@ tally-length b t w e = eqb-true _ _ (not-false _ (neither (refusedStep b w) (not
 -- ---- power-up
 
 module _ (b image map w : List ℕ) where
-  pub up-bad : refusedUp b w ≡ true → went noState b image ≡ powerUpCall b image map w
+  pub up-bad : refusedUp b w ≡ true → told noState (b, image) ≡ powerUpCall b image map w
   unfolding powerUpCall
   up-bad e = rw e
 
   pub up-done : (b′ m : List ℕ) (g : Settings) (s : State) (r : Powered) → refusedUp b w ≡ false → g ≡ settingsFrom w → left (poweredPage r) m ≡ powerUpPage g image map
-      → r ≡ Powered.Up s → b′ ≡ laid (bytesOf (statePage s) 0 nowhere) b → went 0 b′ m ≡ powerUpCall b image map w
+      → r ≡ Powered.Up s → b′ ≡ laid (bytesOf (statePage s) 0 nowhere) b → told 0 (b′, m) ≡ powerUpCall b image map w
   unfolding powerUpCall
   up-done b′ m g s r e j f h d = rw (e, ← j, ← f, h, d, laid-state b s 0 nowhere (up-length b w e))
 
   pub up-refused : (m : List ℕ) (g : Settings) (why : ℕ) (r : Powered) → refusedUp b w ≡ false → g ≡ settingsFrom w → left (poweredPage r) m ≡ powerUpPage g image map
-      → r ≡ Powered.Refused why → went why b m ≡ powerUpCall b image map w
+      → r ≡ Powered.Refused why → told why (b, m) ≡ powerUpCall b image map w
   unfolding powerUpCall
   up-refused m g why r e j f h = rw (e, ← j, ← f, h)
 
 -- ---- one step
 
 module _ (b image map w : List ℕ) (line : ℕ) where
-  pub went-bad : refusedStep b w ≡ true → went noState b image ≡ stepCall b image map w line
+  pub went-bad : refusedStep b w ≡ true → told noState (b, image) ≡ stepCall b image map w line
   unfolding stepCall
   went-bad e = rw e
 
-  pub went-done : (b′ m : List ℕ) (s : State) (g : Settings) (t : Turn) (r : Stepped) (k : ℕ) (told : Told) → refusedStep b w ≡ false → s ≡ stateFrom b → g ≡ settingsFrom w
-      → left (steppedPage r) m ≡ stepPage g image map line s → r ≡ Stepped.Done t → k ≡ causeNumber (t .cause) → told ≡ addressOf (t .cause)
-      → b′ ≡ laid (bytesOf (statePage (t .state)) k (toldOf told)) b → went 0 b′ m ≡ stepCall b image map w line
+  pub went-done : (b′ m : List ℕ) (s : State) (g : Settings) (t : Turn) (r : Stepped) (k : ℕ) (at : Told) → refusedStep b w ≡ false → s ≡ stateFrom b → g ≡ settingsFrom w
+      → left (steppedPage r) m ≡ stepPage g image map line s → r ≡ Stepped.Done t → k ≡ causeNumber (t .cause) → at ≡ addressOf (t .cause)
+      → b′ ≡ laid (bytesOf (statePage (t .state)) k (toldOf at)) b → told 0 (b′, m) ≡ stepCall b image map w line
   unfolding stepCall
-  went-done b′ m s g t r k told e f j p h c a d =
-      rw (e, ← f, ← j, ← p, h, d, laid-state b (t .state) k (toldOf told) (step-length b w e), c, a)
+  went-done b′ m s g t r k at e f j p h c a d =
+      rw (e, ← f, ← j, ← p, h, d, laid-state b (t .state) k (toldOf at) (step-length b w e), c, a)
 
   pub went-refused : (m : List ℕ) (s : State) (g : Settings) (why : ℕ) (r : Stepped) → refusedStep b w ≡ false → s ≡ stateFrom b → g ≡ settingsFrom w
-      → left (steppedPage r) m ≡ stepPage g image map line s → r ≡ Stepped.Refused why → went why b m ≡ stepCall b image map w line
+      → left (steppedPage r) m ≡ stepPage g image map line s → r ≡ Stepped.Refused why → told why (b, m) ≡ stepCall b image map w line
   unfolding stepCall
   went-refused m s g why r e f j p h = rw (e, ← f, ← j, ← p, h)
 
 -- ---- a run
 
 module _ (b t image map w lines : List ℕ) where
-  pub ended-bad : refusedRun b t w ≡ true → ended noState b t image ≡ runCall b t image map w lines
+  pub ended-bad : refusedRun b t w ≡ true → told noState (b, t, image) ≡ runCall b t image map w lines
   unfolding runCall
   ended-bad e = rw e
 
   pub ended-done : (b′ t′ m : List ℕ) (s : State) (g : Settings) (ran : Ran) (r : Finished) → refusedRun b t w ≡ false → s ≡ stateFrom b → g ≡ settingsFrom w
       → left (finishedPage r) m ≡ runPage g image map lines s → r ≡ Finished.Done ran
       → b′ ≡ laid (bytesOf (statePage (ran .state)) 0 nowhere) b → t′ ≡ laid (tallyBytes (ran .tally .blanks) (placeOf (ran .tally .first))) t
-      → ended 0 b′ t′ m ≡ runCall b t image map w lines
+      → told 0 (b′, t′, m) ≡ runCall b t image map w lines
   unfolding runCall
   ended-done b′ t′ m s g ran r e f j p h d q =
       rw (e, ← f, ← j, ← p, h, d, laid-state b (ran .state) 0 nowhere (run-length b t w e), q, laid-tally t (ran .tally .blanks) (placeOf (ran .tally .first)) (tally-length b t w e))
 
   pub ended-refused : (m : List ℕ) (s : State) (g : Settings) (why : ℕ) (r : Finished) → refusedRun b t w ≡ false → s ≡ stateFrom b → g ≡ settingsFrom w
-      → left (finishedPage r) m ≡ runPage g image map lines s → r ≡ Finished.Refused why → ended why b t m ≡ runCall b t image map w lines
+      → left (finishedPage r) m ≡ runPage g image map lines s → r ≡ Finished.Refused why → told why (b, t, m) ≡ runCall b t image map w lines
   unfolding runCall
   ended-refused m s g why r e f j p h = rw (e, ← f, ← j, ← p, h)

@@ -1,62 +1,33 @@
--- What the exported calls leave: the number that they answer, and the bytes that they were lent to write. 0 is no refusal;
--- bytes that are no state's, no tally's or no settings' are refused before all else.
+-- What the exported calls leave: the number that they answer, and the bytes that they were lent to write. Bytes that are no state's,
+-- no tally's or no settings' are refused before all else; then a call is machine's, read in bytes.
 use Prim.Native.Nat.{ℕ}
 use mathlib.Core.Bool.{cond}
 use mathlib.Core.List.{List}
 use Rattle.refusal.specs.Numbers.{noState}
-use Rattle.refusal.specs.Page.{Page, refused, answered}
+use Rattle.refusal.specs.Page.{call, Told, reading}
 use Rattle.machine.specs.Numbers.{StatePage, nowhere, TurnPage, RanPage}
 use Rattle.machine.specs.Entry.{powerUpPage, stepPage, runPage}
 use Rattle.firmware.specs.Layout.{bytesOf, tallyBytes, stateFrom, settingsFrom, refusedUp, refusedStep, refusedRun}
 
--- ---- power-up, and one step
-
-pub record Went : Type 0 where
-  pub number : ℕ
-  pub state : List ℕ
-  pub image : List ℕ
-
-abbrev pub went : ℕ → List ℕ → List ℕ → Went
-went n b m = record { number = n; state = b; image = m }
-
--- the state's bytes after an answer, and as lent at a refusal
-abbrev pub wentFrom : {A : Type 0} → (A → List ℕ) → List ℕ → Page A → List ℕ → Went
-wentFrom bytes b (answered p) m = went 0 (bytes p) m
-wentFrom bytes b (refused why) m = went why b m
+-- ---- power-up and one step: the state's bytes and the image
 
 -- the cause that a power-up leaves is 0, and it tells no address
-abbrev pub upBytes : StatePage → List ℕ
-upBytes p = bytesOf p 0 nowhere
+abbrev pub upIn : StatePage → List ℕ → List ℕ × List ℕ
+upIn p m = (bytesOf p 0 nowhere, m)
 
-abbrev pub stepBytes : TurnPage → List ℕ
-stepBytes p = bytesOf (p .state) (p .cause) (p .told)
+abbrev pub stepIn : TurnPage → List ℕ → List ℕ × List ℕ
+stepIn p m = (bytesOf (p .state) (p .cause) (p .told), m)
 
-unfoldable pub powerUpCall : List ℕ → List ℕ → List ℕ → List ℕ → Went
-powerUpCall b image map w =
-    let l = powerUpPage (settingsFrom w) image map in
-    cond (refusedUp b w) (went noState b image) (wentFrom upBytes b (l .page) (l .image))
+unfoldable pub powerUpCall : List ℕ → List ℕ → List ℕ → List ℕ → Told (List ℕ × List ℕ)
+powerUpCall b image map w = reading upIn (λ m. (b, m)) (call (cond (refusedUp b w) noState 0) (powerUpPage (settingsFrom w) image map) image)
 
-unfoldable pub stepCall : List ℕ → List ℕ → List ℕ → List ℕ → ℕ → Went
-stepCall b image map w line =
-    let l = stepPage (settingsFrom w) image map line (stateFrom b) in
-    cond (refusedStep b w) (went noState b image) (wentFrom stepBytes b (l .page) (l .image))
+unfoldable pub stepCall : List ℕ → List ℕ → List ℕ → List ℕ → ℕ → Told (List ℕ × List ℕ)
+stepCall b image map w line = reading stepIn (λ m. (b, m)) (call (cond (refusedStep b w) noState 0) (stepPage (settingsFrom w) image map line (stateFrom b)) image)
 
--- ---- a run: the cause that it leaves is 0, and it tells no address but in the tally
+-- ---- a run: the state's bytes, the tally's and the image. The cause that it leaves is 0, and it tells no address but in the tally
 
-pub record Ended : Type 0 where
-  pub number : ℕ
-  pub state : List ℕ
-  pub tally : List ℕ
-  pub image : List ℕ
+abbrev pub runIn : RanPage → List ℕ → List ℕ × List ℕ × List ℕ
+runIn p m = (bytesOf (p .state) 0 nowhere, tallyBytes (p .blanks) (p .first), m)
 
-abbrev pub ended : ℕ → List ℕ → List ℕ → List ℕ → Ended
-ended n b t m = record { number = n; state = b; tally = t; image = m }
-
-abbrev pub endedFrom : List ℕ → List ℕ → Page RanPage → List ℕ → Ended
-endedFrom b t (answered p) m = ended 0 (bytesOf (p .state) 0 nowhere) (tallyBytes (p .blanks) (p .first)) m
-endedFrom b t (refused why) m = ended why b t m
-
-unfoldable pub runCall : List ℕ → List ℕ → List ℕ → List ℕ → List ℕ → List ℕ → Ended
-runCall b t image map w lines =
-    let l = runPage (settingsFrom w) image map lines (stateFrom b) in
-    cond (refusedRun b t w) (ended noState b t image) (endedFrom b t (l .page) (l .image))
+unfoldable pub runCall : List ℕ → List ℕ → List ℕ → List ℕ → List ℕ → List ℕ → Told (List ℕ × List ℕ × List ℕ)
+runCall b t image map w lines = reading runIn (λ m. (b, t, m)) (call (cond (refusedRun b t w) noState 0) (runPage (settingsFrom w) image map lines (stateFrom b)) image)

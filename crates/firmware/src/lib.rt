@@ -12,6 +12,7 @@ use machine::Stepped;
 use refusal::number::NO_STATE;
 use step::Told;
 ghost use mathlib.Core.Path.{_≡_};
+ghost use Rattle.refusal.specs.Page.{told};
 ghost use Rattle.firmware.specs.Calls as Spec;
 
 pub mod layout;
@@ -24,7 +25,7 @@ pub extern "C" fn wd16_power_up(
     map: &[u8],
     settings: &[u8],
 ) -> u8
-    ensures { λ r. ⌜ Spec.went r (now (state .exit)) (now (image .exit)) ≡ Spec.powerUpCall (now (state .entry)) (now (image .entry)) (now (map .entry)) (now (settings .entry)) ⌝ }
+    ensures { λ r. ⌜ told r (now (state .exit), now (image .exit)) ≡ Spec.powerUpCall (now (state .entry)) (now (image .entry)) (now (map .entry)) (now (settings .entry)) ⌝ }
 {
     if refused_up(state, settings) {
         return NO_STATE;
@@ -47,7 +48,7 @@ pub extern "C" fn wd16_step(
     settings: &[u8],
     line: u16,
 ) -> u8
-    ensures { λ r. ⌜ Spec.went r (now (state .exit)) (now (image .exit)) ≡ Spec.stepCall (now (state .entry)) (now (image .entry)) (now (map .entry)) (now (settings .entry)) line ⌝ }
+    ensures { λ r. ⌜ told r (now (state .exit), now (image .exit)) ≡ Spec.stepCall (now (state .entry)) (now (image .entry)) (now (map .entry)) (now (settings .entry)) line ⌝ }
 {
     if refused_step(state, settings) {
         return NO_STATE;
@@ -78,7 +79,7 @@ pub extern "C" fn wd16_run(
     settings: &[u8],
     lines: &[u16],
 ) -> u8
-    ensures { λ r. ⌜ Spec.ended r (now (state .exit)) (now (tally .exit)) (now (image .exit)) ≡ Spec.runCall (now (state .entry)) (now (tally .entry)) (now (image .entry)) (now (map .entry)) (now (settings .entry)) (now (lines .entry)) ⌝ }
+    ensures { λ r. ⌜ told r (now (state .exit), now (tally .exit), now (image .exit)) ≡ Spec.runCall (now (state .entry)) (now (tally .entry)) (now (image .entry)) (now (map .entry)) (now (settings .entry)) (now (lines .entry)) ⌝ }
 {
     if refused_run(state, tally, settings) {
         return NO_STATE;

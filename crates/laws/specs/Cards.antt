@@ -22,7 +22,8 @@ use Rattle.machine.specs.declared.Finished.{Finished}
 use Rattle.machine.specs.declared.Finished.the-variants as Finished
 use Rattle.machine.specs.Run.{End, end, runOf}
 use Rattle.machine.specs.Trail.{trailOf}
-use Rattle.machine.specs.Entry.{powerWhy, left, finishedPage, runPage, steppedPage, stepPage}
+use Rattle.refusal.specs.Page.{left, told}
+use Rattle.machine.specs.Entry.{powerWhy, finishedPage, runPage, steppedPage, stepPage}
 use Rattle.step.specs.declared.Turn.{Turn}
 use Rattle.step.specs.Step.{isBlank}
 use Rattle.words.specs.Words.{byteAt}
@@ -30,7 +31,7 @@ use Rattle.words.specs.Words as Words
 use Rattle.machine.specs.declared.Stepped.{Stepped}
 use Rattle.machine.specs.declared.Stepped.the-variants as Stepped
 use Rattle.firmware.specs.Layout.{settingsFrom}
-use Rattle.firmware.specs.Calls.{went, stepCall, ended, runCall}
+use Rattle.firmware.specs.Calls.{stepCall, runCall}
 
 -- ---- FURTHER CARDS
 
@@ -122,18 +123,18 @@ StepPlugged = (settings : Settings) (map big : List ℕ) (line : ℕ) (s : State
 abbrev pub Wd16StepPlugged : Type 0
 Wd16StepPlugged = (b m map big w : List ℕ) (line k : ℕ) (b₁ m₁ b₂ m₂ : List ℕ)
     → Plugged map big → powerWhy (settingsFrom w) m big ≡ 0
-    → went 0 b₁ m₁ ≡ stepCall b m map w line
+    → told 0 (b₁, m₁) ≡ stepCall b m map w line
     → (byteAt b₁ 19 ≡ 5 → ⊥) → (byteAt b₁ 19 ≡ 6 → ⊥) → (byteAt b₁ 19 ≡ 9 → ⊥) → (byteAt b₁ 18 ≡ 4 → ⊥)
-    → went k b₂ m₂ ≡ stepCall b m big w line
+    → told k (b₂, m₂) ≡ stepCall b m big w line
     → (k ≡ 0) × (b₂ ≡ b₁) × (m₂ ≡ m₁)
 
 -- a run that leaves a count of 0 and not mode 4; t and t′ are what the two calls are lent for the tally
 abbrev pub Wd16RunPlugged : Type 0
 Wd16RunPlugged = (b t t′ m map big w lines : List ℕ) (k : ℕ) (b₁ t₁ m₁ b₂ t₂ m₂ : List ℕ)
     → Plugged map big → powerWhy (settingsFrom w) m big ≡ 0 → length t′ ≡ 6
-    → ended 0 b₁ t₁ m₁ ≡ runCall b t m map w lines
+    → told 0 (b₁, t₁, m₁) ≡ runCall b t m map w lines
     → Words.wordAt t₁ 0 ≡ 0 → (byteAt b₁ 18 ≡ 4 → ⊥)
-    → ended k b₂ t₂ m₂ ≡ runCall b t′ m big w lines
+    → told k (b₂, t₂, m₂) ≡ runCall b t′ m big w lines
     → (k ≡ 0) × (b₂ ≡ b₁) × (t₂ ≡ t₁) × (m₂ ≡ m₁)
 
 -- ---- WHY BOTH CONDITIONS ARE NEEDED

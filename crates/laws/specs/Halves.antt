@@ -17,11 +17,12 @@ use Rattle.machine.specs.Counted.{orFirst, joined}
 use mathlib.Core.Bool.{true, false, cond}
 use lib.ListN.{length}
 use Rattle.state.specs.declared.Settings.{Settings}
+use Rattle.refusal.specs.Page.{left, told}
 use Rattle.refusal.specs.Refusal.{allOf, plain}
 use Rattle.machine.specs.declared.Stepped.{Stepped}
-use Rattle.machine.specs.Entry.{powerWhy, left, steppedPage, finishedPage, stepPage, runPage}
+use Rattle.machine.specs.Entry.{powerWhy, steppedPage, finishedPage, stepPage, runPage}
 use Rattle.firmware.specs.Layout.{settingsFrom, refusedStep}
-use Rattle.firmware.specs.Calls.{went, stepCall, ended, runCall}
+use Rattle.firmware.specs.Calls.{stepCall, runCall}
 use Rattle.laws.specs.One.{asRun, OneCall}
 use Rattle.machine.specs.declared.Tally.{Tally}
 use lib.Dec.{eqb}
@@ -121,13 +122,13 @@ module _ (map w xs ys b t t′ t″ m : List ℕ) (good : refusedStep b w ≡ fa
     (board : powerWhy (settingsFrom w) m map ≡ 0) (few : length xs + length ys ≤ 4096) (unused : allOf plain xs ≡ true) (unusedToo : allOf plain ys ≡ true) where
   abbrev pub Wd16RunJoined : Type 0
   Wd16RunJoined = (k₁ k₂ k₃ : ℕ) (b₁ t₁ m₁ b₂ t₂ m₂ b₃ t₃ m₃ : List ℕ)
-      → ended k₁ b₁ t₁ m₁ ≡ runCall b t m map w xs
-      → ended k₂ b₂ t₂ m₂ ≡ runCall b₁ t′ m₁ map w ys
-      → ended k₃ b₃ t₃ m₃ ≡ runCall b t″ m map w (xs ++ ys)
+      → told k₁ (b₁, t₁, m₁) ≡ runCall b t m map w xs
+      → told k₂ (b₂, t₂, m₂) ≡ runCall b₁ t′ m₁ map w ys
+      → told k₃ (b₃, t₃, m₃) ≡ runCall b t″ m map w (xs ++ ys)
       → CallsJoined (length xs) k₁ k₂ k₃ t₁ b₂ t₂ m₂ b₃ t₃ m₃
 
 -- a run of one line word and a step: where neither is refused, the run's state has no cause and no address, and its tally is that of
 -- the step's cause
 abbrev pub Wd16RunOne : Type 0
 Wd16RunOne = (b t m map w : List ℕ) (line k j : ℕ) (b₁ t₁ m₁ b₂ m₂ : List ℕ) → length t ≡ 6
-    → ended k b₁ t₁ m₁ ≡ runCall b t m map w (line ∷ []) → went j b₂ m₂ ≡ stepCall b m map w line → OneCall k j b₁ t₁ m₁ b₂ m₂
+    → told k (b₁, t₁, m₁) ≡ runCall b t m map w (line ∷ []) → told j (b₂, m₂) ≡ stepCall b m map w line → OneCall k j b₁ t₁ m₁ b₂ m₂

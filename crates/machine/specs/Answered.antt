@@ -5,13 +5,12 @@ use Rattle.state.specs.declared.State.{State}
 use Rattle.state.specs.declared.Settings.{Settings}
 use Rattle.step.specs.declared.Cause.the-variants as Cause
 use Rattle.step.specs.Step.{after}
-use Rattle.refusal.specs.Page.{answered}
+use Rattle.refusal.specs.Page.{answered, Left, left}
 use Rattle.machine.specs.Numbers.{statePage, RanPage, placeOf}
 use Rattle.machine.specs.Trail.{trailOf, lastOf, blanksIn, firstIn}
-use Rattle.machine.specs.Entry.{Left, left}
 
 -- what a run shows that went along a trail from b
-abbrev pub shown : Settings → List ℕ → List ℕ → State → List ℕ → Left RanPage
+abbrev pub shown : Settings → List ℕ → List ℕ → State → List ℕ → Left RanPage (List ℕ)
 shown settings map lines s m =
     let rs = trailOf settings map lines s m in
     let b = lastOf (after s m Cause.Nothing) rs in

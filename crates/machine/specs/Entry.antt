@@ -12,20 +12,12 @@ use Rattle.machine.specs.declared.Stepped.the-variants as Stepped
 use Rattle.machine.specs.declared.Finished.{Finished}
 use Rattle.machine.specs.declared.Finished.the-variants as Finished
 use Rattle.step.specs.Step.{After, stepOf, Up, powerUpOf}
-use Rattle.refusal.specs.Page.{Page, refused, answered, unless}
+use Rattle.refusal.specs.Page.{Page, refused, answered, Left, left, call}
 use Rattle.refusal.specs.Refusal.{powerRefusal, stepRefusal, runRefusal}
 use Rattle.machine.specs.Numbers.{StatePage, statePage, TurnPage, turnPage, RanPage, ranPage}
 use Rattle.machine.specs.Run.{End, end, runOf}
 
 -- ---- what is answered
-
--- the answer, and the image after the call
-pub record Left (A : Type 0) : Type 0 where
-  pub page : Page A
-  pub image : List ℕ
-
-abbrev pub left : {A : Type 0} → Page A → List ℕ → Left A
-left p m = record { page = p; image = m }
 
 abbrev pub poweredPage : Powered → Page StatePage
 poweredPage (Powered.Up s) = answered (statePage s)
@@ -50,28 +42,22 @@ stepWhy settings image map line = stepRefusal (length image) map (settings .powe
 abbrev pub runWhy : Settings → List ℕ → List ℕ → List ℕ → ℕ
 runWhy settings image map lines = runRefusal (length image) map (settings .powerup) (settings .halt) (settings .register) lines
 
--- ---- what is right
+-- ---- what is right: the answer, and the image after the call
 
-abbrev pub powered : Up → Left StatePage
+abbrev pub powered : Up → Left StatePage (List ℕ)
 powered u = left (answered (statePage (u .state))) (u .image)
 
-unfoldable pub powerUpPage : Settings → List ℕ → List ℕ → Left StatePage
-powerUpPage settings image map =
-    let why = powerWhy settings image map in
-    unless why (powered (powerUpOf settings map image)) (left (refused why) image)
+unfoldable pub powerUpPage : Settings → List ℕ → List ℕ → Left StatePage (List ℕ)
+powerUpPage settings image map = call (powerWhy settings image map) (powered (powerUpOf settings map image)) image
 
-abbrev pub turned : After → Left TurnPage
+abbrev pub turned : After → Left TurnPage (List ℕ)
 turned a = left (answered (turnPage (record { state = a .state; cause = a .cause }))) (a .image)
 
-unfoldable pub stepPage : Settings → List ℕ → List ℕ → ℕ → State → Left TurnPage
-stepPage settings image map line s =
-    let why = stepWhy settings image map line in
-    unless why (turned (stepOf map (heard settings line) s image)) (left (refused why) image)
+unfoldable pub stepPage : Settings → List ℕ → List ℕ → ℕ → State → Left TurnPage (List ℕ)
+stepPage settings image map line s = call (stepWhy settings image map line) (turned (stepOf map (heard settings line) s image)) image
 
-abbrev pub ended : End → Left RanPage
+abbrev pub ended : End → Left RanPage (List ℕ)
 ended (end s m t) = left (answered (ranPage (record { state = s; tally = t }))) m
 
-unfoldable pub runPage : Settings → List ℕ → List ℕ → List ℕ → State → Left RanPage
-runPage settings image map lines s =
-    let why = runWhy settings image map lines in
-    unless why (ended (runOf settings map lines s image)) (left (refused why) image)
+unfoldable pub runPage : Settings → List ℕ → List ℕ → List ℕ → State → Left RanPage (List ℕ)
+runPage settings image map lines s = call (runWhy settings image map lines) (ended (runOf settings map lines s image)) image

@@ -7,6 +7,7 @@ use step::Turn;
 ghost use mathlib.Core.Path.{_≡_};
 ghost use Prim.Native.Nat.{_≤_};
 ghost use lib.ListN.{length};
+ghost use Rattle.refusal.specs.Page.{left};
 ghost use Rattle.machine.specs.Entry as Spec;
 
 mod runs;
@@ -74,7 +75,7 @@ pub enum Finished {
 
 // The state after power-up of a board that is set up so; or 1, 2, 3 or 35 and the image as lent.
 pub fn power_up(image: &mut [u8], map: &[u8], settings: Settings) -> Powered
-    ensures { λ r. ⌜ Spec.left (Spec.poweredPage r) (now (image .exit)) ≡ Spec.powerUpPage settings (now (image .entry)) (now (map .entry)) ⌝ }
+    ensures { λ r. ⌜ left (Spec.poweredPage r) (now (image .exit)) ≡ Spec.powerUpPage settings (now (image .entry)) (now (map .entry)) ⌝ }
 {
     let why = refusal::power_refusal(
         image.len(),
@@ -91,7 +92,7 @@ pub fn power_up(image: &mut [u8], map: &[u8], settings: Settings) -> Powered
 
 // One step over a line word: the state and the cause after it; or 1, 2, 3, 35 or 5 and the image as lent.
 pub fn step(s: State, image: &mut [u8], map: &[u8], settings: Settings, line: u16) -> Stepped
-    ensures { λ r. ⌜ Spec.left (Spec.steppedPage r) (now (image .exit)) ≡ Spec.stepPage settings (now (image .entry)) (now (map .entry)) line s ⌝ }
+    ensures { λ r. ⌜ left (Spec.steppedPage r) (now (image .exit)) ≡ Spec.stepPage settings (now (image .entry)) (now (map .entry)) line s ⌝ }
 {
     let why = refusal::step_refusal(
         image.len(),
@@ -114,7 +115,7 @@ pub fn step(s: State, image: &mut [u8], map: &[u8], settings: Settings, line: u1
 
 // A run over line words: the state, the blanks and the first of them after it; or 1, 2, 3, 35, 4 or 5 and the image as lent.
 pub fn run(s: State, image: &mut [u8], map: &[u8], settings: Settings, lines: &[u16]) -> Finished
-    ensures { λ r. ⌜ Spec.left (Spec.finishedPage r) (now (image .exit)) ≡ Spec.runPage settings (now (image .entry)) (now (map .entry)) (now (lines .entry)) s ⌝ }
+    ensures { λ r. ⌜ left (Spec.finishedPage r) (now (image .exit)) ≡ Spec.runPage settings (now (image .entry)) (now (map .entry)) (now (lines .entry)) s ⌝ }
 {
     let why = refusal::run_refusal(
         image.len(),

@@ -7,13 +7,13 @@ use lib.ListN.{length, take}
 use Rattle.state.specs.declared.State.{State}
 use Rattle.state.specs.declared.Settings.{Settings}
 use Rattle.words.specs.Words.{wordAt}
-use Rattle.refusal.specs.Page.{refused, answered, unless}
+use Rattle.refusal.specs.Page.{refused, answered, left, unless}
 use Rattle.refusal.proofs.Laws.Page.{apart, refused-one}
 use Rattle.machine.specs.declared.Ran.{Ran}
 use Rattle.machine.specs.declared.Finished.{Finished}
 use Rattle.machine.specs.declared.Finished.the-variants as Finished
 use Rattle.machine.specs.Run.{End, end, runOf, ranOf}
-use Rattle.machine.specs.Entry.{left, runWhy, finishedPage, ended, runPage}
+use Rattle.machine.specs.Entry.{runWhy, finishedPage, ended, runPage}
 use Rattle.machine.proofs.Laws.Answered.{run-done}
 use Rattle.job.specs.declared.Answer.{Answer}
 use Rattle.job.specs.declared.Answer.the-variants as Answer

@@ -22,12 +22,13 @@ use Rattle.step.specs.declared.Cause.{Cause}
 use Rattle.step.specs.declared.Cause.the-variants as Cause
 use Rattle.step.specs.Step.{After, after, stepOf, up}
 use Rattle.refusal.specs.Numbers.{lineBit, traceCut}
+use Rattle.refusal.specs.Page.{left}
 use Rattle.refusal.proofs.Laws.Page.{first-both, apart, answered-one}
 use Rattle.refusal.specs.Refusal.{allOf, plain, stepRefusal, linesRefusal, runRefusal}
 use Rattle.refusal.proofs.Laws.Refusal.{run-sound}
 use Rattle.machine.specs.declared.Stepped.{Stepped}
 use Rattle.machine.specs.declared.Stepped.the-variants as Stepped
-use Rattle.machine.specs.Entry.{left, powerWhy, stepWhy, runWhy, steppedPage, stepPage}
+use Rattle.machine.specs.Entry.{powerWhy, stepWhy, runWhy, steppedPage, stepPage}
 use Rattle.machine.proofs.Laws.Back.{turn-one}
 use Rattle.machine.proofs.Laws.Answered.{step-answer}
 use Rattle.machine.specs.Trail.{trailOf, lastOf}
@@ -76,7 +77,7 @@ module _ (m map : List ℕ) (line : ℕ) (s : State) (board : Settings) where
       let h = step-answer benchBoard m map line s (ap (λ z. left (steppedPage z) m′) (sym d) ∙ e ∙ ap (λ z. stepPage z m map line s) g) .1 in
       let a = stepOf map (heard benchBoard line) s m in
       let turn : t ≡ record { state = a .state; cause = a .cause } = turn-one t (record { state = a .state; cause = a .cause }) (answered-one (ap (λ z. z .page) h)) in
-      let image : m′ ≡ a .image = ap (λ z. z .image) h in
+      let image : m′ ≡ a .image = ap (λ z. z .lent) h in
       rw (turn, image)
 
   pub step-refused : {A : Type 0} (r : Stepped) (why : ℕ) (m′ : List ℕ) → board ≡ benchBoard → stepWhy benchBoard m map line ≡ 0 → left (steppedPage r) m′ ≡ stepPage board m map line s → r ≡ Stepped.Refused why → A

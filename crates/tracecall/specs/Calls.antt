@@ -6,7 +6,7 @@ use lib.Dec.{eqb}
 use lib.ListN.{length}
 use Rattle.words.specs.Words.{bytesIn}
 use Rattle.refusal.specs.Numbers.{noState}
-use Rattle.refusal.specs.Page.{Page, refused, answered, first, unless}
+use Rattle.refusal.specs.Page.{Page, refused, refusedAt, answered, first, unless}
 use Rattle.job.specs.Job.{whyJob}
 use Rattle.trace.specs.declared.Verdict.{Verdict}
 use Rattle.trace.specs.declared.Verdict.the-variants.{Accepted, Wrong, Missing, Extra}
@@ -34,6 +34,7 @@ went n b = record { number = n; verdict = b }
 abbrev pub wentFrom : List ℕ → Page Verdict → Went
 wentFrom b (answered v) = went 0 (bytesIn (verdictWords v))
 wentFrom b (refused why) = went why b
+wentFrom b (refusedAt why place) = went why b
 
 unfoldable pub checkCall : List ℕ → List ℕ → List ℕ → Went
 checkCall job t b = cond (eqb (length b) 6) (wentFrom b (checkPage job t)) (went noState b)

@@ -13,10 +13,10 @@ use Rattle.step.specs.declared.Cause.the-variants.{LockedAt}
 use Rattle.step.specs.Step.{After, after, stepOf, kindOf, errorOf, busError, causeNumber, addressOf, isBlank, orElse}
 use Rattle.step.proofs.Laws.Causes.{blank-error, blank-counted}
 use Rattle.step.proofs.Laws.Told.{tells}
-use Rattle.refusal.specs.Page.{answered}
+use Rattle.refusal.specs.Page.{answered, left}
 use Rattle.refusal.proofs.Laws.Page.{answered-one}
 use Rattle.machine.specs.Numbers.{statePage, toldOf, TurnPage}
-use Rattle.machine.specs.Entry.{left, turned}
+use Rattle.machine.specs.Entry.{turned}
 use Rattle.demands.specs.Terms.{cameAt, errorCauseAt, Blanked}
 use Rattle.demands.specs.Terms as Terms
 
@@ -31,7 +31,7 @@ module _ {p : TurnPage} {m′ : List ℕ} (x : After) (e : left (answered p) m�
   state-is = ap (λ z. z .state) (answered-one (ap (λ z. z .page) e))
 
   image-is : m′ ≡ x .image
-  image-is = ap (λ z. z .image) e
+  image-is = ap (λ z. z .lent) e
 
 module _ (settings : Settings) (line : ℕ) (s : State) (m : List ℕ) where
   -- x is the step, c what the bus error's trap came to

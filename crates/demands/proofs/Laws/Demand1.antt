@@ -9,12 +9,11 @@ use Rattle.step.specs.Step.{stepOf, powerUpOf}
 use Rattle.refusal.specs.Numbers.{noState}
 use Rattle.words.specs.Words.{wordAt}
 use Rattle.refusal.specs.Page.{refused, answered, first, unless}
-use Rattle.machine.specs.Numbers.{statePage, turnPage}
-use Rattle.machine.specs.Run.{runOf}
-use Rattle.machine.specs.Entry.{powerWhy, stepWhy, runWhy, powered, powerUpPage, left, turned, stepPage, ended, runPage}
+use Rattle.refusal.specs.Page as Page
+use Rattle.machine.specs.Run.{End, end, runOf}
+use Rattle.machine.specs.Entry.{powerWhy, stepWhy, runWhy, powered, powerUpPage, turned, stepPage, ended, runPage}
 use Rattle.firmware.specs.Layout.{stateFrom, settingsFrom, refusedUp, refusedStep, refusedRun}
-use Rattle.firmware.specs.Calls.{upBytes, stepBytes, powerUpCall, went, stepCall, runCall}
-use Rattle.firmware.specs.Calls as Calls
+use Rattle.firmware.specs.Calls.{upIn, stepIn, runIn, powerUpCall, stepCall, runCall}
 use Rattle.job.specs.Job.{linesAt, imageOf, mapOf, linesOf, whyJob, whyRead, after, jobOf}
 use Rattle.letters.specs.Over.{written, over}
 use Rattle.optext.specs.Answer.{writtenAs, readAs, writeAnswer, writeBytes}
@@ -34,26 +33,26 @@ use Rattle.trace.specs.Trace as Trace
 use Rattle.tracecall.specs.Calls.{checkCall}
 use Rattle.tracecall.specs.Calls as Tracecall
 use Rattle.demands.specs.Terms.{Numbered, numberOf, writeWhy}
-use Rattle.demands.proofs.Laws.Pages.{answers, lent-where-refused, endAnswer, end-answer}
+use Rattle.demands.proofs.Laws.Pages.{answers, call-answers, lent-where-refused, endAnswer, end-answer}
 use Rattle.demands.proofs.Laws.Texts.{writer-numbered, word-numbered, reads-numbered, write-call, read-call}
 use Rattle.demands.proofs.Laws.Sources.{assembled-answers, call-numbered}
-use Rattle.demands.proofs.Laws.Calls.{numbered, went-numbered, ended-numbered}
+use Rattle.demands.proofs.Laws.Calls.{numbered, reading-numbered}
 use Rattle.demands.specs.Demand1.{PowerUpAnswers, StepAnswers, RunAnswers, JobAnswers, BenchAnswers, WriteAnswers, WriteWordAnswers, ReadAnswers, ListLineAnswers, AssembleAnswers, CheckAnswers, MakeAnswers, Wd16PowerUpAnswers, Wd16StepAnswers, Wd16RunAnswers, Wd16WriteTextAnswers, Wd16ReadTextAnswers, Wd16AssembleAnswers, Wd16CheckTraceAnswers}
 
 pub power-up-answers : PowerUpAnswers
 unfolding powerUpPage
 power-up-answers settings m map r m′ e =
-    answers (λ z. z .page) (powerWhy settings m map) (powered (powerUpOf settings map m)) (left (refused (powerWhy settings m map)) m) _ refl refl (λ h. ap (λ z. z .image) h) e
+    call-answers (powerWhy settings m map) (powered (powerUpOf settings map m)) m _ refl (λ h. h) e
 
 pub step-answers : StepAnswers
 unfolding stepPage
 step-answers settings m map line s r m′ e =
-    answers (λ z. z .page) (stepWhy settings m map line) (turned (stepOf map (heard settings line) s m)) (left (refused (stepWhy settings m map line)) m) _ refl refl (λ h. ap (λ z. z .image) h) e
+    call-answers (stepWhy settings m map line) (turned (stepOf map (heard settings line) s m)) m _ refl (λ h. h) e
 
 pub run-answers : RunAnswers
 unfolding runPage
 run-answers settings m map lines s r m′ e =
-    answers (λ z. z .page) (runWhy settings m map lines) (ended (runOf settings map lines s m)) (left (refused (runWhy settings m map lines)) m) (endAnswer (runOf settings map lines s m)) (end-answer (runOf settings map lines s m)) refl (λ h. ap (λ z. z .image) h) e
+    call-answers (runWhy settings m map lines) (ended (runOf settings map lines s m)) m (endAnswer (runOf settings map lines s m)) (end-answer (runOf settings map lines s m)) (λ h. h) e
 
 pub job-answers : JobAnswers
 unfolding jobOf
@@ -103,17 +102,22 @@ pub wd16-power-up-answers : Wd16PowerUpAnswers
 unfolding powerUpCall powerUpPage
 wd16-power-up-answers b m map w number b′ m′ e =
     let u = powerUpOf (settingsFrom w) map m in
-    went-numbered upBytes b m (refusedUp b w) (powerWhy (settingsFrom w) m map) (statePage (u .state)) (u .image) (went number b′ m′) e
+    numbered number refl (λ h. (ap (λ z. z .0) h, ap (λ z. z .1) h)) (reading-numbered upIn (λ k. (b, k)) m (powered u) (cond (refusedUp b w) noState 0) (powerWhy (settingsFrom w) m map) refl e)
 
 pub wd16-step-answers : Wd16StepAnswers
 unfolding stepCall stepPage
 wd16-step-answers b m map w line number b′ m′ e =
     let a = stepOf map (heard (settingsFrom w) line) (stateFrom b) m in
-    went-numbered stepBytes b m (refusedStep b w) (stepWhy (settingsFrom w) m map line) (turnPage (record { state = a .state; cause = a .cause })) (a .image) (went number b′ m′) e
+    numbered number refl (λ h. (ap (λ z. z .0) h, ap (λ z. z .1) h)) (reading-numbered stepIn (λ k. (b, k)) m (turned a) (cond (refusedStep b w) noState 0) (stepWhy (settingsFrom w) m map line) refl e)
 
 pub wd16-run-answers : Wd16RunAnswers
 unfolding runCall runPage
-wd16-run-answers b t m map w lines number b′ t′ m′ e = ended-numbered b t m (refusedRun b t w) (runWhy (settingsFrom w) m map lines) (runOf (settingsFrom w) map lines (stateFrom b) m) (Calls.ended number b′ t′ m′) e
+wd16-run-answers b t m map w lines number b′ t′ m′ e =
+    let x = runOf (settingsFrom w) map lines (stateFrom b) m in
+    numbered number refl (λ h. (ap (λ z. z .0) h, ap (λ z. z .1) h, ap (λ z. z .2) h)) (reading-numbered runIn (λ k. (b, t, k)) m (ended x) (cond (refusedRun b t w) noState 0) (runWhy (settingsFrom w) m map lines) (by x) e)
+  where
+    by : (x : End) → Page.reading runIn (λ k. (b, t, k)) (ended x) .number ≡ 0
+    by (end s k y) = refl
 
 pub wd16-write-text-answers : Wd16WriteTextAnswers
 unfolding writeCall

@@ -1,7 +1,7 @@
 -- The theorems that specs/Demand2.antt states.
 use mathlib.Core.Path.{sym, ap, _∙_}
 use Rattle.step.specs.declared.Cause.the-variants as Cause
-use Rattle.machine.specs.Entry.{left}
+use Rattle.refusal.specs.Page.{left}
 use Rattle.machine.proofs.Laws.Counted.{trail-length, trail-at}
 use Rattle.machine.proofs.Laws.Answered.{power-answer, step-answer, run-answer}
 use Rattle.demands.specs.Demand2.{PowerUpIs, StepIs, RunIs, TrailIs}

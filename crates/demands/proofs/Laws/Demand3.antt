@@ -1,5 +1,6 @@
 -- The theorems that specs/Demand3.antt states.
 use Prim.Native.Nat.{ℕ}
+use mathlib.Core.Bool.{cond}
 use mathlib.Core.List.{List, []}
 use mathlib.Core.Path.{_≡_, refl, sym, ap, _∙_}
 use lib.ListN.{length}
@@ -10,18 +11,19 @@ use Rattle.state.specs.State.{heard}
 use Rattle.step.specs.Step.{stepOf}
 use Rattle.step.proofs.Laws.Causes.{value-no-blank}
 use Rattle.step.proofs.Laws.Told.{stops}
-use Rattle.refusal.specs.Page.{refused, answered}
+use Rattle.refusal.specs.Numbers.{noState}
+use Rattle.refusal.specs.Page.{refused, answered, left}
 use Rattle.refusal.proofs.Laws.Page.{answered-one}
 use Rattle.machine.specs.declared.Stepped.{Stepped}
 use Rattle.machine.specs.Numbers.{TurnPage}
-use Rattle.machine.specs.Entry.{poweredPage, powerUpPage, left, steppedPage, stepPage, finishedPage, runPage}
+use Rattle.machine.specs.Entry.{poweredPage, powerUpPage, steppedPage, stepPage, finishedPage, runPage}
 use Rattle.machine.proofs.Laws.Back.{powered-one, stepped-one, finished-one}
 use Rattle.machine.proofs.Laws.Blind.{blind, power-same, power-kept, step-same, step-kept, run-same, run-kept}
 use Rattle.machine.specs.Trail.{trailOf}
 use Rattle.machine.proofs.Laws.Counted.{first-least}
 use Rattle.machine.proofs.Laws.Answered.{step-answer, run-answer}
 use Rattle.firmware.specs.Layout.{stateFrom, settingsFrom, refusedUp, refusedStep, refusedRun}
-use Rattle.firmware.specs.Calls.{upBytes, stepBytes, powerUpCall, stepCall, runCall}
+use Rattle.firmware.specs.Calls.{upIn, stepIn, runIn, powerUpCall, stepCall, runCall}
 use Rattle.listing.proofs.Laws.Calls.{one-listed}
 use Rattle.listing.proofs.Laws.Alike.{call-alike}
 use Rattle.trace.specs.Trace.{whyCheck, checkOf, whyMake, put, makeOf}
@@ -29,7 +31,7 @@ use Rattle.trace.specs.Trace as Trace
 use Rattle.trace.proofs.Laws.Right.{one-check, one-make}
 use Rattle.demands.proofs.Laws.Pages.{same-unless}
 use Rattle.demands.specs.Terms.{workAt}
-use Rattle.demands.proofs.Laws.Calls.{went-blind, ended-blind}
+use Rattle.demands.proofs.Laws.Calls.{call-blind}
 use Rattle.demands.proofs.Laws.Blanks.{blanked, cause-is}
 use Rattle.demands.specs.Demand3.{PowerUpBlind, StepBlind, RunBlind, Wd16PowerUpBlind, Wd16StepBlind, Wd16RunBlind, ListLineBlind, CheckBlind, MakeBlind, StepBlanked, StepFitted, RunCounted}
 
@@ -51,20 +53,20 @@ module _ (w map m n : List ℕ) (l : length m ≡ length n) (g : Agree map m n) 
   pub wd16-power-up-blind : Wd16PowerUpBlind w map m n l g
   unfolding powerUpCall
   wd16-power-up-blind b k j b₁ b₂ m′ n′ e d =
-      rw (ap (λ z. z .number) e, ap (λ z. z .state) e, ap (λ z. z .image) e, ap (λ z. z .number) d, ap (λ z. z .state) d, ap (λ z. z .image) d)
-      (went-blind map m n g upBytes (refusedUp b w) b (powerUpPage (settingsFrom w) m map) (powerUpPage (settingsFrom w) n map) (power-same (settingsFrom w) map m n l g) (power-kept (settingsFrom w) map m) (power-kept (settingsFrom w) map n))
+      rw (ap (λ z. z .number) e, ap (λ z. z .lent .0) e, ap (λ z. z .lent .1) e, ap (λ z. z .number) d, ap (λ z. z .lent .0) d, ap (λ z. z .lent .1) d)
+      (call-blind upIn (λ k. (b, k)) (λ r z. (r, z .0)) (λ z. z .1) (λ r a k l. refl) (λ a k. refl) (λ r k l. refl) (λ k. refl) map m n g (cond (refusedUp b w) noState 0) (powerUpPage (settingsFrom w) m map) (powerUpPage (settingsFrom w) n map) (power-same (settingsFrom w) map m n l g) (power-kept (settingsFrom w) map m) (power-kept (settingsFrom w) map n))
 
   pub wd16-step-blind : Wd16StepBlind w map m n l g
   unfolding stepCall
   wd16-step-blind b line k j b₁ b₂ m′ n′ e d =
-      rw (ap (λ z. z .number) e, ap (λ z. z .state) e, ap (λ z. z .image) e, ap (λ z. z .number) d, ap (λ z. z .state) d, ap (λ z. z .image) d)
-      (went-blind map m n g stepBytes (refusedStep b w) b (stepPage (settingsFrom w) m map line (stateFrom b)) (stepPage (settingsFrom w) n map line (stateFrom b)) (step-same (settingsFrom w) map line (stateFrom b) m n l g) (step-kept (settingsFrom w) map line (stateFrom b) m) (step-kept (settingsFrom w) map line (stateFrom b) n))
+      rw (ap (λ z. z .number) e, ap (λ z. z .lent .0) e, ap (λ z. z .lent .1) e, ap (λ z. z .number) d, ap (λ z. z .lent .0) d, ap (λ z. z .lent .1) d)
+      (call-blind stepIn (λ k. (b, k)) (λ r z. (r, z .0)) (λ z. z .1) (λ r a k l. refl) (λ a k. refl) (λ r k l. refl) (λ k. refl) map m n g (cond (refusedStep b w) noState 0) (stepPage (settingsFrom w) m map line (stateFrom b)) (stepPage (settingsFrom w) n map line (stateFrom b)) (step-same (settingsFrom w) map line (stateFrom b) m n l g) (step-kept (settingsFrom w) map line (stateFrom b) m) (step-kept (settingsFrom w) map line (stateFrom b) n))
 
   pub wd16-run-blind : Wd16RunBlind w map m n l g
   unfolding runCall
   wd16-run-blind b t lines k j b₁ b₂ t₁ t₂ m′ n′ e d =
-      rw (ap (λ z. z .number) e, ap (λ z. z .state) e, ap (λ z. z .tally) e, ap (λ z. z .image) e, ap (λ z. z .number) d, ap (λ z. z .state) d, ap (λ z. z .tally) d, ap (λ z. z .image) d)
-      (ended-blind map m n g (refusedRun b t w) b t (runPage (settingsFrom w) m map lines (stateFrom b)) (runPage (settingsFrom w) n map lines (stateFrom b)) (run-same (settingsFrom w) map lines (stateFrom b) m n l g) (run-kept (settingsFrom w) map lines (stateFrom b) m) (run-kept (settingsFrom w) map lines (stateFrom b) n))
+      rw (ap (λ z. z .number) e, ap (λ z. z .lent .0) e, ap (λ z. z .lent .1) e, ap (λ z. z .lent .2) e, ap (λ z. z .number) d, ap (λ z. z .lent .0) d, ap (λ z. z .lent .1) d, ap (λ z. z .lent .2) d)
+      (call-blind runIn (λ k. (b, t, k)) (λ r z. (r, z .0, z .1)) (λ z. z .2) (λ r a k l. refl) (λ a k. refl) (λ r k l. refl) (λ k. refl) map m n g (cond (refusedRun b t w) noState 0) (runPage (settingsFrom w) m map lines (stateFrom b)) (runPage (settingsFrom w) n map lines (stateFrom b)) (run-same (settingsFrom w) map lines (stateFrom b) m n l g) (run-kept (settingsFrom w) map lines (stateFrom b) m) (run-kept (settingsFrom w) map lines (stateFrom b) n))
 
 pub list-line-blind : ListLineBlind
 list-line-blind map m n l g a last text r q text₁ text₂ e d = one-listed n map a last text text₁ text₂ r q (e ∙ call-alike map m n g last l a text) d

@@ -2,7 +2,7 @@
 use Prim.Native.Nat.{ℕ, zero, suc}
 use mathlib.Core.Path.{_≡_, refl, sym, ap, _∙_}
 use native.Mathlib.Omega.{arith}
-use Rattle.refusal.specs.Page.{Page, refused, answered, unless}
+use Rattle.refusal.specs.Page.{Page, refused, answered, Left, call, unless}
 use Rattle.refusal.proofs.Laws.Page.{apart}
 use Rattle.machine.specs.Run.{End, end}
 use Rattle.machine.specs.Numbers.{RanPage, ranPage}
@@ -18,6 +18,17 @@ answers page zero taken lent a h k f e = record {
 }
 answers page (suc why) taken lent a h k f e = record {
   refusedAlone = λ n. (ap page e ∙ k, f e);
+  notRefused = λ z. absurd (omega (arith, z));
+}
+
+-- the same of a call
+pub call-answers : {A B AsLent : Type 0} (why : ℕ) (right : Left A B) (lent : B) (a : A) {y : Left A B} → right .page ≡ answered a → (y .lent ≡ lent → AsLent) → y ≡ call why right lent → Answers why (y .page) AsLent
+call-answers zero right lent a h f e = record {
+  refusedAlone = λ n. absurd (n refl);
+  notRefused = λ z j d. apart (sym h ∙ sym (ap (λ z. z .page) e) ∙ d);
+}
+call-answers (suc why) right lent a h f e = record {
+  refusedAlone = λ n. (ap (λ z. z .page) e, f (ap (λ z. z .lent) e));
   notRefused = λ z. absurd (omega (arith, z));
 }
 

@@ -9,7 +9,7 @@ use lib.Dec.{ltb}
 use Rattle.board.specs.Work.{Agree, Untouched}
 use Rattle.words.specs.Words.{byteAt}
 use Rattle.refusal.specs.Numbers.{noState, noChannel}
-use Rattle.refusal.specs.Page.{Page, refused, answered, first, unless}
+use Rattle.refusal.specs.Page.{Page, refused, refusedAt, answered, first, unless}
 use Rattle.refusal.proofs.Laws.Page.{apart}
 use Rattle.machine.specs.declared.Tally.{Tally}
 use Rattle.machine.specs.Run.{End, end}
@@ -95,6 +95,7 @@ module _ (map m n b t d : List ℕ) (g : Agree map m n) where
           Blind {A = ℕ × List ℕ × List ℕ × List ℕ} map m n (v .number, v .state, v .tally, v .recorder) (w .number, w .state, w .tally, w .recorder) (v .image) (w .image))
       at (answered u) = record { answer = refl; fittedAgree = h; unfittedStay = i; unfittedStayToo = j }
       at (refused why) = record { answer = refl; fittedAgree = h; unfittedStay = i; unfittedStayToo = j }
+      at (refusedAt why place) = record { answer = refl; fittedAgree = h; unfittedStay = i; unfittedStayToo = j }
 
   calls-blind : (bad : Bool) (x y : After) → (bad ≡ false → SameAfter map x y) → (bad ≡ false → Untouched map m (x .image)) → (bad ≡ false → Untouched map n (y .image))
       → (let v = cond bad (scanned noState b t m d) (scanOn b t d x) in let w = cond bad (scanned noState b t n d) (scanOn b t d y) in

@@ -13,6 +13,7 @@ use Rattle.step.specs.declared.Cause.{Cause}
 use Rattle.step.specs.declared.Cause.the-variants as Cause
 use Rattle.step.specs.Step.{After, stepOf, causeNumber, isBlank}
 use Rattle.refusal.specs.Numbers.{noState}
+use Rattle.refusal.specs.Page.{left, Told, told, reading}
 use Rattle.refusal.proofs.Laws.Page.{first-both}
 use Rattle.words.specs.Words.{byteAt, wordAt}
 use Rattle.words.proofs.Laws.{word-again}
@@ -25,11 +26,11 @@ use Rattle.machine.specs.Run.{End, end, runOf, ranOf}
 use Rattle.machine.specs.Trail.{trailOf, moved, firstIn, Least, least}
 use Rattle.machine.specs.Counted.{orFirst}
 use Rattle.machine.proofs.Laws.Counted.{run-trail, first-least, trail-length}
-use Rattle.machine.specs.Entry.{runWhy, left, finishedPage, runPage, stepWhy, stepPage}
+use Rattle.machine.specs.Entry.{runWhy, finishedPage, runPage, stepWhy, stepPage}
 use Rattle.machine.proofs.Laws.Entry.{run-answered}
 use Rattle.machine.specs.Entry as Entry
 use Rattle.firmware.specs.Layout.{bytesOf, tallyBytes, placeNumber, placeTold, stateFrom, settingsFrom, refusedState, refusedSettings, refusedStep, refusedRun, notTally}
-use Rattle.firmware.specs.Calls.{ended, endedFrom, runCall, stepBytes, Went, went, stepCall}
+use Rattle.firmware.specs.Calls.{runIn, runCall, stepIn, stepCall}
 use Rattle.demands.proofs.Laws.Demand1.{wd16-step-answers, wd16-run-answers}
 use Rattle.refusal.proofs.Laws.Refusal.{neither}
 use Rattle.laws.specs.Halves.{firstPlace, firstTold}
@@ -47,19 +48,19 @@ pub record CallDone (b m map w lines b′ t′ m′ : List ℕ) : Type 0 where
   pub tally : t′ ≡ bytesFor ran
 
 pub call-answered : (b t m map w lines : List ℕ) (k : ℕ) (b′ t′ m′ : List ℕ) → refusedRun b t w ≡ false → runWhy (settingsFrom w) m map lines ≡ 0
-    → ended k b′ t′ m′ ≡ runCall b t m map w lines → (k ≡ 0) × CallDone b m map w lines b′ t′ m′
+    → told k (b′, t′, m′) ≡ runCall b t m map w lines → (k ≡ 0) × CallDone b m map w lines b′ t′ m′
 unfolding runCall runPage
 call-answered b t m map w lines k b′ t′ m′ h why e = at (runOf (settingsFrom w) map lines (stateFrom b) m) refl (rw (h, why) at e)
   where
-    at : (x : End) → runOf (settingsFrom w) map lines (stateFrom b) m ≡ x → ended k b′ t′ m′ ≡ endedFrom b t (Entry.ended x .page) (Entry.ended x .image) → (k ≡ 0) × CallDone b m map w lines b′ t′ m′
+    at : (x : End) → runOf (settingsFrom w) map lines (stateFrom b) m ≡ x → told k (b′, t′, m′) ≡ reading runIn (λ z. (b, t, z)) (Entry.ended x) → (k ≡ 0) × CallDone b m map w lines b′ t′ m′
     at (end s n y) d e =
-        let image : m′ ≡ n = ap (λ z. z .image) e in (
+        let image : m′ ≡ n = ap (λ z. z .lent .2) e in (
           ap (λ z. z .number) e,
           record {
             ran = record { state = s; tally = y };
             page = run-answered (settingsFrom w) m map lines (stateFrom b) (record { state = s; tally = y }) m′ why (ap (λ z. end s z y) image ∙ sym d);
-            state = ap (λ z. z .state) e;
-            tally = ap (λ z. z .tally) e;
+            state = ap (λ z. z .lent .0) e;
+            tally = ap (λ z. z .lent .1) e;
           },
         )
 
@@ -79,9 +80,9 @@ step-taken b w e = neither (refusedState b) (refusedSettings w) e .0
 
 -- ---- a state's cause, and a tally's words
 
-pub cause-byte : (s : State) (cause : ℕ) (told : Address) → byteAt (bytesOf (statePage s) cause told) 19 ≡ cause
+pub cause-byte : (s : State) (cause : ℕ) (at : Address) → byteAt (bytesOf (statePage s) cause at) 19 ≡ cause
 unfolding bytesOf statePage
-cause-byte s cause told = refl
+cause-byte s cause at = refl
 
 pub blanks-word : (n : ℕ) (p : Place) → wordAt (tallyBytes n p) 0 ≡ n
 unfolding tallyBytes
@@ -130,12 +131,12 @@ told-none : (b : Bool) → cond b noState 0 ≡ 0 → b ≡ false
 told-none true e = absurd (omega arith)
 told-none false e = refl
 
-pub run-not-refused : (b t m map w lines b′ t′ m′ : List ℕ) → ended 0 b′ t′ m′ ≡ runCall b t m map w lines → (refusedRun b t w ≡ false) × (runWhy (settingsFrom w) m map lines ≡ 0)
+pub run-not-refused : (b t m map w lines b′ t′ m′ : List ℕ) → told 0 (b′, t′, m′) ≡ runCall b t m map w lines → (refusedRun b t w ≡ false) × (runWhy (settingsFrom w) m map lines ≡ 0)
 run-not-refused b t m map w lines b′ t′ m′ e =
     let both = first-both (cond (refusedRun b t w) noState 0) (runWhy (settingsFrom w) m map lines) (sym (wd16-run-answers b t m map w lines 0 b′ t′ m′ e .numberIs)) in
     (told-none (refusedRun b t w) (both .0), both .1)
 
-pub step-not-refused : (b m map w : List ℕ) (line : ℕ) (b′ m′ : List ℕ) → went 0 b′ m′ ≡ stepCall b m map w line → (refusedStep b w ≡ false) × (stepWhy (settingsFrom w) m map line ≡ 0)
+pub step-not-refused : (b m map w : List ℕ) (line : ℕ) (b′ m′ : List ℕ) → told 0 (b′, m′) ≡ stepCall b m map w line → (refusedStep b w ≡ false) × (stepWhy (settingsFrom w) m map line ≡ 0)
 step-not-refused b m map w line b′ m′ e =
     let both = first-both (cond (refusedStep b w) noState 0) (stepWhy (settingsFrom w) m map line) (sym (wd16-step-answers b m map w line 0 b′ m′ e .numberIs)) in
     (told-none (refusedStep b w) (both .0), both .1)
@@ -146,8 +147,8 @@ unfolding refusedRun
 tally-taken b t t′ w e l = rw (neither (refusedStep b w) (notTally t) e .0, eq-eqb (length t′) 6 l)
 
 -- what a step leaves that isn't refused
-abbrev pub stepped : After → Went
-stepped a = went 0 (stepBytes (turnPage (record { state = a .state; cause = a .cause }))) (a .image)
+abbrev pub stepped : After → Told (List ℕ × List ℕ)
+stepped a = told 0 (stepIn (turnPage (record { state = a .state; cause = a .cause })) (a .image))
 
 pub step-call-is : (b m map w : List ℕ) (line : ℕ) → refusedStep b w ≡ false → stepWhy (settingsFrom w) m map line ≡ 0 → stepCall b m map w line ≡ stepped (stepOf map (heard (settingsFrom w) line) (stateFrom b) m)
 unfolding stepCall stepPage
@@ -155,9 +156,9 @@ step-call-is b m map w line h e = rw (h, e)
 
 -- ---- what the bytes say
 
-pub mode-byte : (s : State) (cause : ℕ) (told : Address) → byteAt (bytesOf (statePage s) cause told) 18 ≡ modeNumber (s .mode)
+pub mode-byte : (s : State) (cause : ℕ) (at : Address) → byteAt (bytesOf (statePage s) cause at) 18 ≡ modeNumber (s .mode)
 unfolding bytesOf statePage
-mode-byte s cause told = refl
+mode-byte s cause at = refl
 
 -- a cause that is none of 5, 6 and 9 is no blank
 pub number-no-blank : (c : Cause) → (causeNumber c ≡ 5 → ⊥) → (causeNumber c ≡ 6 → ⊥) → (causeNumber c ≡ 9 → ⊥) → isBlank c ≡ false

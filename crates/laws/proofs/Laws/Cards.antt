@@ -28,11 +28,11 @@ use Rattle.machine.specs.Run.{End, end, rest, noted, runOf, ranOf}
 use Rattle.machine.specs.Trail.{trailOf, lastOf, blanksIn, tallyIn}
 use Rattle.machine.proofs.Laws.Counted.{run-trail}
 use Rattle.machine.proofs.Laws.Back.{turn-one, one-step}
-use Rattle.machine.specs.Entry.{powerWhy, left, turned, finishedPage, runPage}
+use Rattle.refusal.specs.Page.{left, told}
+use Rattle.machine.specs.Entry.{powerWhy, turned, finishedPage, runPage}
 use Rattle.machine.proofs.Laws.Entry.{run-answered}
 use Rattle.machine.proofs.Laws.Answered.{step-answer, run-done}
 use Rattle.firmware.specs.Layout.{bytesOf, stateFrom, settingsFrom}
-use Rattle.firmware.specs.Calls.{went}
 use Rattle.laws.proofs.Laws.Taken.{taken-run, run-taken, run-answer-of, step-page-is, step-taken, ran-is}
 use Rattle.laws.proofs.Laws.Calls.{bytesFor, call-answered, run-not-refused, step-not-refused, tally-taken, stepped, step-call-is, blanks-word, mode-byte, cause-byte, number-no-blank}
 use Rattle.laws.proofs.Laws.More.{SoundStep}
@@ -80,17 +80,17 @@ wd16-step-plugged b m map big w line k b₁ m₁ b₂ m₂ p h e five six nine f
     let settings = settingsFrom w in
     let free = step-not-refused b m map w line b₁ m₁ e in
     let a = stepOf map (heard settings line) (stateFrom b) m in
-    let left₁ : went 0 b₁ m₁ ≡ stepped a = e ∙ step-call-is b m map w line (free .0) (free .1) in
-    let bytes : b₁ ≡ bytesOf (statePage (a .state)) (causeNumber (a .cause)) (toldOf (addressOf (a .cause))) = ap (λ z. z .state) left₁ in
+    let left₁ : told 0 (b₁, m₁) ≡ stepped a = e ∙ step-call-is b m map w line (free .0) (free .1) in
+    let bytes : b₁ ≡ bytesOf (statePage (a .state)) (causeNumber (a .cause)) (toldOf (addressOf (a .cause))) = ap (λ z. z .lent .0) left₁ in
     let mode : byteAt b₁ 18 ≡ modeNumber (a .state .mode) = ap (λ z. byteAt z 18) bytes ∙ mode-byte (a .state) (causeNumber (a .cause)) (toldOf (addressOf (a .cause))) in
     let cause : byteAt b₁ 19 ≡ causeNumber (a .cause) = ap (λ z. byteAt z 19) bytes ∙ cause-byte (a .state) (causeNumber (a .cause)) (toldOf (addressOf (a .cause))) in
     let sound : SoundStep a = record {
       noBlank = number-no-blank (a .cause) (λ z. five (cause ∙ z)) (λ z. six (cause ∙ z)) (λ z. nine (cause ∙ z));
       unlocked = λ l. four (mode ∙ ap modeNumber l);
     } in
-    let left₂ : went k b₂ m₂ ≡ went 0 b₁ m₁ =
+    let left₂ : told {B = List ℕ × List ℕ} k (b₂, m₂) ≡ told 0 (b₁, m₁) =
     f ∙ step-call-is b m big w line (free .0) (step-taken settings m map big line h (free .1)) ∙ ap stepped (step-more map (heard settings line) (stateFrom b) m big (plugged-more map big p) sound) ∙ sym left₁ in
-    (ap (λ z. z .number) left₂, ap (λ z. z .state) left₂, ap (λ z. z .image) left₂)
+    (ap (λ z. z .number) left₂, ap (λ z. z .lent .0) left₂, ap (λ z. z .lent .1) left₂)
 
 done-one : {a b : Ran} → Finished.Done a ≡ Finished.Done b → a ≡ b
 done-one {a} {b} e = cc

@@ -17,7 +17,8 @@ use Rattle.machine.specs.Run.{rest, ranOf, runOf}
 use Rattle.machine.specs.Counted.{joined}
 use Rattle.machine.proofs.Laws.Counted.{joined-left, joined-right}
 use Rattle.machine.proofs.Laws.Back.{one-run}
-use Rattle.machine.specs.Entry.{powerWhy, left, finishedPage, runPage}
+use Rattle.refusal.specs.Page.{left}
+use Rattle.machine.specs.Entry.{powerWhy, finishedPage, runPage}
 use Rattle.machine.proofs.Laws.Answered.{run-done}
 use Rattle.firmware.specs.Layout.{bytesOf, placeNumber, placeTold, stateFrom, settingsFrom, refusedState, refusedStep}
 use Rattle.firmware.proofs.Laws.Again.{state-again, state-taken}

@@ -13,7 +13,7 @@ use Rattle.step.specs.declared.Cause.{Cause}
 use Rattle.step.specs.declared.Cause.the-variants as Cause
 use Rattle.step.specs.Step.{After, stepOf, causeNumber, blankAt, addressOf}
 use Rattle.refusal.specs.Numbers.{lineBit, noState}
-use Rattle.refusal.specs.Page.{refused, first, unless}
+use Rattle.refusal.specs.Page.{first, left, call, told, reading}
 use Rattle.refusal.proofs.Laws.Page.{apart, answered-one, refused-one}
 use Rattle.refusal.specs.Refusal.{allOf, plain, linesRefusal, stepRefusal, runRefusal}
 use Rattle.machine.specs.declared.Stepped.{Stepped}
@@ -23,10 +23,10 @@ use Rattle.words.proofs.Laws.{word-again}
 use Rattle.machine.specs.Numbers.{statePage, nowhere, toldOf, placeOf}
 use Rattle.machine.specs.Run.{end, rest, noted, noBlanks}
 use Rattle.machine.proofs.Laws.Back.{turn-one}
-use Rattle.machine.specs.Entry.{stepWhy, powerWhy, runWhy, left, turned, steppedPage, finishedPage, stepPage, runPage}
+use Rattle.machine.specs.Entry.{stepWhy, powerWhy, runWhy, turned, steppedPage, finishedPage, stepPage, runPage}
 use Rattle.machine.specs.Entry as Entry
 use Rattle.firmware.specs.Layout.{wordTold, bytesOf, tallyBytes, stateFrom, settingsFrom, refusedStep, refusedRun}
-use Rattle.firmware.specs.Calls.{stepBytes, went, wentFrom, stepCall, ended, endedFrom, runCall}
+use Rattle.firmware.specs.Calls.{stepIn, stepCall, runIn, runCall}
 use Rattle.laws.proofs.Laws.Calls.{cause-byte}
 use Rattle.laws.specs.One.{asRun, uncaused, tallied, OneCall}
 
@@ -40,17 +40,17 @@ one-refusal settings m map line = ap (first (powerWhy settings m map)) (split (p
     split false = refl
 
 -- a is the step, why its refusal
-page-one : (why : ℕ) (a : After) (m n : List ℕ) (q : Stepped) → left (steppedPage q) n ≡ unless why (turned a) (left (refused why) m)
-    → left (finishedPage (asRun q)) n ≡ unless why (Entry.ended (end (a .state) (a .image) (noted noBlanks 0 (blankAt (a .cause))))) (left (refused why) m)
+page-one : (why : ℕ) (a : After) (m n : List ℕ) (q : Stepped) → left (steppedPage q) n ≡ call why (turned a) m
+    → left (finishedPage (asRun q)) n ≡ call why (Entry.ended (end (a .state) (a .image) (noted noBlanks 0 (blankAt (a .cause))))) m
 page-one zero a m n (Stepped.Done t) e =
     let same : t ≡ record { state = a .state; cause = a .cause } = turn-one t (record { state = a .state; cause = a .cause }) (answered-one (ap (λ z. z .page) e)) in
-    let image : n ≡ a .image = ap (λ z. z .image) e in
+    let image : n ≡ a .image = ap (λ z. z .lent) e in
     rw (same, image)
 page-one zero a m n (Stepped.Refused why) e = absurd (apart (sym (ap (λ z. z .page) e)))
 page-one (suc why) a m n (Stepped.Done t) e = absurd (apart (ap (λ z. z .page) e))
 page-one (suc why) a m n (Stepped.Refused k) e =
     let same : k ≡ suc why = refused-one (ap (λ z. z .page) e) in
-    let image : n ≡ m = ap (λ z. z .image) e in
+    let image : n ≡ m = ap (λ z. z .lent) e in
     rw (same, image)
 
 -- what a step answers and leaves is what the run over its line word must
@@ -82,37 +82,32 @@ cause-tallied (Cause.SaveBlank a) = refl
 cause-tallied (Cause.LockedAt a) = refl
 cause-tallied Cause.Locked = refl
 
--- a is the step, why its refusal, bad where the lent bytes are refused
-call-one : (b t m : List ℕ) (bad : Bool) (why : ℕ) (a : After) (k j : ℕ) (b₁ t₁ m₁ b₂ m₂ : List ℕ)
-    → (let l = unless why (Entry.ended (end (a .state) (a .image) (noted noBlanks 0 (blankAt (a .cause))))) (left (refused why) m) in
-    ended k b₁ t₁ m₁ ≡ cond bad (ended noState b t m) (endedFrom b t (l .page) (l .image)))
-    → (let l = unless why (turned a) (left (refused why) m) in
-    went j b₂ m₂ ≡ cond bad (went noState b m) (wentFrom stepBytes b (l .page) (l .image)))
-    → OneCall k j b₁ t₁ m₁ b₂ m₂
-call-one b t m true why a k j b₁ t₁ m₁ b₂ m₂ e f =
-    let number : j ≡ noState = ap (λ z. z .number) f in
+-- two refusals
+refused-one-call : (b t m : List ℕ) (why k j : ℕ) (b₁ t₁ m₁ b₂ m₂ : List ℕ) → (why ≡ 0 → ⊥) → told {B = List ℕ × List ℕ × List ℕ} k (b₁, t₁, m₁) ≡ told why (b, t, m) → told {B = List ℕ × List ℕ} j (b₂, m₂) ≡ told why (b, m) → OneCall k j b₁ t₁ m₁ b₂ m₂
+refused-one-call b t m why k j b₁ t₁ m₁ b₂ m₂ n e f =
+    let number : j ≡ why = ap (λ z. z .number) f in
     record {
       number = ap (λ z. z .number) e ∙ sym number;
-      image = ap (λ z. z .image) e ∙ sym (ap (λ z. z .image) f);
-      state = λ z. absurd (omega arith);
-      tally = λ z. absurd (omega arith);
+      image = ap (λ z. z .lent .2) e ∙ sym (ap (λ z. z .lent .1) f);
+      state = λ z. absurd (n (sym number ∙ z));
+      tally = λ z. absurd (n (sym number ∙ z));
     }
-call-one b t m false zero a k j b₁ t₁ m₁ b₂ m₂ e f =
-    let after : b₂ ≡ bytesOf (statePage (a .state)) (causeNumber (a .cause)) (toldOf (addressOf (a .cause))) = ap (λ z. z .state) f in
+
+-- a is the step, why its refusal, bad that of the lent bytes
+call-one : (b t m : List ℕ) (bad why : ℕ) (a : After) (k j : ℕ) (b₁ t₁ m₁ b₂ m₂ : List ℕ)
+    → told k (b₁, t₁, m₁) ≡ reading runIn (λ z. (b, t, z)) (call bad (call why (Entry.ended (end (a .state) (a .image) (noted noBlanks 0 (blankAt (a .cause))))) m) m)
+    → told j (b₂, m₂) ≡ reading stepIn (λ z. (b, z)) (call bad (call why (turned a) m) m)
+    → OneCall k j b₁ t₁ m₁ b₂ m₂
+call-one b t m zero zero a k j b₁ t₁ m₁ b₂ m₂ e f =
+    let after : b₂ ≡ bytesOf (statePage (a .state)) (causeNumber (a .cause)) (toldOf (addressOf (a .cause))) = ap (λ z. z .lent .0) f in
     record {
       number = ap (λ z. z .number) e ∙ sym (ap (λ z. z .number) f);
-      image = ap (λ z. z .image) e ∙ sym (ap (λ z. z .image) f);
-      state = λ z. ap (λ z. z .state) e ∙ uncaused-bytes (a .state) (a .cause) ∙ ap uncaused (sym after);
-      tally = λ z. rw (after, cause-byte (a .state) (causeNumber (a .cause)) (toldOf (addressOf (a .cause))), told-bytes (a .state) (a .cause)) (ap (λ z. z .tally) e ∙ cause-tallied (a .cause));
+      image = ap (λ z. z .lent .2) e ∙ sym (ap (λ z. z .lent .1) f);
+      state = λ z. ap (λ z. z .lent .0) e ∙ uncaused-bytes (a .state) (a .cause) ∙ ap uncaused (sym after);
+      tally = λ z. rw (after, cause-byte (a .state) (causeNumber (a .cause)) (toldOf (addressOf (a .cause))), told-bytes (a .state) (a .cause)) (ap (λ z. z .lent .1) e ∙ cause-tallied (a .cause));
     }
-call-one b t m false (suc why) a k j b₁ t₁ m₁ b₂ m₂ e f =
-    let number : j ≡ suc why = ap (λ z. z .number) f in
-    record {
-      number = ap (λ z. z .number) e ∙ sym number;
-      image = ap (λ z. z .image) e ∙ sym (ap (λ z. z .image) f);
-      state = λ z. absurd (omega arith);
-      tally = λ z. absurd (omega arith);
-    }
+call-one b t m zero (suc why) a k j b₁ t₁ m₁ b₂ m₂ e f = refused-one-call b t m (suc why) k j b₁ t₁ m₁ b₂ m₂ (λ z. omega (arith, z)) e f
+call-one b t m (suc bad) why a k j b₁ t₁ m₁ b₂ m₂ e f = refused-one-call b t m (suc bad) k j b₁ t₁ m₁ b₂ m₂ (λ z. omega (arith, z)) e f
 
 or-none : (b : Bool) → b || false ≡ b
 or-none true = refl
@@ -123,8 +118,8 @@ unfolding refusedRun
 run-refused b t w l = rw (eq-eqb (length t) 6 l) (or-none (refusedStep b w))
 
 pub calls-one : (b t m map w : List ℕ) (line k j : ℕ) (b₁ t₁ m₁ b₂ m₂ : List ℕ) → length t ≡ 6
-    → ended k b₁ t₁ m₁ ≡ runCall b t m map w (line ∷ []) → went j b₂ m₂ ≡ stepCall b m map w line → OneCall k j b₁ t₁ m₁ b₂ m₂
+    → told k (b₁, t₁, m₁) ≡ runCall b t m map w (line ∷ []) → told j (b₂, m₂) ≡ stepCall b m map w line → OneCall k j b₁ t₁ m₁ b₂ m₂
 unfolding runCall stepCall runPage stepPage rest
 calls-one b t m map w line k j b₁ t₁ m₁ b₂ m₂ l e f =
-    call-one b t m (refusedStep b w) (stepWhy (settingsFrom w) m map line) (stepOf map (heard (settingsFrom w) line) (stateFrom b) m) k j b₁ t₁ m₁ b₂ m₂
+    call-one b t m (cond (refusedStep b w) noState 0) (stepWhy (settingsFrom w) m map line) (stepOf map (heard (settingsFrom w) line) (stateFrom b) m) k j b₁ t₁ m₁ b₂ m₂
     (rw (run-refused b t w l, one-refusal (settingsFrom w) m map line) at e) f

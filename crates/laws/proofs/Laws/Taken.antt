@@ -13,7 +13,7 @@ use Rattle.state.specs.State.{heard}
 use Rattle.step.specs.declared.Cause.the-variants as Cause
 use Rattle.step.specs.Step.{stepOf}
 use Rattle.refusal.specs.Numbers.{linesLength, lineBit}
-use Rattle.refusal.specs.Page.{refused}
+use Rattle.refusal.specs.Page.{refused, left}
 use Rattle.refusal.proofs.Laws.Page.{first-both, apart}
 use Rattle.refusal.specs.Refusal.{allOf, plain, linesRefusal, runRefusal, stepRefusal}
 use Rattle.refusal.proofs.Laws.Refusal.{short, cond-none}
@@ -23,7 +23,7 @@ use Rattle.machine.specs.declared.Finished.{Finished}
 use Rattle.machine.specs.declared.Finished.the-variants as Finished
 use Rattle.machine.specs.Run.{End, end, runOf, ranOf}
 use Rattle.machine.proofs.Laws.Counted.{run-trail}
-use Rattle.machine.specs.Entry.{powerWhy, runWhy, left, finishedPage, ended, runPage, stepWhy, turned, stepPage}
+use Rattle.machine.specs.Entry.{powerWhy, runWhy, finishedPage, ended, runPage, stepWhy, turned, stepPage}
 use Rattle.machine.proofs.Laws.Answered.{run-done}
 use Rattle.laws.proofs.Laws.Sizes.{trail-size}
 

@@ -2,7 +2,7 @@
 use Prim.Native.Nat.{ℕ}
 use mathlib.Core.List.{List}
 use mathlib.Core.Path.{_≡_, refl, ap, sym, _∙_}
-use Rattle.refusal.specs.Page.{Page, refused, answered}
+use Rattle.refusal.specs.Page.{Page, refused, refusedAt, answered}
 use Rattle.listing.specs.declared.Listed.{Listed}
 use Rattle.listing.specs.declared.Listed.the-variants.{Line, Last, Refused}
 use Rattle.listing.specs.Calls.{Next, goesOn, ends, Told, listedPage, Left, left, lineCall}
@@ -16,6 +16,7 @@ from n ends = Last n
 abbrev listedOf : Page Told → Listed
 listedOf (answered t) = from (t .count) (t .next)
 listedOf (refused why) = Refused why
+listedOf (refusedAt why place) = Refused why
 
 listed-back : (r : Listed) → listedOf (listedPage r) ≡ r
 listed-back (Line n a) = refl

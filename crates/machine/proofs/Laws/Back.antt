@@ -2,7 +2,7 @@
 use Prim.Native.Nat.{ℕ, _+_, _*_}
 use mathlib.Core.Bool.{Bool, true, false}
 use mathlib.Core.List.{List, [], _∷_}
-use mathlib.Core.Path.{_≡_, refl, sym, ap, _∙_}
+use mathlib.Core.Path.{_≡_, refl, ap}
 use lib.Dec.{eqb}
 use lib.ListN.{getD}
 use Rattle.word.specs.declared.Flags.{Flags}
@@ -26,14 +26,11 @@ use Rattle.machine.specs.declared.Stepped.{Stepped}
 use Rattle.machine.specs.declared.Stepped.the-variants as Stepped
 use Rattle.machine.specs.declared.Finished.{Finished}
 use Rattle.machine.specs.declared.Finished.the-variants as Finished
-use Rattle.refusal.specs.Page.{Page, refused, answered}
+use Rattle.refusal.specs.Page.{Page, refused, refusedAt, answered, left}
+use Rattle.refusal.proofs.Laws.Page.{one, one-call}
 use Rattle.machine.specs.Numbers.{indicators, StatePage, statePage, Address, address, nowhere, toldOf, TurnPage, turnPage, Place, place, none, placeOf, RanPage, ranPage}
-use Rattle.machine.specs.Entry.{left, poweredPage, steppedPage, finishedPage}
+use Rattle.machine.specs.Entry.{poweredPage, steppedPage, finishedPage}
 use Rattle.machine.specs.Back.{modeOf, fromRegisters, stateOf}
-
--- what can be read back is one to one
-one : {A B : Type 0} {f : A → B} (back : B → A) → ((x : A) → back (f x) ≡ x) → (x y : A) → f x ≡ f y → x ≡ y
-one back again x y e = sym (again x) ∙ ap back e ∙ again y
 
 -- ---- a state, from its page
 
@@ -127,6 +124,7 @@ ran-one = one ranOf ran-back
 abbrev poweredOf : Page StatePage → Powered
 poweredOf (answered p) = Powered.Up (stateOf p)
 poweredOf (refused why) = Powered.Refused why
+poweredOf (refusedAt why at) = Powered.Refused why
 
 powered-back : (r : Powered) → poweredOf (poweredPage r) ≡ r
 powered-back (Powered.Up s) = ap Powered.Up (state-back s)
@@ -135,6 +133,7 @@ powered-back (Powered.Refused why) = refl
 abbrev steppedOf : Page TurnPage → Stepped
 steppedOf (answered p) = Stepped.Done (turnOf p)
 steppedOf (refused why) = Stepped.Refused why
+steppedOf (refusedAt why at) = Stepped.Refused why
 
 stepped-back : (r : Stepped) → steppedOf (steppedPage r) ≡ r
 stepped-back (Stepped.Done t) = ap Stepped.Done (turn-back t)
@@ -143,6 +142,7 @@ stepped-back (Stepped.Refused why) = refl
 abbrev finishedOf : Page RanPage → Finished
 finishedOf (answered p) = Finished.Done (ranOf p)
 finishedOf (refused why) = Finished.Refused why
+finishedOf (refusedAt why at) = Finished.Refused why
 
 finished-back : (r : Finished) → finishedOf (finishedPage r) ≡ r
 finished-back (Finished.Done q) = ap Finished.Done (ran-back q)
@@ -160,10 +160,10 @@ pub finished-one : (r q : Finished) → finishedPage r ≡ finishedPage q → r 
 finished-one = one finishedOf finished-back
 
 pub one-power : (r q : Powered) (m n : List ℕ) → left (poweredPage r) m ≡ left (poweredPage q) n → (r ≡ q) × (m ≡ n)
-one-power r q m n e = (powered-one r q (ap (λ z. z .page) e), ap (λ z. z .image) e)
+one-power = one-call poweredPage powered-one
 
 pub one-step : (r q : Stepped) (m n : List ℕ) → left (steppedPage r) m ≡ left (steppedPage q) n → (r ≡ q) × (m ≡ n)
-one-step r q m n e = (stepped-one r q (ap (λ z. z .page) e), ap (λ z. z .image) e)
+one-step = one-call steppedPage stepped-one
 
 pub one-run : (r q : Finished) (m n : List ℕ) → left (finishedPage r) m ≡ left (finishedPage q) n → (r ≡ q) × (m ≡ n)
-one-run r q m n e = (finished-one r q (ap (λ z. z .page) e), ap (λ z. z .image) e)
+one-run = one-call finishedPage finished-one

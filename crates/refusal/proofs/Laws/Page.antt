@@ -1,8 +1,8 @@
 -- The first refusal met, and what is right where nothing is refused.
 use Prim.Native.Nat.{ℕ, zero, suc}
-use mathlib.Core.Path.{_≡_, refl}
+use mathlib.Core.Path.{_≡_, refl, sym, ap, _∙_}
 use native.Mathlib.Omega.{arith}
-use Rattle.refusal.specs.Page.{Page, refused, answered, first, unless}
+use Rattle.refusal.specs.Page.{Page, refused, answered, Left, left, call, first, unless}
 
 pub first-some : (why later : ℕ) → (why ≡ 0 → ⊥) → why ≡ first why later
 first-some zero later n = absurd (n refl)
@@ -26,3 +26,31 @@ refused-one {A} {x} {y} e = cc
 
 pub answered-one : {A : Type 0} {x y : A} → answered x ≡ answered y → x ≡ y
 answered-one {A} {x} {y} e = cc
+
+-- ---- a refused call, and one that is not
+
+module _ {A B : Type 0} (why : ℕ) (right : Left A B) (lent : B) where
+  pub call-refused : (n : ℕ) → n ≡ why → (n ≡ 0 → ⊥) → left (refused n) lent ≡ call why right lent
+  call-refused n e some = by why e
+    where
+      by : (k : ℕ) → n ≡ k → left (refused n) lent ≡ call k right lent
+      by zero d = absurd (some d)
+      by (suc k) d = rw d refl
+
+  pub call-answered : (x : Left A B) → why ≡ 0 → x ≡ right → x ≡ call why right lent
+  call-answered x e h = rw e h
+
+  -- an answer is what is right, and nothing was refused
+  pub call-right : {a : A} {b : B} → left (answered a) b ≡ call why right lent → (why ≡ 0) × (left (answered a) b ≡ right)
+  call-right {a} {b} e = by why e
+    where
+      by : (k : ℕ) → left (answered a) b ≡ call k right lent → (k ≡ 0) × (left (answered a) b ≡ right)
+      by zero d = (refl, d)
+      by (suc k) d = absurd (apart (ap (λ z. z .page) d))
+
+-- ---- ONE OUTCOME: what can be read back is one to one, and so is a page with what is left
+pub one : {A B : Type 0} {f : A → B} (back : B → A) → ((x : A) → back (f x) ≡ x) → (x y : A) → f x ≡ f y → x ≡ y
+one back again x y e = sym (again x) ∙ ap back e ∙ again y
+
+pub one-call : {R A B : Type 0} (page : R → Page A) → ((r q : R) → page r ≡ page q → r ≡ q) → (r q : R) (b c : B) → left (page r) b ≡ left (page q) c → (r ≡ q) × (b ≡ c)
+one-call page once r q b c e = (once r q (ap (λ z. z .page) e), ap (λ z. z .lent) e)

@@ -8,13 +8,13 @@ use Rattle.state.specs.declared.Settings.{Settings}
 use Rattle.step.specs.Step.{up, powerUpOf}
 use Rattle.step.proofs.Laws.Jumpers.{same-power}
 use Rattle.words.specs.Words.{wordAt}
-use Rattle.refusal.specs.Page.{refused, answered, unless}
+use Rattle.refusal.specs.Page.{refused, answered, left, unless}
 use Rattle.refusal.proofs.Laws.Page.{first-both, apart, answered-one}
 use Rattle.refusal.specs.Refusal.{linesRefusal, runRefusal}
 use Rattle.machine.specs.declared.Powered.{Powered}
 use Rattle.machine.specs.declared.Powered.the-variants as Powered
 use Rattle.machine.specs.Numbers.{statePage}
-use Rattle.machine.specs.Entry.{left, powerWhy, runWhy, powered, poweredPage, powerUpPage}
+use Rattle.machine.specs.Entry.{powerWhy, runWhy, powered, poweredPage, powerUpPage}
 use Rattle.machine.proofs.Laws.Back.{state-one}
 use Rattle.machine.proofs.Laws.Answered.{power-answer}
 use Rattle.job.specs.declared.Answer.{Answer}
@@ -59,7 +59,7 @@ module _ (m map : List ℕ) (board : Settings) where
   up-done s r m′ g e d =
       let h : left (answered (statePage s)) m′ ≡ powered (powerUpOf benchBoard map m) = power-answer benchBoard m map (ap (λ z. left (poweredPage z) m′) (sym d) ∙ e ∙ ap (λ z. powerUpPage z m map) g) .1 in
       let state : s ≡ powerUpOf benchBoard map m .state = state-one s (powerUpOf benchBoard map m .state) (answered-one (ap (λ z. z .page) h)) in
-      let image : m′ ≡ powerUpOf benchBoard map m .image = ap (λ z. z .image) h in
+      let image : m′ ≡ powerUpOf benchBoard map m .image = ap (λ z. z .lent) h in
       rw (state, image)
 
   -- with the jumpers 11 it writes nothing
