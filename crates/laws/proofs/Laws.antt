@@ -1,8 +1,11 @@
 -- The laws of the crate's definitions.
+pub mod Always
 pub mod Append
 pub mod Calls
 pub mod Cards
 pub mod Halves
+pub mod Mark
+pub mod Marked
 pub mod More
 pub mod One
 pub mod Sizes

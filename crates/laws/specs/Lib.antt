@@ -1,3 +1,4 @@
 pub mod One
 pub mod Halves
 pub mod Cards
+pub mod Mark

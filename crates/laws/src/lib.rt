@@ -1,1 +1,1 @@
-// Laws of runs that customers may cite, as theorems over the contracts of what users call: specs/Halves.antt, Cards.antt.
+// The laws of document 02 that customers may cite, as theorems over the contracts of what users call: a file of specs/ for each wish.

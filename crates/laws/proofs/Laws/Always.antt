@@ -1,0 +1,61 @@
+-- What every end of a piece of work has, whatever it reads and whatever of it is answered.
+use Prim.Native.Nat.{ℕ, zero, suc}
+use mathlib.Core.Bool.{Bool, true, false, cond}
+use mathlib.Core.List.{List, [], _∷_}
+use mathlib.Core.Path.{_≡_, subst}
+use lib.ListN.{getD}
+use Rattle.board.specs.Work.{Work, give, readAt, writeAt, value, fitted, writable, get, put, run, _>>=_}
+use Rattle.board.proofs.Laws.Alike.{found-value}
+
+-- every A that the work may end in is so
+unfoldable pub Always : {A : Type 0} → (A → Type 0) → Work A → Type 0
+Always P (give x) = P x
+Always P (readAt z a k) = (v : ℕ) → Always P (k v)
+Always P (writeAt z a v w) = Always P w
+
+-- what it comes to is one of its ends
+pub always-value : {A : Type 0} (P : A → Type 0) (map : List ℕ) (w : Work A) (m : List ℕ) {x : A} {n : List ℕ} → Always P w → run map w m ≡ value x n → P x
+unfolding Always run
+always-value {A} P map (give y) m {x} {n} p h = let same : y ≡ x = given h in subst P same p
+  where
+    given : {y x : A} {m n : List ℕ} → value y m ≡ value x n → y ≡ x
+    given h = cc
+always-value P map (readAt z a k) m {x} {n} p h = always-value P map (k (get z m a)) m (p (get z m a)) (found-value (fitted map a) a _ x n h .1)
+always-value P map (writeAt z a v w) m {x} {n} p h = always-value P map w (put z m a v) p (found-value (writable map a) a _ x n h .1)
+
+-- work after work
+pub always-then : {A B : Type 0} (P : A → Type 0) (Q : B → Type 0) (w : Work A) (f : A → Work B) → Always P w → ((x : A) → P x → Always Q (f x)) → Always Q (w >>= f)
+unfolding Always _>>=_
+always-then P Q (give x) f p g = g x p
+always-then P Q (readAt z a k) f p g = λ v. always-then P Q (k v) f (p v) g
+always-then P Q (writeAt z a v w) f p g = always-then P Q w f p g
+
+-- whatever the first comes to
+pub always-after : {A B : Type 0} (Q : B → Type 0) (w : Work A) (f : A → Work B) → ((x : A) → Always Q (f x)) → Always Q (w >>= f)
+unfolding Always _>>=_
+always-after Q (give x) f g = g x
+always-after Q (readAt z a k) f g = λ v. always-after Q (k v) f g
+always-after Q (writeAt z a v w) f g = always-after Q w f g
+
+-- less is asked
+pub always-less : {A : Type 0} (P Q : A → Type 0) (w : Work A) → ((x : A) → P x → Q x) → Always P w → Always Q w
+unfolding Always
+always-less P Q (give x) g p = g x p
+always-less P Q (readAt z a k) g p = λ v. always-less P Q (k v) g (p v)
+always-less P Q (writeAt z a v w) g p = always-less P Q w g p
+
+-- one of two, and one of a list
+pub always-cond : {A : Type 0} (P : A → Type 0) (b : Bool) (w u : Work A) → Always P w → Always P u → Always P (cond b w u)
+always-cond P true w u p q = p
+always-cond P false w u p q = q
+
+-- each of a list of works
+unfoldable pub AlwaysEach : {A : Type 0} → (A → Type 0) → List (Work A) → Type 0
+AlwaysEach P [] = Unit {0}
+AlwaysEach P (w ∷ ws) = Always P w × AlwaysEach P ws
+
+pub always-pick : {A : Type 0} (P : A → Type 0) (ws : List (Work A)) (k : ℕ) (w : Work A) → AlwaysEach P ws → Always P w → Always P (getD ws k w)
+unfolding AlwaysEach
+always-pick P [] k w e p = p
+always-pick P (u ∷ ws) zero w e p = e .0
+always-pick P (u ∷ ws) (suc k) w e p = always-pick P ws k w (e .1) p

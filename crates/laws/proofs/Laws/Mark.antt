@@ -1,0 +1,80 @@
+-- The theorems that specs/Mark.antt states.
+use Prim.Native.Nat.{ℕ}
+use mathlib.Core.Bool.{Bool, true, false, not, _&&_, cond}
+use mathlib.Core.List.{List}
+use mathlib.Core.Path.{_≡_, refl, sym, ap, _∙_}
+use Rattle.word.specs.Number.{bit}
+use Rattle.state.specs.declared.State.{State}
+use Rattle.state.specs.declared.Settings.{Settings}
+use Rattle.state.specs.declared.Mode.the-variants.{Running}
+use Rattle.state.specs.State.{heard}
+use Rattle.step.specs.declared.Turn.{Turn}
+use Rattle.step.specs.declared.Kind.{Kind}
+use Rattle.step.specs.declared.Kind.the-variants.{OpCode, NonVectored, Vectored}
+use Rattle.step.specs.Step.{stepOf, kindOf, causeOf, errorCauseOf}
+use Rattle.step.proofs.Laws.Late.{held, unmarked-hears}
+use Rattle.refusal.proofs.Laws.Page.{answered-one}
+use Rattle.machine.proofs.Laws.Back.{state-one, turn-one}
+use Rattle.machine.proofs.Laws.Answered.{power-answer, step-answer}
+use Rattle.laws.proofs.Laws.Marked.{step-marks, held-off, switch-heard, power-clears, cause-by, enabled-runs}
+use Rattle.laws.specs.Mark.{executed, enables, isRunning, markAfter, fromOpCode, interrupted, fromInterrupt, fromSwitch, Steps, MarkAfter, PowerUpClears, HoldsOff, SwitchHeard, LateOnce}
+
+-- what a call of `step` answered and left is the definition's
+turn-is : (settings : Settings) (m map : List ℕ) (line : ℕ) (s : State) (t : Turn) (n : List ℕ) → Steps settings m map line s t n
+    → (let a = stepOf map (heard settings line) s m in (t .state ≡ a .state) × (t .cause ≡ a .cause) × (n ≡ a .image))
+turn-is settings m map line s t n e =
+    let a = stepOf map (heard settings line) s m in
+    let h = step-answer settings m map line s e .1 in
+    let same : t ≡ record { state = a .state; cause = a .cause } = turn-one t (record { state = a .state; cause = a .cause }) (answered-one (ap (λ z. z .page) h)) in
+    (ap (λ z. z .state) same, ap (λ z. z .cause) same, ap (λ z. z .lent) h)
+
+pub mark-after : MarkAfter
+mark-after settings m map line s t n e =
+    let is = turn-is settings m map line s t n e in
+    ap (λ z. z .mark) (is .0) ∙ step-marks map (heard settings line) s m ∙ ap (λ z. markAfter s m z) (sym (is .1))
+
+pub power-up-clears : PowerUpClears
+power-up-clears settings m map s n e =
+    let h = power-answer settings m map e .1 in
+    ap (λ z. z .mark) (state-one s _ (answered-one (ap (λ z. z .page) h))) ∙ power-clears settings map m
+
+pub holds-off : HoldsOff
+holds-off settings m map line s t n e mark = ap fromInterrupt (turn-is settings m map line s t n e .1) ∙ held-off map (heard settings line) s m mark
+
+pub switch-heard-too : SwitchHeard
+switch-heard-too settings m map line s t n e runs i3 = ap fromSwitch (turn-is settings m map line s t n e .1) ∙ switch-heard map (heard settings line) s m runs i3
+
+-- ---- exactly one more op code
+
+began : (k : Kind) → k ≡ OpCode → (fromOpCode (causeOf k) ≡ true) × ((a : ℕ) → fromOpCode (errorCauseOf k a) ≡ true)
+began k e = rw e (refl, λ a. refl)
+
+begun-by : (i1 : Bool) (k : Kind) → k ≡ cond i1 NonVectored Vectored → (interrupted (causeOf k) ≡ true) × ((a : ℕ) → interrupted (errorCauseOf k a) ≡ true)
+begun-by true k e = rw e (refl, λ a. refl)
+begun-by false k e = rw e (refl, λ a. refl)
+
+and-not : (x : Bool) → (x && not true) ≡ false
+and-not true = refl
+and-not false = refl
+
+module _ (settings : Settings) (map : List ℕ) (m m₁ m₂ m₃ : List ℕ) (l₁ l₂ l₃ : ℕ) (s : State) (t₁ t₂ t₃ : Turn)
+    (ien : Steps settings m map l₁ s t₁ m₁) (next : Steps settings m₁ map l₂ (t₁ .state) t₂ m₂) (last : Steps settings m₂ map l₃ (t₂ .state) t₃ m₃) where
+  pub late-once : LateOnce settings map m m₁ m₂ m₃ l₁ l₂ l₃ s t₁ t₂ t₃ ien next last
+  late-once runs clear enables-it done quiet quiet′ asks =
+      let one = turn-is settings m map l₁ s t₁ m₁ ien in
+      let two = turn-is settings m₁ map l₂ (t₁ .state) t₂ m₂ next in
+      let three = turn-is settings m₂ map l₃ (t₂ .state) t₃ m₃ last in
+      let on = enabled-runs map (heard settings l₁) s m runs enables-it (sym (one .1) ∙ done) in
+      let running : t₁ .state .mode ≡ Running = ap (λ z. z .mode) (one .0) ∙ on .0 ∙ runs in
+      let set : t₁ .state .i2 ≡ true = ap (λ z. z .i2) (one .0) ∙ on .1 in
+      let marked : t₁ .state .mark ≡ true =
+      mark-after settings m map l₁ s t₁ m₁ ien ∙ ap (λ c. markAfter s m c) done ∙ ap (λ z. cond (isRunning z) (enables (executed s m) && not (s .i2)) (s .mark)) runs ∙ ap (λ z. z && not (s .i2)) enables-it ∙ ap not clear in
+      let begins = began (kindOf (t₁ .state) (heard settings l₂)) (held (t₁ .state) (heard settings l₂) running marked quiet) in (
+        ap fromOpCode (two .1) ∙ cause-by map (heard settings l₂) (t₁ .state) m₁ fromOpCode true (begins .0) (begins .1) (λ a. refl),
+        λ code runs₂ set₂.
+            let unmarked : t₂ .state .mark ≡ false =
+            mark-after settings m₁ map l₂ (t₁ .state) t₂ m₂ next ∙ ap (λ c. markAfter (t₁ .state) m₁ c) code ∙ ap (λ z. cond (isRunning z) (enables (executed (t₁ .state) m₁) && not (t₁ .state .i2)) (t₁ .state .mark)) running
+            ∙ ap (λ z. enables (executed (t₁ .state) m₁) && not z) set ∙ and-not (enables (executed (t₁ .state) m₁)) in
+            let hears = begun-by (bit 1 l₃) (kindOf (t₂ .state) (heard settings l₃)) (unmarked-hears (t₂ .state) (heard settings l₃) runs₂ set₂ unmarked (record { quiet = quiet′; asks = asks })) in
+            ap interrupted (three .1) ∙ cause-by map (heard settings l₃) (t₂ .state) m₂ interrupted true (hears .0) (hears .1) (λ a. refl),
+      )
