@@ -1,8 +1,9 @@
 #!/usr/bin/env python3
 """Makes, of the functions that the crates export for C, what tests of them need before the proof: exports.py FOLDER REPOSITORY
 
-The list is the crates' own: every `#[no_mangle] pub extern "C" fn` of a library that crates.txt names. A parameter is a
-slice (`&[u8]`, `&mut [u8]`, `&[u16]`) or a number (u8, u16, u32); the answer is a u8. Written to FOLDER:
+The list is the crates' own: every `#[no_mangle] pub extern "C" fn` of the crate hitchbriar, which has those of every other library
+that crates.txt names again; one that it lacks, or has with other parameters, is told and ends it. A parameter is a slice
+(`&[u8]`, `&mut [u8]`, `&[u16]`, `&mut [u16]`) or a number (u8, u16, u32); the answer is a u8. Written to FOLDER:
     reach.rt      a program that reaches each of them, so that the toolchain compiles them
     names.sed     gives the compiled functions names that C can call
     exports.c     the functions under their own names, over the compiled ones; c/hitchbriar.h must declare each alike
@@ -14,7 +15,8 @@ import re
 import sys
 
 EXPORT = re.compile(r'#\[no_mangle\]\s*pub extern "C" fn (\w+)\(([^)]*)\)\s*->\s*u8')
-SLICES = {"&[u8]": ("const uint8_t", 1), "&mut [u8]": ("uint8_t", 1), "&[u16]": ("const uint16_t", 2)}
+ONE = "hitchbriar"
+SLICES = {"&[u8]": ("const uint8_t", 1), "&mut [u8]": ("uint8_t", 1), "&[u16]": ("const uint16_t", 2), "&mut [u16]": ("uint16_t", 2)}
 NUMBERS = {"u8": "uint8_t", "u16": "uint16_t", "u32": "uint32_t"}
 
 
@@ -35,8 +37,8 @@ class Function:
         return "inner_" + self.name
 
 
-def exported(root):
-    """The functions for C, in the order of crates.txt and of the source."""
+def found(root):
+    """The functions for C of every crate, in the order of crates.txt and of the source."""
     for line in (root / "crates.txt").read_text(encoding="utf-8").splitlines():
         crate = line.partition("#")[0].partition(":")[0].strip()
         source = root / "crates" / crate / "src"
@@ -46,6 +48,16 @@ def exported(root):
             place = crate if file.stem == "lib" else f"{crate}::{file.stem}"
             for name, parameters in EXPORT.findall(file.read_text(encoding="utf-8")):
                 yield Function(place, name, parameters)
+
+
+def exported(root):
+    """Those of the one crate, which has every other crate's again with the same parameters."""
+    functions = list(found(root))
+    one = {function.name: function for function in functions if function.place == ONE}
+    for function in functions:
+        if function.name not in one or one[function.name].parameters != function.parameters:
+            sys.exit(f"exports.py: {ONE} has no {function.path()} with the same parameters")
+    return list(one.values())
 
 
 def reaching(functions):
@@ -59,7 +71,7 @@ def reaching(functions):
                 given.append("0")
                 continue
             mutable = "mut " if kind.startswith("&mut") else ""
-            element = "u16" if kind == "&[u16]" else "u8"
+            element = "u16" if "u16" in kind else "u8"
             yield f"    let {mutable}{local} = [0{element}; 1];"
             given.append(f"&{mutable}{local}")
         yield f"    {function.path()}({', '.join(given)});"
@@ -126,7 +138,7 @@ def main(arguments):
     if len(arguments) != 2:
         sys.exit(__doc__)
     folder = pathlib.Path(arguments[0])
-    functions = list(exported(pathlib.Path(arguments[1])))
+    functions = exported(pathlib.Path(arguments[1]))
     files = {"reach.rt": reaching, "names.sed": renaming, "exports.c": exporting, "calls.h": serving}
     for name, lines in files.items():
         (folder / name).write_text("\n".join(lines(functions)) + "\n", encoding="utf-8")

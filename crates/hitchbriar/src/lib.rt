@@ -1,0 +1,121 @@
+// Every function for C in one library, each over that of its own crate and with its contract: who calls several has the processor once. c/hitchbriar.h has their layout.
+ghost use mathlib.Core.Path.{_≡_};
+ghost use Rattle.refusal.specs.Page.{told};
+ghost use Rattle.firmware.specs.Calls as Firmware;
+ghost use Rattle.lentrecorder.specs.Calls as Recorder;
+ghost use Rattle.textc.specs.Calls as Text;
+ghost use Rattle.assembler_c.specs.Call as Assembler;
+ghost use Rattle.tracecall.specs.Calls as Trace;
+
+// The state after power-up; or 21, 1, 2, 3 or 35.
+#[no_mangle]
+pub extern "C" fn wd16_power_up(
+    state: &mut [u8],
+    image: &mut [u8],
+    map: &[u8],
+    settings: &[u8],
+) -> u8
+    ensures { λ r. ⌜ told r (now (state .exit), now (image .exit)) ≡ Firmware.powerUpCall (now (state .entry)) (now (image .entry)) (now (map .entry)) (now (settings .entry)) ⌝ }
+{
+    firmware::wd16_power_up(state, image, map, settings)
+}
+
+// One step over a line word; or 21, 1, 2, 3, 35 or 5.
+#[no_mangle]
+pub extern "C" fn wd16_step(
+    state: &mut [u8],
+    image: &mut [u8],
+    map: &[u8],
+    settings: &[u8],
+    line: u16,
+) -> u8
+    ensures { λ r. ⌜ told r (now (state .exit), now (image .exit)) ≡ Firmware.stepCall (now (state .entry)) (now (image .entry)) (now (map .entry)) (now (settings .entry)) line ⌝ }
+{
+    firmware::wd16_step(state, image, map, settings, line)
+}
+
+// A run over line words; or 21, 1, 2, 3, 35, 4 or 5.
+#[no_mangle]
+pub extern "C" fn wd16_run(
+    state: &mut [u8],
+    tally: &mut [u8],
+    image: &mut [u8],
+    map: &[u8],
+    settings: &[u8],
+    lines: &[u16],
+) -> u8
+    ensures { λ r. ⌜ told r (now (state .exit), now (tally .exit), now (image .exit)) ≡ Firmware.runCall (now (state .entry)) (now (tally .entry)) (now (image .entry)) (now (map .entry)) (now (settings .entry)) (now (lines .entry)) ⌝ }
+{
+    firmware::wd16_run(state, tally, image, map, settings, lines)
+}
+
+// One scan; or 21, 1, 2, 3, 35, 4, 5, 33 or 37.
+#[no_mangle]
+pub extern "C" fn wd16_scan(
+    state: &mut [u8],
+    tally: &mut [u8],
+    image: &mut [u8],
+    map: &[u8],
+    settings: &[u8],
+    lines: &[u16],
+    cards: &[u8],
+    readings: &[u16],
+    recorder: &mut [u8],
+) -> u8
+    ensures { λ r. ⌜ Recorder.scanned r (now (state .exit)) (now (tally .exit)) (now (image .exit)) (now (recorder .exit))
+        ≡ Recorder.scanCall (now (state .entry)) (now (tally .entry)) (now (image .entry)) (now (map .entry)) (now (settings .entry)) (now (lines .entry)) (now (cards .entry)) (now (readings .entry)) (now (recorder .entry)) ⌝ }
+{
+    lentrecorder::wd16_scan(
+        state,
+        tally,
+        image,
+        map,
+        settings,
+        lines,
+        cards,
+        readings,
+        recorder,
+    )
+}
+
+// The report of the channel whose number the one byte is; or 21 or 34.
+#[no_mangle]
+pub extern "C" fn wd16_report(recorder: &[u8], channel: &[u8], report: &mut [u8]) -> u8
+    ensures { λ r. ⌜ Recorder.told r (now (report .exit)) ≡ Recorder.reportCall (now (recorder .entry)) (now (channel .entry)) (now (report .entry)) ⌝ }
+{
+    lentrecorder::wd16_report(recorder, channel, report)
+}
+
+// Writes the text of the op code that begins the words into the text buffer; the answer is the line's length, the words taken,
+// and 0. Or 21, 38, 8, 6 or 7.
+#[no_mangle]
+pub extern "C" fn wd16_write_text(words: &[u8], text: &mut [u8], answer: &mut [u8]) -> u8
+    ensures { λ r. ⌜ Text.left r (now (text .exit)) (now (answer .exit)) ≡ Text.writeCall (now (words .entry)) (now (text .entry)) (now (answer .entry)) ⌝ }
+{
+    textc::wd16_write_text(words, text, answer)
+}
+
+// Reads a whole lent text into the words' bytes; the answer is the number of words, 0 and 0, or for 9, 30, 31 and 32 it is 0, 0
+// and the column. Or 21, 38 or 10.
+#[no_mangle]
+pub extern "C" fn wd16_read_text(text: &[u8], words: &mut [u8], answer: &mut [u8]) -> u8
+    ensures { λ r. ⌜ Text.ReadCall (now (text .entry)) (now (words .entry)) (now (answer .entry)) (Text.left r (now (words .exit)) (now (answer .exit))) ⌝ }
+{
+    textc::wd16_read_text(text, words, answer)
+}
+
+// Assembles a source into the front of the section; or 21, 10, 36, 24, 25, 26, 28 or 27.
+#[no_mangle]
+pub extern "C" fn wd16_assemble(source: &[u8], section: &mut [u8], answer: &mut [u8]) -> u8
+    ensures { λ r. ⌜ Assembler.went r (now (section .exit)) (now (answer .exit)) ≡ Assembler.assembleCall (now (source .entry)) (now (section .entry)) (now (answer .entry)) ⌝ }
+{
+    assembler_c::wd16_assemble(source, section, answer)
+}
+
+// Checks a trace of a job; or 21, the job's own refusal, or 29. The image, the map and the line words are the call's own.
+#[no_mangle]
+pub extern "C" fn wd16_check_trace(job: &[u8], trace: &[u8], verdict: &mut [u8]) -> u8
+    ensures { λ r. ⌜ Trace.went r (now (verdict .exit)) ≡ Trace.checkCall (now (job .entry)) (now (trace .entry)) (now (verdict .entry)) ⌝ }
+{
+    tracecall::wd16_check_trace(job, trace, verdict)
+}
