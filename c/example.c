@@ -14,13 +14,7 @@ static uint8_t state[WD16_STATE];
 
 static void put(uint16_t at, uint16_t word)
 {
-    image[at] = (uint8_t)word;
-    image[at + 1] = (uint8_t)(word >> 8);
-}
-
-static unsigned word_at(const uint8_t *bytes, size_t at)
-{
-    return bytes[at] + 256u * bytes[at + 1];
+    wd16_put_word(image, at, word);
 }
 
 /* Reads a converter at C000 again and again; the routine at 0090 counts in R1 what could not be read. */
@@ -42,11 +36,13 @@ static void show(const char *what, uint8_t answer)
 {
     printf("%-8s answer %u:", what, answer);
     for (size_t at = 0; at < WD16_INDICATORS; at += 2)
-        printf(" %04X", word_at(state, at));
+        printf(" %04X", wd16_word(state, at));
     printf(", indicators %X, I2 %u, mode %u, mark %u, cause %u", state[WD16_INDICATORS], state[WD16_I2],
            state[WD16_MODE], state[WD16_MARK], state[WD16_CAUSE]);
     if (state[WD16_TELLS])
-        printf(" at %04X", word_at(state, WD16_ADDRESS));
+        printf(", %s at %04X", wd16_cause_words(state[WD16_CAUSE]), wd16_word(state, WD16_ADDRESS));
+    if (answer != WD16_DONE)
+        printf("; %s", wd16_refusal_words(answer));
     printf("\n");
 }
 
@@ -69,10 +65,10 @@ static void run_with_lunch(const uint16_t *lines, size_t count, size_t n)
     uint8_t before[WD16_TALLY], after[WD16_TALLY];
     show("to lunch", run(before, lines, n));
     show("and on", run(after, lines + n, count - n));
-    unsigned early = word_at(before, WD16_FIRST), late = word_at(after, WD16_FIRST);
-    tell(word_at(before, WD16_BLANKS) + word_at(after, WD16_BLANKS),
-         early != 0xFFFF ? early : late != 0xFFFF ? (unsigned)n + late : 0xFFFF,
-         word_at(early != 0xFFFF ? before : after, WD16_FIRST_ADDRESS));
+    unsigned early = wd16_word(before, WD16_FIRST), late = wd16_word(after, WD16_FIRST);
+    tell(wd16_word(before, WD16_BLANKS) + wd16_word(after, WD16_BLANKS),
+         early != WD16_NONE ? early : late != WD16_NONE ? (unsigned)n + late : WD16_NONE,
+         wd16_word(early != WD16_NONE ? before : after, WD16_FIRST_ADDRESS));
 }
 
 static uint8_t step(uint16_t line)
@@ -91,7 +87,7 @@ int main(void)
     memcpy(state_before, state, sizeof state);
     memcpy(image_before, image, sizeof image);
     show("run", run(tally, quiet, 18));
-    tell(word_at(tally, WD16_BLANKS), word_at(tally, WD16_FIRST), word_at(tally, WD16_FIRST_ADDRESS));
+    tell(wd16_word(tally, WD16_BLANKS), wd16_word(tally, WD16_FIRST), wd16_word(tally, WD16_FIRST_ADDRESS));
 
     memcpy(state, state_before, sizeof state);
     memcpy(image, image_before, sizeof image);
@@ -109,7 +105,7 @@ int main(void)
     show("I3", step(WD16_LINE_I3));
     show("I3", step(WD16_LINE_I3));
     show("step", step(0));
-    printf("saved PC %04X, PS %04X\n", word_at(image, 0x000E), word_at(image, 0x0010));
+    printf("saved PC %04X, PS %04X\n", wd16_word(image, 0x000E), wd16_word(image, 0x0010));
 
     show("refused", step(0x4000)); /* an unused bit: 5, and nothing changes */
     settings[WD16_HALT] = 4;

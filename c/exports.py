@@ -1,22 +1,31 @@
 #!/usr/bin/env python3
-"""Makes, of the functions that the crates export for C, what tests of them need before the proof: exports.py FOLDER REPOSITORY
+"""Makes, of the list of functions for C, what builds and tests of the library need: exports.py FOLDER REPOSITORY
 
-The list is the crates' own: every `#[no_mangle] pub extern "C" fn` of the crate hitchbriar, which has those of every other library
-that crates.txt names again; one that it lacks, or has with other parameters, is told and ends it. A parameter is a slice
-(`&[u8]`, `&mut [u8]`, `&[u16]`, `&mut [u16]`) or a number (u8, u16, u32); the answer is a u8. Written to FOLDER:
-    reach.rt      a program that reaches each of them, so that the toolchain compiles them
-    names.sed     gives the compiled functions names that C can call
-    exports.c     the functions under their own names, over the compiled ones; c/hitchbriar.h must declare each alike
+The list is the source's own: every `#[no_mangle] pub extern "C" fn` of the crate hitchbriar, which has those of all other
+crates again. A parameter is a slice (`&[u8]`, `&mut [u8]`, `&[u16]`, `&mut [u16]`) or a number (u8, u16, u32); the answer is
+a u8. Written to FOLDER:
+    reach.rt      a program that reaches each of them, so that the toolchain compiles them without a proof
+    tried.sed     gives the compiled functions of that program names that C can call
+    tried.c       the functions under their own names, over the compiled ones of that program
+    proved.sed    as tried.sed, for the module of `rt staticlib`
+    proved.c      as tried.c, for the module of `rt staticlib`
     calls.h       for c/serve.c: each function by its name, over arguments read from a request
-and, on standard output, the crates that reach.rt needs.
+    calls.json    for chips/serve.mjs: each function's name and, for each argument, the bytes of an element, 0 for a number
+c/hitchbriar.h must declare each function as tried.c and proved.c define it.
 """
+import json
 import pathlib
 import re
 import sys
 
+LIBRARY = "hitchbriar"
 EXPORT = re.compile(r'#\[no_mangle\]\s*pub extern "C" fn (\w+)\(([^)]*)\)\s*->\s*u8')
-ONE = "hitchbriar"
-SLICES = {"&[u8]": ("const uint8_t", 1), "&mut [u8]": ("uint8_t", 1), "&[u16]": ("const uint16_t", 2), "&mut [u16]": ("uint16_t", 2)}
+SLICES = {
+    "&[u8]": ("const uint8_t", 1),
+    "&mut [u8]": ("uint8_t", 1),
+    "&[u16]": ("const uint16_t", 2),
+    "&mut [u16]": ("uint16_t", 2),
+}
 NUMBERS = {"u8": "uint8_t", "u16": "uint16_t", "u32": "uint32_t"}
 
 
@@ -37,27 +46,24 @@ class Function:
         return "inner_" + self.name
 
 
-def found(root):
-    """The functions for C of every crate, in the order of crates.txt and of the source."""
-    for line in (root / "crates.txt").read_text(encoding="utf-8").splitlines():
-        crate = line.partition("#")[0].partition(":")[0].strip()
-        source = root / "crates" / crate / "src"
-        if not crate or not (source / "lib.rt").exists():
-            continue
-        for file in sorted(source.glob("*.rt"), key=lambda file: (file.stem != "lib", file.stem)):
-            place = crate if file.stem == "lib" else f"{crate}::{file.stem}"
-            for name, parameters in EXPORT.findall(file.read_text(encoding="utf-8")):
-                yield Function(place, name, parameters)
+def exports_of(root, crate):
+    """The functions for C of a crate, in the order of its source."""
+    source = root / "crates" / crate / "src"
+    for file in sorted(source.glob("*.rt"), key=lambda file: (file.stem != "lib", file.stem)):
+        place = crate if file.stem == "lib" else f"{crate}::{file.stem}"
+        for name, parameters in EXPORT.findall(file.read_text(encoding="utf-8")):
+            yield Function(place, name, parameters)
 
 
 def exported(root):
-    """Those of the one crate, which has every other crate's again with the same parameters."""
-    functions = list(found(root))
-    one = {function.name: function for function in functions if function.place == ONE}
-    for function in functions:
-        if function.name not in one or one[function.name].parameters != function.parameters:
-            sys.exit(f"exports.py: {ONE} has no {function.path()} with the same parameters")
-    return list(one.values())
+    """The functions of the library. None of another crate is missing in it, and none has other parameters."""
+    functions = {function.name: function for function in exports_of(root, LIBRARY)}
+    for line in (root / "crates.txt").read_text(encoding="utf-8").splitlines():
+        crate = line.partition("#")[0].partition(":")[0].strip()
+        for function in exports_of(root, crate):
+            if function.name not in functions or functions[function.name].parameters != function.parameters:
+                sys.exit(f"exports.py: {LIBRARY} has no {function.path()} with the same parameters")
+    return list(functions.values())
 
 
 def reaching(functions):
@@ -71,19 +77,25 @@ def reaching(functions):
                 given.append("0")
                 continue
             mutable = "mut " if kind.startswith("&mut") else ""
-            element = "u16" if "u16" in kind else "u8"
-            yield f"    let {mutable}{local} = [0{element}; 1];"
+            yield f"    let {mutable}{local} = [0{kind[-4:-1].strip('[')}; 1];"
             given.append(f"&{mutable}{local}")
         yield f"    {function.path()}({', '.join(given)});"
     yield "}"
 
 
-def renaming(functions):
-    """The compiled functions become callable, and the program's main makes room for another."""
+def renaming_tried(functions):
+    """The compiled functions become callable. Each widens its answer itself, as C on 32-bit Arm, on RISC-V and in WebAssembly
+    expects. The program's main makes room for another."""
     for function in functions:
-        yield rf's/^define internal \(.*\)@"{function.path()}"(/define \1@{function.inner()}(/'
+        yield rf's/^define internal \(.*\)i8 @"{function.path()}"(/define hidden \1zeroext i8 @{function.inner()}(/'
         yield rf's/@"{function.path()}"(/@{function.inner()}(/'
-    yield r"s/^define i32 @main(/define i32 @inner_main(/"
+    yield "s/^define i32 @main(/define hidden i32 @inner_main(/"
+
+
+def renaming_proved(functions):
+    for function in functions:
+        yield rf"s/^define \(.*\)i8 @{function.name}(/define hidden \1zeroext i8 @{function.inner()}(/"
+        yield rf"s/@{function.name}(/@{function.inner()}(/"
 
 
 def prototype(function):
@@ -97,10 +109,12 @@ def prototype(function):
     return f"uint8_t {function.name}({', '.join(parts)})"
 
 
-def exporting(functions):
-    """A compiled function takes a slice as the address of its pointer and length."""
+def exporting_tried(functions):
+    """A compiled function takes a slice as the address of 16 bytes on every machine: the pointer at 0, 64 bits of length at 8,
+    aligned to 8. Where a pointer is four bytes, bytes 4 to 7 mean nothing."""
     yield '#include "hitchbriar.h"'
-    yield "struct slice { const void *at; size_t length; };"
+    yield "struct slice { _Alignas(8) const void *at; _Alignas(8) uint64_t length; };"
+    yield '_Static_assert(sizeof(struct slice) == 16 && offsetof(struct slice, length) == 8, "a slice of the module");'
     for function in functions:
         inner = ", ".join(NUMBERS.get(kind, "struct slice *") for _, kind in function.parameters)
         yield f"uint8_t {function.inner()}({inner});"
@@ -111,6 +125,22 @@ def exporting(functions):
         given = ", ".join(name if kind in NUMBERS else f"&{name}_slice" for name, kind in function.parameters)
         yield f"    return {function.inner()}({given});"
         yield "}"
+
+
+def exporting_proved(functions):
+    """The functions of `rt staticlib` take each length in 64 bits, whatever size_t is."""
+    yield '#include "hitchbriar.h"'
+    for function in functions:
+        inner = ", ".join(NUMBERS.get(kind) or f"{SLICES[kind][0]} *, uint64_t" for _, kind in function.parameters)
+        given = ", ".join(name if kind in NUMBERS else f"{name}, {name}_length" for name, kind in function.parameters)
+        yield f"uint8_t {function.inner()}({inner});"
+        yield prototype(function) + " {"
+        yield f"    return {function.inner()}({given});"
+        yield "}"
+
+
+def element(kind):
+    return SLICES[kind][1] if kind in SLICES else 0
 
 
 def serving(functions):
@@ -128,21 +158,34 @@ def serving(functions):
         yield "}"
     yield "static const struct call calls[] = {"
     for function in functions:
-        sizes = ", ".join(str(SLICES[kind][1]) if kind in SLICES else "0" for _, kind in function.parameters)
+        sizes = ", ".join(str(element(kind)) for _, kind in function.parameters)
         yield f'    {{ "{function.name}", {len(function.parameters)}, {{ {sizes} }}, call_{function.name} }},'
     yield "};"
 
 
+def describing(functions):
+    yield json.dumps({function.name: [element(kind) for _, kind in function.parameters] for function in functions})
+
+
+FILES = {
+    "reach.rt": reaching,
+    "tried.sed": renaming_tried,
+    "tried.c": exporting_tried,
+    "proved.sed": renaming_proved,
+    "proved.c": exporting_proved,
+    "calls.h": serving,
+    "calls.json": describing,
+}
+
+
 def main(arguments):
-    """The files, and the crates on standard output."""
     if len(arguments) != 2:
         sys.exit(__doc__)
     folder = pathlib.Path(arguments[0])
     functions = exported(pathlib.Path(arguments[1]))
-    files = {"reach.rt": reaching, "names.sed": renaming, "exports.c": exporting, "calls.h": serving}
-    for name, lines in files.items():
+    folder.mkdir(parents=True, exist_ok=True)
+    for name, lines in FILES.items():
         (folder / name).write_text("\n".join(lines(functions)) + "\n", encoding="utf-8")
-    print(" ".join(dict.fromkeys(function.place.partition("::")[0] for function in functions)))
 
 
 if __name__ == "__main__":

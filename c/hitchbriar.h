@@ -2,16 +2,24 @@
    text of one op code, written and read; the assembler for patches; the check of another shop's trace; and the plug
    recorder: one scan, and the report of a channel.
 
-   Each is a library of its own for x86-64, which `rt staticlib NAME` proves and writes: the processor libfirmware.a, the text
-   libtextc.a, the assembler libassembler_c.a, the check of traces libtracecall.a, the recorder liblentrecorder.a. A program
-   links what it calls. The processor and the text need nothing else, no C library either; the other three call its memset or
-   memcpy.
+   All of it is one library, libhitchbriar.a: `rt staticlib hitchbriar` proves it and writes it for x86-64, chips/library.sh
+   makes it for other chips, and a release has it for each (docs/CHIPS.md). words.c beside this header is plain C: the words of
+   the numbers; a release's libraries have it in them. A linker drops what is not called.
 
-   Each buffer comes as a pointer and a length, in elements. The pointer is not null and points at that many elements, also
-   where the length is wrong; a buffer that is written overlaps no other. Nothing else is asked of the caller: whatever the
-   buffers hold, and whatever their lengths are, a call comes back with 0 or with the number of its refusal. A refused call
-   leaves every buffer as it was, but for the answer where a text is refused with its column or a source with its line.
-   Nothing is kept between calls. */
+   Each buffer comes as a pointer and a length, in elements. The pointer points at that many elements, also where the length
+   is wrong; where the length is 0 it may be null. A buffer that is written overlaps no other. Words of two bytes (uint16_t)
+   are aligned as C aligns them; bytes may stand anywhere. Nothing else is asked of the caller: whatever the buffers hold, and
+   whatever their lengths are, a call comes back with 0 or with the number of its refusal. A refused call leaves every buffer
+   as it was, but for the answer where a text is refused with its column or a source with its line.
+
+   Nothing is kept between calls: no memory is allocated, and the library has no data of its own. So calls on different buffers
+   may go on at the same time, in threads and in interrupts. The work of a call is bounded: a run is a fixed part, a look at each
+   byte of the map and at each line word, and a step for each, which is one op code or one element of a block move.
+   docs/CHIPS.md has, for each chip, the instructions of a step and of a call, the code's bytes and each function's stack. Of a C
+   library it needs memset, memcpy and memmove at most; docs/CHIPS.md tells which function calls which.
+
+   What the old program puts out is in the image: it writes a card's page, and the caller reads that page's bytes when the call
+   has come back. A value that is written over within one call is not seen; where each one counts, call wd16_step. */
 #ifndef HITCHBRIAR_H
 #define HITCHBRIAR_H
 
@@ -22,6 +30,11 @@
 extern "C" {
 #endif
 
+/* This release, and the layout of the buffers: states, recorders and images that were kept are good for a library with the same
+   layout. */
+#define WD16_VERSION "1.0"
+#define WD16_LAYOUT 1
+
 enum {
     WD16_IMAGE = 65536,     /* bytes of an image: the low byte of a word at the even address */
     WD16_MAP = 256,         /* bytes of a map, one for each page of 256 addresses */
@@ -31,39 +44,49 @@ enum {
     WD16_MOST_LINES = 4096, /* line words of a run, at most */
 };
 
-enum { /* a map's bytes */
-    WD16_UNFITTED = 0,
-    WD16_FITTED = 1,
+/* A map's bytes. */
+enum wd16_page {
+    WD16_UNFITTED = 0,  /* not fitted */
+    WD16_FITTED = 1,    /* fitted */
     WD16_READ_ONLY = 2, /* fitted, and a write there is a bus error */
 };
 
 /* The settings' bytes: how the board is set up. */
 enum {
-    WD16_BLOCKS = 0,   /* 1 where the third microm is fitted, with the block moves 0E00 to 0FFF; else 0 */
-    WD16_POWER_UP = 1, /* the jumpers of the power-up option, 0 to 3 */
-    WD16_HALT = 2,     /* the jumpers of the halt option, 0 to 3 */
-    WD16_EXTERNAL = 3, /* the External Address Register, 0 to 63 */
+    WD16_BLOCKS = 0,         /* 1 where the third microm is fitted, with the block moves 0E00 to 0FFF; else 0 */
+    WD16_POWER_UP = 1,       /* the jumpers of the power-up option, 0 to 3 */
+    WD16_HALT = 2,           /* the jumpers of the halt option, 0 to 3 */
+    WD16_EXTERNAL = 3,       /* the External Address Register, 0 to 63 */
+    WD16_MOST_EXTERNAL = 63, /* the highest of it */
 };
 
-enum { /* the power-up option's jumpers */
+/* The power-up option's jumpers. */
+enum wd16_up_option {
     WD16_UP_BOOTSTRAP = 0, /* PC is C000, with bits 8 to 13 from the External Address Register; nothing is read */
     WD16_UP_PICK_UP = 1,   /* R0 to R5, SP, PC and PS are picked up from 0000 to 0010 */
     WD16_UP_HALT = 2,      /* the halt option is executed */
     WD16_UP_FETCH = 3,     /* PC is fetched from 0016 */
 };
 
-enum { /* the halt option's jumpers: what I3 does */
-    WD16_HALT_BOOTSTRAP = 0, /* as at power-up */
+/* The halt option's jumpers: what I3 does. */
+enum wd16_halt_option {
+    WD16_HALT_BOOTSTRAP = 0, /* as the bootstrap at power-up */
     WD16_HALT_SAVE = 1,      /* R0 to R5, SP, PC and PS are saved at 0000 to 0010, and picked up when I3 is clear again */
     WD16_HALT_LOCK = 2,      /* the processor locks up */
     WD16_HALT_FETCH = 3,     /* PC is fetched from 0016 */
 };
 
-/* A state's bytes. R0 to R5, SP and PC are bytes 0 to 15, two each, low byte first. */
+/* A state's bytes. R0 to R5, SP and PC are two bytes each, low byte first: wd16_word(state, WD16_PC). */
 enum {
+    WD16_R0 = 0,
+    WD16_R1 = 2,
+    WD16_R2 = 4,
+    WD16_R3 = 6,
+    WD16_R4 = 8,
+    WD16_R5 = 10,
     WD16_SP = 12,
     WD16_PC = 14,
-    WD16_INDICATORS = 16, /* N 8, Z 4, V 2, C 1 */
+    WD16_INDICATORS = 16, /* N, Z, V and C, as in a PS */
     WD16_I2 = 17,         /* the interrupt enable: 0 or 1 */
     WD16_MODE = 18,
     WD16_CAUSE = 19,   /* of the step that led here; 0 after power-up and after a run. Read for its range alone */
@@ -74,60 +97,148 @@ enum {
                           read-only for a write, before bit 0 is dropped; 0 where none is told. Not read */
 };
 
-enum { /* modes */
-    WD16_RUNNING = 0,
-    WD16_WAITING = 1,
-    WD16_HALTED_POWER_FAIL = 2,
-    WD16_HALTED_SWITCH = 3,
-    WD16_LOCKED = 4,
-    WD16_SAVED = 5, /* by the halt option, until I3 is clear */
+/* The bits of a PS, as it is pushed and saved. */
+enum {
+    WD16_PS_C = 0x0001,
+    WD16_PS_V = 0x0002,
+    WD16_PS_Z = 0x0004,
+    WD16_PS_N = 0x0008,
+    WD16_PS_POWER_UP = 0x0100, /* times the power-up option's jumpers */
+    WD16_PS_HALT = 0x0400,     /* times the halt option's jumpers */
+    WD16_PS_I2 = 0x1000,
+    WD16_PS_BUS_ERROR = 0x4000,  /* pushed by a bus error */
+    WD16_PS_POWER_FAIL = 0x8000, /* power fail stands on the lines */
 };
 
-enum { /* causes; 5, 6 and 9 tell an address, and 8 in the step that locks by a bus error. 7 is free: no step gives it */
-    WD16_BY_OP_CODE = 0, /* or its trap */
-    WD16_BY_I3 = 1,      /* the halt option, or the end of its save */
-    WD16_BY_I1 = 2,
-    WD16_BY_I0 = 3,
-    WD16_BY_NOTHING = 4,      /* waiting, halted or saved */
+enum wd16_mode {
+    WD16_RUNNING = 0,           /* running */
+    WD16_WAITING = 1,           /* waiting for an interrupt */
+    WD16_HALTED_POWER_FAIL = 2, /* halted until the power is back */
+    WD16_HALTED_SWITCH = 3,     /* halted until the halt switch is pressed */
+    WD16_LOCKED = 4,            /* locked until it is powered up again */
+    WD16_SAVED = 5,             /* saved until the halt switch is let go */
+};
+
+/* Causes; 5, 6 and 9 tell an address, and 8 in the step that locks by a bus error. 7 is free: no step gives it. */
+enum wd16_cause {
+    WD16_BY_OP_CODE = 0,      /* an op code, or its trap */
+    WD16_BY_I3 = 1,           /* the halt option, or the end of its save */
+    WD16_BY_I1 = 2,           /* interrupt I1 */
+    WD16_BY_I0 = 3,           /* interrupt I0 */
+    WD16_BY_NOTHING = 4,      /* nothing: waiting, halted or saved */
     WD16_BLANK_OP_CODE = 5,   /* a bus error in an op code */
     WD16_BLANK_INTERRUPT = 6, /* a bus error in an interrupt */
     WD16_BY_LOCK = 8,         /* locked, now or before */
     WD16_BLANK_SAVE = 9,      /* a bus error in a save */
 };
 
-/* A tally's bytes: the number of steps with cause 5, 6 or 9, then the place of the first of them, from 0, or FFFF where there
-   was none, then the address that it told, or 0; two each, low byte first. */
+/* A tally's bytes: the number of steps with cause 5, 6 or 9, then the place of the first of them, from 0, or WD16_NONE where
+   there was none, then the address that it told, or 0; two each, low byte first. */
 enum {
     WD16_BLANKS = 0,
     WD16_FIRST = 2,
     WD16_FIRST_ADDRESS = 4,
+    WD16_NONE = 0xFFFF, /* for a place: a run's places are below */
 };
 
-/* A line word's bits. The others are 0. */
+/* A line word's bits: what stands on the lines in one step. The others are 0.
+   I0 and I1 are heard where I2 is set and the mark is clear: a pulse in another step is lost, and a line that stands interrupts
+   again once the routine has set I2. IAK reads the device code of its own step, doubled: the code stands on the lines until the
+   routine has read it. */
 enum {
     WD16_LINE_I0 = 0x0001,
     WD16_LINE_I1 = 0x0002,
     WD16_LINE_I3 = 0x0008,
     WD16_LINE_POWER_FAIL = 0x0080,
-    WD16_LINE_DEVICE = 0x0100, /* times the device code, 0 to 15 */
+    WD16_LINE_DEVICE = 0x0100, /* times the device code */
+    WD16_MOST_DEVICE = 15,     /* the highest of it */
 };
 
-/* ---- refusals: what a call returns, or 0. Each number has a line with its words below, which hitch says too; 23 is not
-   among them, since the listing has no function here */
-
-/* Refusals of the processor, in the order in which they are looked for. 21: the state is not 24 bytes, the tally not 6 or the
-   settings not 4; the settings' first byte is over 1; or, where the state is read, indicators over 15, I2 over 1, a mode over
-   5, a cause over 9, or byte 20 or 21 over 1. */
-enum {
-    WD16_DONE = 0,
-    WD16_BAD_BUFFER = 21,    /* a buffer for C has a wrong length, or a byte over its range */
-    WD16_BAD_IMAGE = 1,      /* the image is not 65,536 bytes */
-    WD16_BAD_MAP = 2,        /* the map is not 256 bytes */
-    WD16_BAD_MAP_BYTE = 3,   /* a byte of the map is over 2 */
-    WD16_BAD_SETUP = 35,     /* a jumper number is over 3, or the External Address Register over 63 */
-    WD16_TOO_MANY_LINES = 4, /* over 4,096 line words */
-    WD16_BAD_LINE = 5,       /* an unused bit of a line word is set */
+/* What a call returns: WD16_DONE or a refusal. Each function below tells its own in the order in which they are looked for.
+   21: a buffer that has one length has another; or a byte is over its range where it is read: the settings' first byte over 1,
+   indicators over 15, I2 over 1, a mode over 5, a cause over 9, byte 20 or 21 of a state over 1, a card's byte over 1. */
+enum wd16_refusal {
+    WD16_DONE = 0,                /* done */
+    WD16_BAD_IMAGE = 1,           /* the image is not 65,536 bytes */
+    WD16_BAD_MAP = 2,             /* the map is not 256 bytes */
+    WD16_BAD_MAP_BYTE = 3,        /* a byte of the map is over 2 */
+    WD16_TOO_MANY_LINES = 4,      /* over 4,096 line words, or a job's line buffer that is not 4,096 */
+    WD16_BAD_LINE = 5,            /* an unused bit of a line word is set */
+    WD16_NO_WORDS = 6,            /* no words */
+    WD16_WORD_MISSING = 7,        /* a needed next word is missing */
+    WD16_TEXT_SHORT = 8,          /* the text's buffer is under 32 bytes, or under 52 for a listing */
+    WD16_UNKNOWN_NAME = 9,        /* an unknown mnemonic */
+    WD16_OUTPUT_SHORT = 10,       /* the words' buffer is under 6 bytes, the labels' under 4,096, or the section under
+                                     12,290 */
+    WD16_JOB_ENDS = 11,           /* the job ends inside a count or an entry */
+    WD16_TOO_MANY_PAGES = 12,     /* over 256 pages */
+    WD16_PAGE_NOT_RISING = 13,    /* a page is not above the one before it */
+    WD16_TOO_MANY_WORDS = 14,     /* over 4,096 words */
+    WD16_ADDRESS_ODD = 15,        /* a word's address is odd */
+    WD16_ADDRESS_NOT_RISING = 16, /* a word's address is not above the one before it */
+    WD16_ADDRESS_UNFITTED = 17,   /* a word's page is not fitted */
+    WD16_TOO_MANY_JOB_LINES = 18, /* over 4,096 line words */
+    WD16_BAD_JOB_LINE = 19,       /* an unused bit of a line word is set */
+    WD16_JOB_BYTES_LEFT = 20,     /* bytes are left over after the job */
+    WD16_BAD_BUFFER = 21,         /* a buffer for C has a wrong length, or a byte over its range */
+    WD16_READ_ONLY_PAGE = 22,     /* a read-only page is not above the one before it, or is not fitted */
+    WD16_BAD_STRETCH = 23,        /* an address of the listing is odd, or the last is below the first */
+    WD16_UNKNOWN_TEXT = 24,       /* a line is no text */
+    WD16_LABEL_AGAIN = 25,        /* a line's label is already given */
+    WD16_LABEL_MISSING = 26,      /* no line gives a label that a line names */
+    WD16_OUT_OF_REACH = 27,       /* a branch further than -128 to 127 words, or SOB further than 0 to 63 back */
+    WD16_OUT_OF_PLACE = 28,       /* an odd origin, or words that overlap an earlier line's or run past FFFF */
+    WD16_TRACE_CUT = 29,          /* the trace ends inside its count or a state, or has bytes left over */
+    WD16_BAD_OPERAND = 30,        /* a bad operand */
+    WD16_AFTER_TEXT = 31,         /* a character stands after a whole text */
+    WD16_EARLY_END = 32,          /* the line ends too early, the empty line too */
+    WD16_BAD_READING = 33,        /* a reading of a channel that has its card is not from -500 to 500 */
+    WD16_NO_CHANNEL = 34,         /* a report on a channel over 15 */
+    WD16_BAD_SETUP = 35,          /* a jumper number is over 3, or the External Address Register over 63 */
+    WD16_SOURCE_LINES = 36,       /* the source is not whole lines of 32 bytes, or over 1,024 of them */
+    WD16_SCANS_FULL = 37,         /* a scan past the 4,096th */
+    WD16_ODD_WORDS = 38,          /* the words' buffer has an odd number of bytes */
 };
+
+/* ---- the words of a number, for a console or a display; "no such number" where there is none (words.c) */
+
+const char *wd16_refusal_words(uint8_t number);
+const char *wd16_cause_words(uint8_t number);
+const char *wd16_mode_words(uint8_t number);
+
+/* ---- reading and writing the buffers' fields */
+
+/* The two bytes at a place, low byte first: a register of a state, a field of a tally, a word of an image. */
+static inline uint16_t wd16_word(const uint8_t *bytes, size_t at)
+{
+    return (uint16_t)(bytes[at] | bytes[at + 1] << 8);
+}
+
+/* The same as a signed number: the lowest and the highest of a report. */
+static inline int16_t wd16_signed(const uint8_t *bytes, size_t at)
+{
+    return (int16_t)wd16_word(bytes, at);
+}
+
+/* The four bytes at a place as a signed number: the sum of a report. */
+static inline int32_t wd16_signed_long(const uint8_t *bytes, size_t at)
+{
+    return (int32_t)(wd16_word(bytes, at) | (uint32_t)wd16_word(bytes, at + 2) << 16);
+}
+
+static inline void wd16_put_word(uint8_t *bytes, size_t at, uint16_t word)
+{
+    bytes[at] = (uint8_t)word;
+    bytes[at + 1] = (uint8_t)(word >> 8);
+}
+
+/* Whether the next step takes an interrupt, I0 or I1, that stands on its lines. */
+static inline int wd16_hears(const uint8_t *state)
+{
+    return state[WD16_I2] == 1 && state[WD16_MARK] == 0 && state[WD16_MODE] <= WD16_WAITING;
+}
+
+/* ---- the processor */
 
 /* Writes the state after power-up, with cause 0. The state's bytes are not read; the image is written where the power-up
    option is the halt option and that is a save. Refusals: 21 for the state's length and for the settings, 1, 2, 3, 35. */
@@ -159,8 +270,9 @@ enum {
 /* ---- the text of one op code */
 
 enum {
-    WD16_TEXT = 32, /* bytes of a text's buffer, at least, where a text is written. The longest line has 24 characters */
-    WD16_WORDS = 6, /* bytes of the words' buffer, at least, where a text is read: three words, the most of an op code */
+    WD16_TEXT = 32,         /* bytes of a text's buffer, at least, where a text is written */
+    WD16_LONGEST_TEXT = 24, /* characters of the longest text */
+    WD16_WORDS = 6,         /* bytes of the words' buffer, at least, where a text is read: three words, the most of an op code */
 };
 
 /* The bytes of a text's answer. */
@@ -170,20 +282,6 @@ enum {
     WD16_COUNT = 0,  /* reading: the number of words read */
     WD16_COLUMN = 4, /* reading, where the refusal is 32, 31, 9 or 30: the column, from 0, of the first character that no
                         text has there after the same beginning; the line's length where it ends too early */
-};
-
-/* Refusals of the text, in the order in which they are looked for: 21 (the answer is not 6 bytes), 38, then 8, 6 and 7 where
-   a text is written, and 10 and the others, each with its column, where one is read. */
-enum {
-    WD16_ODD_WORDS = 38,   /* the words' buffer has an odd number of bytes */
-    WD16_TEXT_SHORT = 8,   /* the text's buffer is under 32 bytes */
-    WD16_NO_WORDS = 6,     /* no words */
-    WD16_WORD_MISSING = 7, /* a needed next word is missing */
-    WD16_WORDS_SHORT = 10, /* the words' buffer is under 6 bytes */
-    WD16_EARLY_END = 32,   /* the line ends too early, the empty line too */
-    WD16_AFTER_TEXT = 31,  /* a character stands after a whole text */
-    WD16_UNKNOWN_NAME = 9, /* an unknown mnemonic */
-    WD16_BAD_OPERAND = 30, /* a bad operand */
 };
 
 /* Writes the text of the op code that begins the words, which are two bytes each, low byte first. Bytes of the text's buffer
@@ -207,25 +305,13 @@ enum {
 /* The bytes of the assembler's answer. */
 enum {
     WD16_SECTION_LENGTH = 0, /* the length of the section */
-    WD16_REFUSED_LINE = 4,   /* the line of a refusal from 24 to 28, from 0 */
-};
-
-/* Refusals of the assembler, in the order in which they are looked for: 21 (the answer is not 6 bytes), then these. Those
-   from 24 to 28 tell the lowest line that has them. */
-enum {
-    WD16_SECTION_SHORT = 10, /* the section is under 12,290 bytes */
-    WD16_SOURCE_LINES = 36,  /* the source is not whole lines of 32 bytes, or over 1,024 of them */
-    WD16_UNKNOWN_TEXT = 24,  /* a line is no text */
-    WD16_LABEL_AGAIN = 25,   /* a line's label is already given */
-    WD16_LABEL_MISSING = 26, /* no line gives a label that a line names */
-    WD16_OUT_OF_PLACE = 28,  /* an odd origin, or words that overlap an earlier line's or run past FFFF */
-    WD16_OUT_OF_REACH = 27,  /* a branch further than -128 to 127 words, or SOB further than 0 to 63 back */
+    WD16_REFUSED_LINE = 4,   /* the line of a refusal from 24 to 28, from 0: the lowest line that has it */
 };
 
 /* Assembles a source, whole lines of 32 bytes padded with spaces, into the word section of a job at the front of the
    section's buffer: a count, then as many addresses and words, addresses rising. The bytes after it stay as they were. A
    refused call leaves the section as it was, and the answer too unless the refusal tells a line. Refusals: 21 for the
-   answer's length, 10, 36, 24, 25, 26, 28, 27. The tables are the call's own: they take 21 KB of stack. */
+   answer's length, 10, 36, 24, 25, 26, 28, 27. The tables are the call's own, on the stack. */
 uint8_t wd16_assemble(const uint8_t *source, size_t source_length, uint8_t *section, size_t section_length,
                       uint8_t *answer, size_t answer_length);
 
@@ -243,52 +329,48 @@ enum {
     WD16_WRONG_FIELD = 4,
 };
 
-enum { /* what a trace is found to be */
-    WD16_ACCEPTED = 0,
+/* What a trace is found to be. */
+enum wd16_verdict {
+    WD16_ACCEPTED = 0,  /* the trace is the manual's */
     WD16_BY_FIELD = 1,  /* the first wrong step has a wrong field */
     WD16_BY_LENGTH = 2, /* the step is missing, or one too many */
 };
 
-/* Refusals of the check: 21 (the verdict is not 6 bytes), then the job's, the first that its reader meets, entry by entry,
-   then 29. */
+/* A trace: a count, two bytes, then an entry for each step from power-up. An entry is ten fields, two bytes each, low byte
+   first: field 0 to 5 are R0 to R5, and these. */
 enum {
-    WD16_JOB_ENDS = 11,           /* the job ends inside a count or an entry */
-    WD16_TOO_MANY_PAGES = 12,     /* over 256 pages */
-    WD16_PAGE_NOT_RISING = 13,    /* a page is not above the one before it */
-    WD16_TOO_MANY_WORDS = 14,     /* over 4,096 words */
-    WD16_ADDRESS_ODD = 15,        /* a word's address is odd */
-    WD16_ADDRESS_NOT_RISING = 16, /* a word's address is not above the one before it */
-    WD16_ADDRESS_UNFITTED = 17,   /* a word's page is not fitted */
-    WD16_TOO_MANY_JOB_LINES = 18, /* over 4,096 line words */
-    WD16_BAD_JOB_LINE = 19,       /* an unused bit of a line word is set */
-    WD16_READ_ONLY_PAGE = 22,     /* a read-only page is not above the one before it, or is not fitted */
-    WD16_JOB_BYTES_LEFT = 20,     /* bytes are left over after the job */
-    WD16_TRACE_CUT = 29,          /* the trace ends inside its count or a state, or has bytes left over */
+    WD16_ENTRY = 20, /* bytes of an entry */
+    WD16_FIELD_SP = 6,
+    WD16_FIELD_PC = 7,
+    WD16_FIELD_PS = 8, /* with bits 15 and 14 clear */
+    WD16_FIELD_MODE = 9,
 };
 
 /* Holds another shop's trace of a job against the processor, on a board with the third microm and the jumpers 11 and 11. A
    job has three sections, each after its count of two bytes, low byte first: fitted pages, a byte each; words, an address
-   and a value, two bytes each; line words; and perhaps a fourth of read-only pages. A trace is a count and, after each step
-   from power-up, R0 to R5, SP, PC, PS with bits 15 and 14 clear, and the mode, all two bytes, low byte first. The verdict is
-   written. Nothing is compared before refusals: 21 for the verdict's length, the job's own in its reading order, 29. The
-   image is the call's own: it takes 80 KB of stack. */
+   and a value, two bytes each; line words; and perhaps a fourth of read-only pages. The verdict is written. Nothing is compared
+   before refusals: 21 for the verdict's length; the job's own, the first that its reader meets, entry by entry: 11 to 20
+   and 22; 29. The image is the call's own, on the stack. */
 uint8_t wd16_check_trace(const uint8_t *job, size_t job_length, const uint8_t *trace, size_t trace_length,
                          uint8_t *verdict, size_t verdict_length);
 
 /* ---- the plug recorder */
 
 enum {
-    WD16_CHANNELS = 16,     /* plug channels of a scan: bytes of the cards, words of the readings */
-    WD16_REPORT = 12,       /* bytes of a channel's report */
-    WD16_RECORDER = 194,    /* bytes of a recorder */
-    WD16_MOST_SCANS = 4096, /* scans of a recorder, at most */
+    WD16_CHANNELS = 16,         /* plug channels of a scan: bytes of the cards, words of the readings */
+    WD16_REPORT = 12,           /* bytes of a channel's report */
+    WD16_RECORDER = 194,        /* bytes of a recorder */
+    WD16_MOST_SCANS = 4096,     /* scans of a recorder, at most */
+    WD16_CONVERTERS = 0xFE,     /* the page of the converter cards: channel n is read at FE00 + 2n */
+    WD16_LEAST_READING = -500,  /* tenths of a degree */
+    WD16_GREATEST_READING = 500,
 };
 
 /* The cards' bytes: 1 where a channel has its card, else 0. The readings' words: tenths of a degree from -500 to 500, two's
    complement; what stands there for a channel without its card is not read. */
 
-/* A report's bytes, two each, low byte first, but four for the sum. Signed ones are two's complement: take them as int16_t
-   and int32_t. The average is the sum and the number of readings. Lowest, highest and sum are 0 where there is no reading. */
+/* A report's bytes, two each, low byte first, but four for the sum. Signed ones are two's complement: wd16_signed,
+   wd16_signed_long. The average is the sum and the number of readings. Lowest, highest and sum are 0 where there is no reading. */
 enum {
     WD16_READINGS = 0,
     WD16_CARD_BLANKS = 2, /* the scans in which the channel had no card */
@@ -304,19 +386,11 @@ enum {
     WD16_REPORTS = 2,
 };
 
-/* Refusals of the recorder, in the order in which they are looked for: 21 (the cards or the readings are not 16, the
-   recorder not 194 bytes, the channel not 1 or the report not 12; a card's byte is over 1; or as of a run), then a run's,
-   then these. */
-enum {
-    WD16_BAD_READING = 33, /* a reading of a channel that has its card is not from -500 to 500 */
-    WD16_SCANS_FULL = 37,  /* a scan past the 4,096th */
-    WD16_NO_CHANNEL = 34,  /* a report on a channel over 15 */
-};
-
 /* One scan: where all sixteen channels have their cards, page FE is fitted and writable, and the readings stand at FE00 on,
    low byte first; else page FE is unfitted and stays as lent; whatever the map says, which is not changed. Then a run over
    the line words, from the state where the last scan ended: the state, the tally and the image as after wd16_run, and the
-   recorder with one scan more. Refusals: 21, 1, 2, 3, 35, 4, 5, 33, 37. */
+   recorder with one scan more. Refusals: 21, 1, 2, 3, 35, 4, 5, 33, 37.
+   Between scans page FE is as the map has it: a caller that runs on keeps the map's byte FE in step with the cards. */
 uint8_t wd16_scan(uint8_t *state, size_t state_length, uint8_t *tally, size_t tally_length, uint8_t *image,
                   size_t image_length, const uint8_t *map, size_t map_length, const uint8_t *settings,
                   size_t settings_length, const uint16_t *lines, size_t lines_length, const uint8_t *cards,

@@ -5,21 +5,11 @@
 #include <stdio.h>
 #include <string.h>
 
-static unsigned word_at(const uint8_t *bytes, size_t at)
-{
-    return bytes[at] + 256u * bytes[at + 1];
-}
-
-static int signed_at(const uint8_t *bytes, size_t at)
-{
-    return (int16_t)word_at(bytes, at);
-}
-
 /* Prints a refusal; answers whether there was none. */
 static int done(const char *what, uint8_t why)
 {
     if (why != WD16_DONE)
-        printf("%s refused %u\n", what, why);
+        printf("%s refused %u: %s\n", what, why, wd16_refusal_words(why));
     return why == WD16_DONE;
 }
 
@@ -39,9 +29,9 @@ static const uint8_t *padded(const char *const *lines, size_t count)
 
 static void show_section(size_t length)
 {
-    printf("patch of %u words:", word_at(section, 0));
+    printf("patch of %u words:", wd16_word(section, 0));
     for (size_t at = 2; at < length; at += 4)
-        printf(" %04X %04X", word_at(section, at), word_at(section, at + 2));
+        printf(" %04X %04X", wd16_word(section, at), wd16_word(section, at + 2));
     printf("\n");
 }
 
@@ -57,10 +47,10 @@ static size_t assemble(const uint8_t *source, size_t length)
     uint8_t answer[WD16_ANSWER];
     uint8_t why = wd16_assemble(source, length, section, sizeof section, answer, sizeof answer);
     if (tells_line(why))
-        printf("patch refused %u at line %u\n", why, word_at(answer, WD16_REFUSED_LINE));
+        printf("patch refused %u at line %u: %s\n", why, wd16_word(answer, WD16_REFUSED_LINE), wd16_refusal_words(why));
     else if (done("patch", why))
-        show_section(word_at(answer, WD16_SECTION_LENGTH));
-    return why == WD16_DONE ? word_at(answer, WD16_SECTION_LENGTH) : 0;
+        show_section(wd16_word(answer, WD16_SECTION_LENGTH));
+    return why == WD16_DONE ? wd16_word(answer, WD16_SECTION_LENGTH) : 0;
 }
 
 /* ---- a trace */
@@ -71,12 +61,12 @@ static void check(const uint8_t *job, size_t job_length, const uint8_t *trace, s
     uint8_t why = wd16_check_trace(job, job_length, trace, trace_length, verdict, sizeof verdict);
     if (!done("trace", why))
         return;
-    if (word_at(verdict, WD16_FOUND) == WD16_ACCEPTED)
+    if (wd16_word(verdict, WD16_FOUND) == WD16_ACCEPTED)
         printf("trace accepted\n");
-    else if (word_at(verdict, WD16_FOUND) == WD16_BY_LENGTH)
-        printf("trace wrong at step %u: missing, or one too many\n", word_at(verdict, WD16_WRONG_STEP));
+    else if (wd16_word(verdict, WD16_FOUND) == WD16_BY_LENGTH)
+        printf("trace wrong at step %u: missing, or one too many\n", wd16_word(verdict, WD16_WRONG_STEP));
     else
-        printf("trace wrong at step %u, field %u\n", word_at(verdict, WD16_WRONG_STEP), word_at(verdict, WD16_WRONG_FIELD));
+        printf("trace wrong at step %u, field %u\n", wd16_word(verdict, WD16_WRONG_STEP), wd16_word(verdict, WD16_WRONG_FIELD));
 }
 
 /* The job of a patch on page 0: that page, the patch, and some quiet line words. */
@@ -94,7 +84,7 @@ static void traces(size_t length)
 {
     static uint8_t job[3 + WD16_SECTION + 2 + 2 * 255];
     static const uint8_t none[] = { 0, 0 };
-    static const uint8_t zeros[2 + 20] = { 1, 0 };
+    static const uint8_t zeros[2 + WD16_ENTRY] = { 1, 0 };
     check(job, job_of(job, length, 0), none, sizeof none);
     check(job, job_of(job, length, 1), none, sizeof none);
     check(job, job_of(job, length, 1), zeros, sizeof zeros); /* R0 is 3 after the first step */
@@ -133,9 +123,9 @@ static void report(uint8_t channel)
     uint8_t why = wd16_report(recorder, sizeof recorder, &channel, 1, told, sizeof told);
     printf("channel %u: ", channel);
     if (done("report", why))
-        printf("%u readings, %u blanks, lowest %d, highest %d, average %d/%u\n", word_at(told, WD16_READINGS),
-               word_at(told, WD16_CARD_BLANKS), signed_at(told, WD16_LOWEST), signed_at(told, WD16_HIGHEST),
-               (int)(word_at(told, WD16_SUM) + 65536u * word_at(told, WD16_SUM + 2)), word_at(told, WD16_READINGS));
+        printf("%u readings, %u blanks, lowest %d, highest %d, average %d/%u\n", wd16_word(told, WD16_READINGS),
+               wd16_word(told, WD16_CARD_BLANKS), wd16_signed(told, WD16_LOWEST), wd16_signed(told, WD16_HIGHEST),
+               (int)wd16_signed_long(told, WD16_SUM), wd16_word(told, WD16_READINGS));
 }
 
 static void plugs(void)
@@ -146,7 +136,7 @@ static void plugs(void)
     done("scan", scan(-180, NO_CHANNEL));
     done("scan", scan(-181, 4)); /* the card of channel 4 is pulled */
     done("scan", scan(-182, NO_CHANNEL));
-    done("scan", scan(501, NO_CHANNEL)); /* no reading: 33, and no channel counts it */
+    done("scan", scan(WD16_GREATEST_READING + 1, NO_CHANNEL)); /* no reading: 33, and no channel counts it */
     report(3);
     report(4);
     report(16); /* 34 */

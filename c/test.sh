@@ -1,8 +1,8 @@
 #!/usr/bin/env bash
 # Tests the C interface before the proof: the examples, plain and under the address sanitizer, and random calls through the
 # library beside the plain interpreter (build it first: cargo build --release in compare).
-#   c/test.sh [SEED [CASES [LIBRARY ..]]]
-# The library's code is not proved here, or it is in the LIBRARIES, which were proved before (c/build.sh says more).
+#   c/test.sh [SEED [CASES [LIBRARY]]]
+# The library's code is not proved here, or it is in LIBRARY, which was proved before (c/build.sh says more).
 set -euo pipefail
 cd "$(dirname "$0")/.."
 . compare/toolchain.sh
@@ -43,14 +43,14 @@ vectors() { # NAME
     echo "$1 ok"
 }
 
-for name in example text shop; do example "$name" '' $emulator; done
+for name in example text shop lengths; do example "$name" '' $emulator; done
 for name in w05-read-only w06-listing-and-c w07-assembler w08-trace w09-columns w10-no-cause-7 w13-recorder w14-jumpers; do
     vectors "$name"
 done
 all_compared serve "$seed" "$emulator target/c/serve" &
 plain=$!
 if [ -x target/c/serve-asan ]; then
-    for name in example text shop; do example "$name" -asan; done
+    for name in example text shop lengths; do example "$name" -asan; done
     all_compared serve-asan "$((seed + 1))" target/c/serve-asan
 fi
 wait "$plain"

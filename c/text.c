@@ -1,5 +1,4 @@
-/* The van's program in small: op codes written as text, texts read as op codes, and what is refused. It links the text alone,
-   without the processor.
+/* The van's program in small: op codes written as text, texts read as op codes, and what is refused.
    What it prints is held to text.out. */
 #include "hitchbriar.h"
 
@@ -8,15 +7,10 @@
 
 static uint8_t answer[WD16_ANSWER];
 
-static unsigned word_at(const uint8_t *bytes, size_t at)
-{
-    return bytes[at] + 256u * bytes[at + 1];
-}
-
 static void show_words(const uint8_t *words, size_t count)
 {
     for (size_t n = 0; n < count; n++)
-        printf(" %04X", word_at(words, 2 * n));
+        printf(" %04X", wd16_word(words, 2 * n));
 }
 
 static void write_text(const uint8_t *words, size_t length)
@@ -26,10 +20,10 @@ static void write_text(const uint8_t *words, size_t length)
     printf("write");
     show_words(words, length / 2);
     if (why == WD16_DONE)
-        printf(": %.*s, %u of the words\n", (int)word_at(answer, WD16_LENGTH), (const char *)text,
-               word_at(answer, WD16_TAKEN));
+        printf(": %.*s, %u of the words\n", (int)wd16_word(answer, WD16_LENGTH), (const char *)text,
+               wd16_word(answer, WD16_TAKEN));
     else
-        printf(": refused %u\n", why);
+        printf(": refused %u, %s\n", why, wd16_refusal_words(why));
 }
 
 /* Whether a refusal tells a column: those that don't leave the answer as it was. */
@@ -44,11 +38,11 @@ static void read_text(const char *text)
     uint8_t why = wd16_read_text((const uint8_t *)text, strlen(text), words, sizeof words, answer, sizeof answer);
     printf("read %s:", text);
     if (why == WD16_DONE)
-        show_words(words, word_at(answer, WD16_COUNT));
+        show_words(words, wd16_word(answer, WD16_COUNT));
     else
-        printf(" refused %u", why);
+        printf(" refused %u, %s", why, wd16_refusal_words(why));
     if (tells_column(why))
-        printf(" at column %u", word_at(answer, WD16_COLUMN));
+        printf("; column %u", wd16_word(answer, WD16_COLUMN));
     printf("\n");
 }
 
