@@ -586,7 +586,7 @@ and-no : (b : Bool) → (b && false) ≡ false
 and-no true = refl
 and-no false = refl
 
-pub marked-deaf : (s : State) (out : Outside) → s .mark ≡ true → isInterrupt (kindOf s out) ≡ false
+marked-deaf : (s : State) (out : Outside) → s .mark ≡ true → isInterrupt (kindOf s out) ≡ false
 marked-deaf s out e = ap (λ z. isInterrupt (kindIn (s .mode) z out)) (ap (λ z. s .i2 && not z) e ∙ and-no (s .i2)) ∙ deaf (s .mode) out
 
 -- no interrupt's cause without its kind
