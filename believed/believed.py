@@ -3,11 +3,12 @@
 
     believed/believed.py                 the count by crate
     believed/believed.py --list          the files to read, in their order, with the lines of each to believe
+    believed/believed.py --sums          the lines to believe, by what leads there
     believed/believed.py --items         each definition that a statement reaches, by file, and what leads to it
     believed/believed.py --why NAME      who leads to the item NAME (or CRATE.FILE.NAME)
     believed/believed.py --unused        definitions and laws that nothing cites
-    believed/believed.py --check         exit 1 where specs/ holds what no statement reaches, or docs/PROOFS.md has another list
-    believed/believed.py --paper         put the list into docs/PROOFS.md
+    believed/believed.py --check         exit 1 where specs/ holds what no statement reaches, or a paper shows another list or other sums
+    believed/believed.py --paper         put the list into docs/PROOFS.md, the sums into docs/BELIEVE.md
 """
 import argparse
 import collections
@@ -19,8 +20,9 @@ from tree import PROOFS, README, THEOREMS, Tree, read, reading_order
 
 # What leads to a definition, the first that does.
 LEVELS = ["a contract for users", "a statement of " + ", ".join(THEOREMS), f"a theorem that {PROOFS} names", "an inner function's contract"]
-# Where the list stands in docs/PROOFS.md.
-LISTED = re.compile(r"(```\n\$ believed/believed.py --list\n)(.*?)(```\n)", re.S)
+BELIEVE = "docs/BELIEVE.md"
+# Where what is printed stands in a paper.
+PRINTED = r"(```\n\$ believed/believed.py --{}\n)(.*?)(```\n)"
 
 
 def definitions(tree, keys):
@@ -42,12 +44,18 @@ def report(tree):
         if total[crate] or believed[crate]:
             print(f"{crate:14}{believed[crate]:9}{stated[crate]:8}{total[crate]:8}")
     print(f"{'all':14}{believed.total():9}{stated.total():8}{total.total():8}\n")
+    print(sums(tree), end="")
+
+
+def sums(tree):
+    """The lines to believe, by what leads there."""
+    levels, out = tree.levels(), ""
     for level, who in zip(levels, LEVELS):
         items = definitions(tree, level)
         files = len({item.file.path for item in items})
-        print(f"{sum(i.size for i in items):6} lines of {len(items)} definitions in {files} files: {'reached by ' if who is LEVELS[0] else 'or by '}{who}")
+        out += f"{sum(i.size for i in items):6} lines of {len(items)} definitions in {files} files: {'reached by ' if who is LEVELS[0] else 'or by '}{who}\n"
     types = [tree.index[key] for key in levels[2] if tree.index[key].kind == "type of src"]
-    print(f"{sum(i.size for i in types):6} lines of types in src/ beside them")
+    return out + f"{sum(i.size for i in types):6} lines of types in src/ beside them\n"
 
 
 def order_of(tree, crate):
@@ -129,11 +137,17 @@ def stray(tree):
                 yield f"{file.path}:{item.first + 1}: {item.name}: a statement reaches it; its place is specs/"
 
 
+def printed(tree):
+    """What papers show, by the option that prints it."""
+    return ((PROOFS, "list", listed(tree)), (BELIEVE, "sums", sums(tree)))
+
+
 def check(tree):
     wrong = list(stray(tree))
-    found = LISTED.search(read(PROOFS)) if not wrong else None
-    if not wrong and (not found or found.group(2) != listed(tree)):
-        wrong = [f"{PROOFS}: its list of files is not what --list prints; believed/believed.py --paper puts it there"]
+    for name, option, text in printed(tree) if not wrong else ():
+        found = re.search(PRINTED.format(option), read(name), re.S)
+        if not found or found.group(2) != text:
+            wrong.append(f"{name}: it has not what --{option} prints; believed/believed.py --paper puts it there")
     for line in wrong:
         print(line)
     if wrong:
@@ -143,16 +157,17 @@ def check(tree):
 
 
 def paper(tree):
-    text, count = LISTED.subn(lambda m: m.group(1) + listed(tree) + m.group(3), read(PROOFS))
-    if count != 1:
-        sys.exit(f"{PROOFS}: the list's place is not there once")
-    with open(PROOFS, "w", encoding="utf-8") as file:
-        file.write(text)
+    for name, option, text in printed(tree):
+        whole, count = re.subn(PRINTED.format(option), lambda m: m.group(1) + text + m.group(3), read(name), flags=re.S)
+        if count != 1:
+            sys.exit(f"{name}: the place of what --{option} prints is not there once")
+        with open(name, "w", encoding="utf-8") as file:
+            file.write(whole)
 
 
 def main():
     parser = argparse.ArgumentParser(description=__doc__, formatter_class=argparse.RawDescriptionHelpFormatter)
-    for flag in ("check", "list", "items", "unused", "paper"):
+    for flag in ("check", "list", "sums", "items", "unused", "paper"):
         parser.add_argument("--" + flag, action="store_true")
     parser.add_argument("--why", metavar="NAME")
     args = parser.parse_args()
@@ -167,6 +182,8 @@ def main():
         why(tree, args.why)
     elif args.list:
         print(listed(tree), end="")
+    elif args.sums:
+        print(sums(tree), end="")
     elif args.items:
         items(tree)
     elif args.paper:

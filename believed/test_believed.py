@@ -66,6 +66,7 @@ TREE = {
     "README.md": "## The parts\n\n| Crate | What it is |\n|---|---|\n| `low` | ground |\n| `machine` | top |\n\n## Read on\n",
     "docs/CONTRACTS.md": "Users call `machine`.\n",
     "docs/PROOFS.md": PROOFS,
+    "docs/BELIEVE.md": "```\n$ believed/believed.py --sums\n```\n",
     "crates/low/src/lib.rt": "ghost use Rattle.low.specs.Work as W;\n\nfn inner(x: u16) -> u16\n    ensures { λ r. ⌜ r ≡ W.twice x ⌝ }\n{\n    x\n}\n",
     "crates/low/specs/Lib.antt": "pub mod Work\n",
     "crates/low/specs/Work.antt": SPECS,
@@ -121,10 +122,11 @@ def main():
         for path, text in TREE.items():
             write(path, text)
         status, said = run("--check")
-        assert status == 1 and "its list of files is not" in said, said
+        assert status == 1 and said.count("believed.py --paper puts it there") == 2, said
         assert run("--paper")[0] == 0
         assert run("--check")[0] == 0, run("--check")
         assert run("--list") == (0, LIST), run("--list")
+        assert run("--sums")[1].startswith("    17 lines of 7 definitions in 2 files: reached by a contract for users\n"), run("--sums")
         with open("docs/PROOFS.md", encoding="utf-8") as file:
             TREE["docs/PROOFS.md"] = file.read()
         unreached = "no contract and no named theorem's statement reaches it; its place is proofs/"
