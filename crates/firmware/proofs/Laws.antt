@@ -3,7 +3,7 @@ pub mod Again
 pub mod Laid
 pub mod Next
 use Prim.Native.Nat.{ℕ}
-use mathlib.Core.Bool.{true, false}
+use mathlib.Core.Bool.{true, false, not, _||_}
 use mathlib.Core.List.{List, _++_, append-nil}
 use mathlib.Core.Path.{_≡_, refl, _∙_}
 use lib.ListN.{length, take, drop}
@@ -24,8 +24,16 @@ use Rattle.machine.specs.declared.Finished.the-variants as Finished
 use Rattle.refusal.specs.Numbers.{noState}
 use Rattle.refusal.specs.Page.{left, told}
 use Rattle.refusal.proofs.Laws.Refusal.{neither}
-use Rattle.machine.specs.Numbers.{statePage, nowhere, toldOf, placeOf}
+use Rattle.machine.specs.Numbers.{statePage, nowhere, toldOf, placeOf, Place}
 use Rattle.machine.specs.Entry.{poweredPage, steppedPage, finishedPage, powerUpPage, stepPage, runPage}
+use lib.Dec.{eqb, ltb}
+use Rattle.machine.specs.declared.Stop.{Stop}
+use Rattle.machine.specs.declared.Until.{Until}
+use Rattle.machine.specs.declared.Stopped.{Stopped}
+use Rattle.machine.specs.declared.Stopped.the-variants as Stopped
+use Rattle.machine.specs.Same.{runSamePage}
+use Rattle.machine.specs.Until.{stoppedPage, runUntilPage}
+use Rattle.firmware.specs.Runs.{runSameCall, untilFrom, stopBytes, refusedUntil, runUntilCall}
 use Rattle.firmware.specs.Layout.{bytesOf, tallyBytes, stateFrom, settingsFrom, over, notState, notTally, refusedState, refusedSettings, refusedUp, refusedStep, refusedRun, laid}
 use Rattle.firmware.proofs.Laws.Laid.{laid-all, laid-state, laid-tally}
 use Rattle.firmware.specs.Calls.{powerUpCall, stepCall, runCall}
@@ -114,3 +122,71 @@ module _ (b t image map w lines : List ℕ) where
       → left (finishedPage r) m ≡ runPage g image map lines s → r ≡ Finished.Refused why → told why (b, t, m) ≡ runCall b t image map w lines
   unfolding runCall
   ended-refused m s g why r e f j p h = rw (e, ← f, ← j, ← p, h)
+
+-- ---- over one line word
+
+module _ (b t image map w : List ℕ) (line n : ℕ) where
+  pub same-bad : refusedRun b t w ≡ true → told noState (b, t, image) ≡ runSameCall b t image map w line n
+  unfolding runSameCall
+  same-bad e = rw e
+
+  pub same-done : (b′ t′ m : List ℕ) (s : State) (g : Settings) (ran : Ran) (r : Finished) → refusedRun b t w ≡ false → s ≡ stateFrom b → g ≡ settingsFrom w
+      → left (finishedPage r) m ≡ runSamePage g image map line n s → r ≡ Finished.Done ran
+      → b′ ≡ laid (bytesOf (statePage (ran .state)) 0 nowhere) b → t′ ≡ laid (tallyBytes (ran .tally .blanks) (placeOf (ran .tally .first))) t
+      → told 0 (b′, t′, m) ≡ runSameCall b t image map w line n
+  unfolding runSameCall
+  same-done b′ t′ m s g ran r e f j p h d q =
+      rw (e, ← f, ← j, ← p, h, d, laid-state b (ran .state) 0 nowhere (run-length b t w e), q, laid-tally t (ran .tally .blanks) (placeOf (ran .tally .first)) (tally-length b t w e))
+
+  pub same-refused : (m : List ℕ) (s : State) (g : Settings) (why : ℕ) (r : Finished) → refusedRun b t w ≡ false → s ≡ stateFrom b → g ≡ settingsFrom w
+      → left (finishedPage r) m ≡ runSamePage g image map line n s → r ≡ Finished.Refused why → told why (b, t, m) ≡ runSameCall b t image map w line n
+  unfolding runSameCall
+  same-refused m s g why r e f j p h = rw (e, ← f, ← j, ← p, h)
+
+-- ---- until something happens
+
+laid-stop : (t : List ℕ) (blanks : ℕ) (first : Place) (steps : ℕ) → length t ≡ 8 → laid (stopBytes blanks first steps) t ≡ stopBytes blanks first steps
+unfolding stopBytes
+laid-stop t blanks first steps e = laid-all _ t e
+
+module _ (b t w : List ℕ) (asked : ℕ) (e : refusedUntil b t w asked ≡ false) where
+  buffers : refusedStep b w || not (eqb (length t) 8) ≡ false
+  unfolding refusedUntil
+  buffers = neither (refusedStep b w || not (eqb (length t) 8)) (ltb 15 asked) e .0
+
+  until-state : length b ≡ 24
+  until-state = step-length b w (neither (refusedStep b w) (not (eqb (length t) 8)) buffers .0)
+
+  until-tally : length t ≡ 8
+  until-tally = eqb-true _ _ (not-false _ (neither (refusedStep b w) (not (eqb (length t) 8)) buffers .1))
+
+module _ (b t image map w lines : List ℕ) (asked : ℕ) where
+  pub until-bad : refusedUntil b t w asked ≡ true → told noState (b, t, image) ≡ runUntilCall b t image map w lines asked
+  unfolding runUntilCall
+  until-bad e = rw e
+
+  pub until-done : (b′ t′ m : List ℕ) (s : State) (g : Settings) (u : Until) (stop : Stop) (r : Stopped) (k : ℕ) (at : Told) → refusedUntil b t w asked ≡ false → s ≡ stateFrom b → g ≡ settingsFrom w
+      → u ≡ untilFrom asked → left (stoppedPage r) m ≡ runUntilPage g image map lines u s → r ≡ Stopped.Done stop → k ≡ causeNumber (stop .turn .cause) → at ≡ addressOf (stop .turn .cause)
+      → b′ ≡ laid (bytesOf (statePage (stop .turn .state)) k (toldOf at)) b → t′ ≡ laid (stopBytes (stop .tally .blanks) (placeOf (stop .tally .first)) (stop .steps)) t
+      → told 0 (b′, t′, m) ≡ runUntilCall b t image map w lines asked
+  unfolding runUntilCall
+  until-done b′ t′ m s g u stop r k at e f j i p h c a d q =
+      rw (
+        e,
+        ← f,
+        ← j,
+        ← i,
+        ← p,
+        h,
+        d,
+        laid-state b (stop .turn .state) k (toldOf at) (until-state b t w asked e),
+        q,
+        laid-stop t (stop .tally .blanks) (placeOf (stop .tally .first)) (stop .steps) (until-tally b t w asked e),
+        c,
+        a,
+      )
+
+  pub until-refused : (m : List ℕ) (s : State) (g : Settings) (u : Until) (why : ℕ) (r : Stopped) → refusedUntil b t w asked ≡ false → s ≡ stateFrom b → g ≡ settingsFrom w → u ≡ untilFrom asked
+      → left (stoppedPage r) m ≡ runUntilPage g image map lines u s → r ≡ Stopped.Refused why → told why (b, t, m) ≡ runUntilCall b t image map w lines asked
+  unfolding runUntilCall
+  until-refused m s g u why r e f j i p h = rw (e, ← f, ← j, ← i, ← p, h)

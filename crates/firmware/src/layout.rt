@@ -196,7 +196,7 @@ pub fn put_state(b: &mut [u8], s: State, cause: u8, told: Told)
 }
 
 // The place of the first blank, FFFF where there is none.
-fn place_of(first: First) -> u16
+pub(crate) fn place_of(first: First) -> u16
     ensures { λ r. ⌜ r ≡ Spec.placeNumber (Page.placeOf first) ⌝ }
 {
     match first {
@@ -206,7 +206,7 @@ fn place_of(first: First) -> u16
 }
 
 // The address that the first blank told, 0 where there is none.
-fn place_told(first: First) -> u16
+pub(crate) fn place_told(first: First) -> u16
     ensures { λ r. ⌜ r ≡ Spec.placeTold (Page.placeOf first) ⌝ }
 {
     match first {

@@ -16,6 +16,7 @@ ghost use Rattle.refusal.specs.Page.{told};
 ghost use Rattle.firmware.specs.Calls as Spec;
 
 pub mod layout;
+pub mod runs;
 
 // The state after power-up; or 21, 1, 2, 3 or 35.
 #[no_mangle]

@@ -2,6 +2,7 @@
 ghost use mathlib.Core.Path.{_≡_};
 ghost use Rattle.refusal.specs.Page.{told};
 ghost use Rattle.firmware.specs.Calls as Firmware;
+ghost use Rattle.firmware.specs.Runs as Runs;
 ghost use Rattle.lentrecorder.specs.Calls as Recorder;
 ghost use Rattle.textc.specs.Calls as Text;
 ghost use Rattle.assembler_c.specs.Call as Assembler;
@@ -47,6 +48,39 @@ pub extern "C" fn wd16_run(
     ensures { λ r. ⌜ told r (now (state .exit), now (tally .exit), now (image .exit)) ≡ Firmware.runCall (now (state .entry)) (now (tally .entry)) (now (image .entry)) (now (map .entry)) (now (settings .entry)) (now (lines .entry)) ⌝ }
 {
     firmware::wd16_run(state, tally, image, map, settings, lines)
+}
+
+// So many steps over one line word; or 21, 1, 2, 3, 35 or 5.
+#[no_mangle]
+pub extern "C" fn wd16_run_same(
+    state: &mut [u8],
+    tally: &mut [u8],
+    image: &mut [u8],
+    map: &[u8],
+    settings: &[u8],
+    line: u16,
+    steps: u16,
+) -> u8
+    ensures { λ r. ⌜ told r (now (state .exit), now (tally .exit), now (image .exit)) ≡ Runs.runSameCall (now (state .entry)) (now (tally .entry)) (now (image .entry)) (now (map .entry)) (now (settings .entry)) line steps ⌝ }
+{
+    firmware::runs::wd16_run_same(state, tally, image, map, settings, line, steps)
+}
+
+// A run over line words that ends after the first step whose cause is asked for, or after which the processor waits or is halted; or 21,
+// 1, 2, 3, 35, 4 or 5.
+#[no_mangle]
+pub extern "C" fn wd16_run_until(
+    state: &mut [u8],
+    tally: &mut [u8],
+    image: &mut [u8],
+    map: &[u8],
+    settings: &[u8],
+    lines: &[u16],
+    until: u8,
+) -> u8
+    ensures { λ r. ⌜ told r (now (state .exit), now (tally .exit), now (image .exit)) ≡ Runs.runUntilCall (now (state .entry)) (now (tally .entry)) (now (image .entry)) (now (map .entry)) (now (settings .entry)) (now (lines .entry)) until ⌝ }
+{
+    firmware::runs::wd16_run_until(state, tally, image, map, settings, lines, until)
 }
 
 // One scan; or 21, 1, 2, 3, 35, 4, 5, 33 or 37.

@@ -8,3 +8,5 @@ pub mod Counted
 pub mod Entry
 pub mod Leg
 pub mod Run
+pub mod Same
+pub mod Until

@@ -8,3 +8,5 @@ pub mod Trail
 pub mod Counted
 pub mod Answered
 pub mod Block
+pub mod Same
+pub mod Until

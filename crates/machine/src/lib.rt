@@ -9,8 +9,12 @@ ghost use Prim.Native.Nat.{_≤_};
 ghost use lib.ListN.{length};
 ghost use Rattle.refusal.specs.Page.{left};
 ghost use Rattle.machine.specs.Entry as Spec;
+ghost use Rattle.machine.specs.Same.{runSamePage};
+ghost use Rattle.machine.specs.Until.{stoppedPage, runUntilPage};
 
+mod early;
 mod runs;
+mod same;
 
 // The first blank step of a run: its place, and the address that it tells.
 pub enum First {
@@ -58,6 +62,21 @@ pub(crate) struct Stage {
     pub at: usize,
 }
 
+// What a run may be asked to end after: an interrupt taken, a blank, a lock-up, the halt switch taken.
+pub struct Until {
+    pub interrupt: bool,
+    pub blank: bool,
+    pub lock: bool,
+    pub switch: bool,
+}
+
+// A run that may have ended early: the state and the cause after its last step, its blank steps, and how many steps it made.
+pub struct Stop {
+    pub turn: Turn,
+    pub tally: Tally,
+    pub steps: u16,
+}
+
 pub enum Powered {
     Up(State),
     Refused(u8),
@@ -70,6 +89,11 @@ pub enum Stepped {
 
 pub enum Finished {
     Done(Ran),
+    Refused(u8),
+}
+
+pub enum Stopped {
+    Done(Stop),
     Refused(u8),
 }
 
@@ -131,4 +155,56 @@ pub fn run(s: State, image: &mut [u8], map: &[u8], settings: Settings, lines: &[
     let last = runs::run_on(s, image, map, settings, lines);
     let ran = last.ran;
     Finished::Done(ran)
+}
+
+// A run over one line word, as many steps as are asked for; or 1, 2, 3, 35 or 5 and the image as lent.
+pub fn run_same(
+    s: State,
+    image: &mut [u8],
+    map: &[u8],
+    settings: Settings,
+    line: u16,
+    steps: u16,
+) -> Finished
+    ensures { λ r. ⌜ left (Spec.finishedPage r) (now (image .exit)) ≡ runSamePage settings (now (image .entry)) (now (map .entry)) line steps s ⌝ }
+{
+    let why = refusal::step_refusal(
+        image.len(),
+        map,
+        settings.powerup,
+        settings.halt,
+        settings.register,
+        line,
+    );
+    if why != 0 {
+        return Finished::Refused(why);
+    }
+    let after = same::run_same_on(s, image, map, settings, line, steps);
+    Finished::Done(after)
+}
+
+// A run over line words that ends after the first step whose cause is asked for, or after which the processor waits or is halted; or 1,
+// 2, 3, 35, 4 or 5 and the image as lent.
+pub fn run_until(
+    s: State,
+    image: &mut [u8],
+    map: &[u8],
+    settings: Settings,
+    lines: &[u16],
+    until: Until,
+) -> Stopped
+    ensures { λ r. ⌜ left (stoppedPage r) (now (image .exit)) ≡ runUntilPage settings (now (image .entry)) (now (map .entry)) (now (lines .entry)) until s ⌝ }
+{
+    let refused = refusal::run_refusal(
+        image.len(),
+        map,
+        settings.powerup,
+        settings.halt,
+        settings.register,
+        lines,
+    );
+    if refused != 0 {
+        return Stopped::Refused(refused);
+    }
+    Stopped::Done(early::until_on(s, image, map, settings, lines, until))
 }

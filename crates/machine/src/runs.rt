@@ -38,7 +38,7 @@ fn first_of(first: First, place: u16, address: u16) -> First
 }
 
 // The tally after the step at this place, which may have been a blank.
-fn noted(t: Tally, place: u16, blank: Told) -> Tally
+pub(crate) fn noted(t: Tally, place: u16, blank: Told) -> Tally
     requires { ⌜ t .blanks ≤ 4096 ⌝ }
     ensures { λ r. ⌜ (r ≡ Spec.noted t place blank) × (r .blanks ≤ t .blanks + 1) ⌝ }
 {
