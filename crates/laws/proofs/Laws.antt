@@ -8,5 +8,6 @@ pub mod Mark
 pub mod Marked
 pub mod More
 pub mod One
+pub mod Recorded
 pub mod Sizes
 pub mod Taken

@@ -2,3 +2,4 @@ pub mod One
 pub mod Halves
 pub mod Cards
 pub mod Mark
+pub mod Recorded
