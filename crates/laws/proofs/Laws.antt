@@ -1,6 +1,7 @@
 -- The laws of the crate's definitions.
 pub mod Always
 pub mod Append
+pub mod Branches
 pub mod Calls
 pub mod Cards
 pub mod Halves
@@ -11,3 +12,4 @@ pub mod One
 pub mod Recorded
 pub mod Sizes
 pub mod Taken
+pub mod Traces

@@ -3,3 +3,5 @@ pub mod Halves
 pub mod Cards
 pub mod Mark
 pub mod Recorded
+pub mod Branches
+pub mod Traces

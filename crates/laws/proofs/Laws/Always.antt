@@ -2,9 +2,9 @@
 use Prim.Native.Nat.{ℕ, zero, suc}
 use mathlib.Core.Bool.{Bool, true, false, cond}
 use mathlib.Core.List.{List, [], _∷_}
-use mathlib.Core.Path.{_≡_, subst}
+use mathlib.Core.Path.{_≡_, refl, ap, subst}
 use lib.ListN.{getD}
-use Rattle.board.specs.Work.{Work, give, readAt, writeAt, value, fitted, writable, get, put, run, _>>=_}
+use Rattle.board.specs.Work.{Work, give, readAt, writeAt, value, fitted, writable, get, put, found, run, _>>=_}
 use Rattle.board.proofs.Laws.Alike.{found-value}
 
 -- every A that the work may end in is so
@@ -29,6 +29,13 @@ unfolding Always _>>=_
 always-then P Q (give x) f p g = g x p
 always-then P Q (readAt z a k) f p g = λ v. always-then P Q (k v) f (p v) g
 always-then P Q (writeAt z a v w) f p g = always-then P Q w f p g
+
+-- giving what came last adds nothing
+pub run-give : {A : Type 0} (map : List ℕ) (w : Work A) (m : List ℕ) → run map (w >>= (λ x. give x)) m ≡ run map w m
+unfolding run _>>=_
+run-give map (give x) m = refl
+run-give map (readAt z a k) m = ap (λ c. found (fitted map a) a c) (run-give map (k (get z m a)) m)
+run-give map (writeAt z a v w) m = ap (λ c. found (writable map a) a c) (run-give map w (put z m a v))
 
 -- whatever the first comes to
 pub always-after : {A B : Type 0} (Q : B → Type 0) (w : Work A) (f : A → Work B) → ((x : A) → Always Q (f x)) → Always Q (w >>= f)

@@ -20,7 +20,7 @@ use Rattle.laws.proofs.Laws.Marked.{step-marks, held-off, switch-heard,
 use Rattle.laws.specs.Mark.{executed, enables, isRunning, markAfter, fromOpCode, interrupted, fromInterrupt, fromSwitch, Steps, MarkAfter, PowerUpClears, HoldsOff, SwitchHeard, LateOnce}
 
 -- what a call of `step` answered and left is the definition's
-turn-is : (settings : Settings) (m map : List ℕ) (line : ℕ) (s : State) (t : Turn) (n : List ℕ) → Steps settings m map line s t n
+pub turn-is : (settings : Settings) (m map : List ℕ) (line : ℕ) (s : State) (t : Turn) (n : List ℕ) → Steps settings m map line s t n
     → (let a = stepOf map (heard settings line) s m in (t .state ≡ a .state) × (t .cause ≡ a .cause) × (n ≡ a .image))
 turn-is settings m map line s t n e =
     let a = stepOf map (heard settings line) s m in

@@ -10,6 +10,7 @@ use lib.ListN.{getD}
 use borrow.Author.Tests.{not-true, eqb-true, ne-eqb, ltb-true, ltb-false}
 use Rattle.board.specs.Work.{Work, give, Came, value, blank, Size, word, byte, wordAt, fitted, run, _>>=_, _>>_}
 use Rattle.board.proofs.Laws.Alike.{found-value}
+use Rattle.step.proofs.Laws.Late.{begins}
 use Rattle.codes.specs.Fields.{highByte, onlyRegister, format4Code, argument, register, format9Code, sourceMode, sourceRegister, destinationMode, destinationRegister}
 use Rattle.arith.specs.Branch.{taken}
 use Rattle.word.specs.Address.{plus, minus}
@@ -42,7 +43,7 @@ use Rattle.format10.specs.Format10.{stores, settle, moveByte, settleByte, onOpe
 use Rattle.arith.specs.Binary.{binaryOf, byteBinaryOf}
 use Rattle.step.specs.Execute.{moves, execute, further, byFormat}
 use Rattle.step.specs.Xct.{code, abort, forbidden, trapsAlone, chosen, beginXct, begun, trace, traced, carry, opWork}
-use Rattle.laws.proofs.Laws.Always.{Always, AlwaysEach, always-value, always-then, always-after, always-less, always-cond, always-pick}
+use Rattle.laws.proofs.Laws.Always.{Always, AlwaysEach, run-give, always-value, always-then, always-after, always-less, always-cond, always-pick}
 use Rattle.laws.specs.Mark.{enables, executed, isRunning, markAfter, fromInterrupt, fromSwitch, runsOrWaits}
 use Rattle.state.specs.declared.Mode.{Mode}
 use Rattle.state.specs.declared.Mode.the-variants.{Running, Waiting, PowerHalt, SwitchHalt, Locked, Saved}
@@ -262,11 +263,11 @@ none : {A : Type 0} → false ≡ true → A
 none e = let z : _≡_ {A = ℕ} 0 1 = cc in absurd (omega arith)
 
 -- a claim of each number below n
-unfoldable Below : (ℕ → Type 0) → ℕ → Type 0
+unfoldable pub Below : (ℕ → Type 0) → ℕ → Type 0
 Below P zero = Unit {0}
 Below P (suc n) = Below P n × P n
 
-below : (P : ℕ → Type 0) (n : ℕ) → Below P n → (k : ℕ) → k < n → P k
+pub below : (P : ℕ → Type 0) (n : ℕ) → Below P n → (k : ℕ) → k < n → P k
 unfolding Below
 below P zero b k h = absurd (omega arith)
 below P (suc n) b k h = elim (ℕ-discrete k n) [ yes e ↦ subst P (sym e) (b .1) | no d ↦ below P n (b .0) k (omega arith) ]
@@ -679,17 +680,31 @@ code-kind Vectored f e = absurd (unlike _ e refl)
 code-kind Waits f e = absurd (unlike _ e refl)
 code-kind Stuck f e = absurd (unlike _ e refl)
 
+-- A RUNNING PROCESSOR'S STEP WITH CAUSE 0 is what the op code's work came to
+pub code-work : (map : List ℕ) (out : Outside) (s : State) (m : List ℕ) → s .mode ≡ Running → stepOf map out s m .cause ≡ Cause.OpCode
+    → run map (opWork out s) m ≡ value (stepOf map out s m .state) (stepOf map out s m .image)
+unfolding workOf
+code-work map out s m runs c = came (run map (workOf (kindOf s out) out s) m) refl
+  where
+    came : (x : Came State) → run map (workOf (kindOf s out) out s) m ≡ x → run map (opWork out s) m ≡ value (stepOf map out s m .state) (stepOf map out s m .image)
+    came (value t n) r =
+        let well : after t n (causeOf (kindOf s out)) ≡ stepOf map out s m = step-well map out s m refl r refl in
+        let code : kindOf s out ≡ OpCode =
+        code-kind (kindOf s out) (subst (λ (b : Bool). fits b (kindOf s out) ≡ true) (ap isRunning runs) (fits-kind (s .mode) (hears s) out)) (ap (λ a. a .cause) well ∙ c) in
+        (rw code at r) ∙ ap (λ a. value (a .state) (a .image)) well
+    came (blank a) r =
+        let z : Nowhere ≡ At a = sym (ap addressOf c) ∙ tells map out s m r in
+        let w : _≡_ {A = ℕ} 0 1 = cc in
+        absurd (omega arith)
+
+-- an op code that isn't XCT, from where it is fetched on
+pub plain-run : (map : List ℕ) (out : Outside) (s : State) (m : List ℕ) (t : State) (n : List ℕ) → eqb (wordAt m (s .regs .pc)) 5 ≡ false
+    → run map (opWork out s) m ≡ value t n → run map (execute out (begins s) (wordAt m (s .regs .pc))) m ≡ value t n
+unfolding run opWork fetch begun carry traced _>>=_
+plain-run map out s m t n other h =
+    sym (run-give map (execute out (begins s) (wordAt m (s .regs .pc))) m) ∙ (rw other at (found-value (fitted map (s .regs .pc)) (s .regs .pc) _ t n h .1))
+
 -- it is running with I2 set after it
 pub enabled-runs : (map : List ℕ) (out : Outside) (s : State) (m : List ℕ) → s .mode ≡ Running → enables (executed s m) ≡ true → stepOf map out s m .cause ≡ Cause.OpCode
     → Enabled s (stepOf map out s m .state)
-unfolding workOf
-enabled-runs map out s m runs e c = came (run map (workOf (kindOf s out) out s) m) refl
-  where
-    came : (x : Came State) → run map (workOf (kindOf s out) out s) m ≡ x → Enabled s (stepOf map out s m .state)
-    came (value t n) r =
-        let well : after t n (causeOf (kindOf s out)) ≡ stepOf map out s m = step-well map out s m refl r refl in
-        let code : kindOf s out ≡ OpCode = code-kind (kindOf s out) (subst (λ (b : Bool). fits b (kindOf s out) ≡ true) (ap isRunning runs) (fits-kind (s .mode) (hears s) out)) (ap (λ a. a .cause) well ∙ c) in
-        subst (λ (t : State). Enabled s t) (ap (λ a. a .state) well) (work-marks map out s m (rw code at r) .1 e)
-    came (blank a) r =
-        let z : Nowhere ≡ At a = sym (ap addressOf c) ∙ tells map out s m r in
-        let w : _≡_ {A = ℕ} 0 1 = cc in absurd (omega arith)
+enabled-runs map out s m runs e c = work-marks map out s m (code-work map out s m runs c) .1 e

@@ -1,0 +1,136 @@
+-- The theorem that specs/Branches.antt states.
+use Prim.Native.Nat.{ℕ, _+_, _*_, _/_, _%_, _<_, _≤_, _-_}
+use native.Mathlib.Omega.{arith}
+use mathlib.Core.Bool.{Bool, true, false, _&&_, cond}
+use mathlib.Core.List.{List}
+use mathlib.Core.List as List
+use mathlib.Core.Path.{_≡_, refl, sym, ap, _∙_, subst}
+use lib.Dec.{eqb, leb}
+use lib.ListN.{getD}
+use borrow.Author.Tests.{leb-true, ne-eqb}
+use Rattle.word.specs.declared.Flags.{Flags}
+use Rattle.word.specs.Address.{plus}
+use Rattle.arith.specs.Branch.{taken}
+use Rattle.arith.proofs.Laws.Printed.{numbers, printed, as-printed}
+use Rattle.board.specs.Work.{value, wordAt, run}
+use Rattle.plate.specs.Plate.{formatOf}
+use Rattle.codes.specs.Fields.{highByte}
+use Rattle.format6.specs.Format5.{displacement, branchNumber, branch}
+use Rattle.state.specs.declared.State.{State}
+use Rattle.state.specs.declared.Outside.{Outside}
+use Rattle.state.specs.State.{heard, withReg, withPc, withMark}
+use Rattle.state.specs.Registers.{setReg}
+use Rattle.step.specs.Execute.{execute, byFormat}
+use Rattle.step.specs.Xct.{opWork}
+use Rattle.laws.specs.Branches.{lines, whenIn, branched, BranchesAsPrinted}
+use Rattle.laws.proofs.Laws.Marked.{Below, below, code-work, plain-run}
+use Rattle.step.proofs.Laws.Late.{begins}
+use Rattle.laws.proofs.Laws.Mark.{turn-is}
+
+-- ---- the high bytes of format 5
+
+-- by the plate's rule, case by case
+walk : (a b c d e f g h i j k l : Bool)
+    → _≡_ {A = ℕ} (cond a 1 (cond b 5 (cond c 5 (cond d 6 (cond e 6 (cond f 6 (cond g 7 (cond h 7 (cond i 8 (cond j 9 (cond k 10 (cond l 10 11)))))))))))) 5
+    → cond b true c ≡ true
+walk true b c d e f g h i j k l q = absurd (omega arith)
+walk false true c d e f g h i j k l q = refl
+walk false false true d e f g h i j k l q = refl
+walk false false false true e f g h i j k l q = absurd (omega arith)
+walk false false false false true f g h i j k l q = absurd (omega arith)
+walk false false false false false true g h i j k l q = absurd (omega arith)
+walk false false false false false false true h i j k l q = absurd (omega arith)
+walk false false false false false false false true i j k l q = absurd (omega arith)
+walk false false false false false false false false true j k l q = absurd (omega arith)
+walk false false false false false false false false false true k l q = absurd (omega arith)
+walk false false false false false false false false false false true l q = absurd (omega arith)
+walk false false false false false false false false false false false true q = absurd (omega arith)
+walk false false false false false false false false false false false false q = absurd (omega arith)
+
+-- 01 to 07, or 80 to 87
+pub data Five (h : ℕ) : Type 0 where
+  low : 1 ≤ h → h < 8 → Five h
+  high : (j : ℕ) → h ≡ 0x80 + j → j < 8 → Five h
+
+bounds : (x y z w : Bool) (h : ℕ) → leb 1 h ≡ x → leb h 7 ≡ y → leb 0x80 h ≡ z → leb h 0x87 ≡ w → cond (x && y) true (z && w) ≡ true → Five h
+bounds true true z w h a b c d e = let k = leb-true 1 h a in let l = leb-true h 7 b in low (omega arith) (omega arith)
+bounds true false true true h a b c d e = let k = leb-true 0x80 h c in let l = leb-true h 0x87 d in high (h - 0x80) (omega arith) (omega arith)
+bounds false y true true h a b c d e = let k = leb-true 0x80 h c in let l = leb-true h 0x87 d in high (h - 0x80) (omega arith) (omega arith)
+bounds true false true false h a b c d e = let z : _≡_ {A = ℕ} 0 1 = cc in absurd (omega arith)
+bounds true false false w h a b c d e = let z : _≡_ {A = ℕ} 0 1 = cc in absurd (omega arith)
+bounds false y true false h a b c d e = let z : _≡_ {A = ℕ} 0 1 = cc in absurd (omega arith)
+bounds false y false w h a b c d e = let z : _≡_ {A = ℕ} 0 1 = cc in absurd (omega arith)
+
+abbrev within : ℕ → ℕ → ℕ → Bool
+within from to h = leb from h && leb h to
+
+five : (h : ℕ) → formatOf h ≡ 5 → Five h
+unfolding formatOf
+five h e = bounds (leb 1 h) (leb h 7) (leb 0x80 h) (leb h 0x87) h refl refl refl refl
+    (walk (eqb h 0) (within 0x01 0x07 h) (within 0x80 0x87 h) (within 0x08 0x09 h) (within 0x88 0x89 h) (within 0x8e 0x8f h) (within 0x0a 0x0d h) (within 0x8a 0x8d h) (within 0x0e 0x0f h) (within 0x70 0x7f h) (within 0x10 0x6f h) (within 0x90 0xef h) e)
+
+-- ---- each printed line, by its number
+
+printed-at : (k : ℕ) (f : Flags) → getD (List.map (λ k. taken k f) numbers) k false ≡ getD (printed f) k false
+printed-at k f = ap (λ xs. getD xs k false) (as-printed f)
+
+low-printed : (f : Flags) → Below (λ h. 1 ≤ h → taken (h % 8 + h / 128 * 8) f ≡ whenIn lines h f) 8
+unfolding Below
+low-printed f = ((((((((tt, λ l. absurd (omega arith)), λ l. printed-at 1 f), λ l. printed-at 2 f), λ l. printed-at 3 f), λ l. printed-at 4 f), λ l. printed-at 5 f), λ l. printed-at 6 f), λ l. printed-at 7 f)
+
+high-printed : (f : Flags) → Below (λ j. taken ((0x80 + j) % 8 + (0x80 + j) / 128 * 8) f ≡ whenIn lines (0x80 + j) f) 8
+unfolding Below
+high-printed f = ((((((((tt, printed-at 8 f), printed-at 9 f), printed-at 10 f), printed-at 11 f), printed-at 12 f), printed-at 13 f), printed-at 14 f), printed-at 15 f)
+
+printed-line : (h : ℕ) (f : Flags) → Five h → taken (h % 8 + h / 128 * 8) f ≡ whenIn lines h f
+printed-line h f (low a b) = below (λ h. 1 ≤ h → taken (h % 8 + h / 128 * 8) f ≡ whenIn lines h f) 8 (low-printed f) h b a
+printed-line h f (high j e l) =
+    subst (λ (x : ℕ). taken (x % 8 + x / 128 * 8) f ≡ whenIn lines x f) (sym e)
+    (below (λ j. taken ((0x80 + j) % 8 + (0x80 + j) / 128 * 8) f ≡ whenIn lines (0x80 + j) f) 8 (high-printed f) j l)
+
+taken-printed : (op : ℕ) (f : Flags) → formatOf (highByte op) ≡ 5 → taken (branchNumber op) f ≡ whenIn lines (highByte op) f
+taken-printed op f e =
+    let number : branchNumber op ≡ op / 256 % 8 + op / 256 / 128 * 8 = omega arith in
+    ap (λ k. taken k f) number ∙ printed-line (op / 256) f (five (op / 256) e)
+
+-- ---- the step
+
+branch-is : (op : ℕ) (s : State) → formatOf (highByte op) ≡ 5 → branch (withMark (withPc s (plus (s .regs .pc) 2)) false) op ≡ branched op s
+unfolding branch withReg withMark setReg
+branch-is op s e = by (taken (branchNumber op) (s .flags)) (whenIn lines (highByte op) (s .flags)) (taken-printed op (s .flags) e)
+  where
+    by : (b c : Bool) → b ≡ c → (let u = withMark (withPc s (plus (s .regs .pc) 2)) false in cond b (withPc u (plus (u .regs .pc) (displacement op))) u)
+        ≡ (let past = plus (s .regs .pc) 2 in withMark (withPc s (cond c (plus past (displacement op)) past)) false)
+    by true true e = refl
+    by false false e = refl
+    by true false e = let z : _≡_ {A = ℕ} 0 1 = cc in absurd (omega arith)
+    by false true e = let z : _≡_ {A = ℕ} 0 1 = cc in absurd (omega arith)
+
+five-not-xct : (op : ℕ) → formatOf (highByte op) ≡ 5 → eqb op 5 ≡ false
+five-not-xct op e = by (five (op / 256) e)
+  where
+    by : Five (op / 256) → eqb op 5 ≡ false
+    by (low a b) = ne-eqb op 5 (λ z. omega arith)
+    by (high j q l) = ne-eqb op 5 (λ z. omega arith)
+
+branch-given : (map : List ℕ) (out : Outside) (s : State) (m : List ℕ) (t : State) (n : List ℕ) (op : ℕ) → formatOf (highByte op) ≡ 5
+    → run map (execute out s op) m ≡ value t n → (t ≡ branch s op) × (n ≡ m)
+unfolding run byFormat
+branch-given map out s m t n op e h = given (rw e at h)
+  where
+    given : {x y : State} {k l : List ℕ} → value x k ≡ value y l → (y ≡ x) × (l ≡ k)
+    given {x} {y} {k} {l} h = let p : y ≡ x = cc in let q : l ≡ k = cc in (p, q)
+
+branch-work : (map : List ℕ) (out : Outside) (s : State) (m : List ℕ) (t : State) (n : List ℕ) → formatOf (highByte (wordAt m (s .regs .pc))) ≡ 5
+    → run map (opWork out s) m ≡ value t n → (t ≡ branched (wordAt m (s .regs .pc)) s) × (n ≡ m)
+branch-work map out s m t n e h =
+    let op = wordAt m (s .regs .pc) in
+    let b = branch-given map out (begins s) m t n op e (plain-run map out s m t n (five-not-xct op e) h) in
+    (b .0 ∙ branch-is op s e, b .1)
+
+pub branches-as-printed : BranchesAsPrinted
+branches-as-printed settings m map line s t n e runs c five =
+    let is = turn-is settings m map line s t n e in
+    let out = heard settings line in
+    let b = branch-work map out s m _ _ five (code-work map out s m runs (sym (is .1) ∙ c)) in
+    (is .0 ∙ b .0, is .2 ∙ b .1)

@@ -1,0 +1,66 @@
+-- WISH 2. BRANCH CONDITIONS THAT CAN BE READ: "Show seven conditions and one reversal. No caller may see a difference." The program's
+-- seven conditions and their reversal (arith Branch) are, in every step over an op code of format 5, the manual's fifteen printed lines.
+use Prim.Native.Nat.{ℕ}
+use mathlib.Core.Bool.{Bool, true, false, not, _||_, cond}
+use mathlib.Core.List.{List, [], _∷_}
+use mathlib.Core.Path.{_≡_}
+use lib.Dec.{eqb}
+use Rattle.word.specs.declared.Flags.{Flags}
+use Rattle.word.specs.Address.{plus}
+use Rattle.arith.specs.Branch.{_xor_}
+use Rattle.board.specs.Work.{wordAt}
+use Rattle.plate.specs.Plate.{formatOf}
+use Rattle.codes.specs.Fields.{highByte}
+use Rattle.format6.specs.Format5.{displacement}
+use Rattle.state.specs.declared.State.{State}
+use Rattle.state.specs.declared.Settings.{Settings}
+use Rattle.state.specs.declared.Mode.the-variants.{Running}
+use Rattle.state.specs.State.{withPc, withMark}
+use Rattle.step.specs.declared.Turn.{Turn}
+use Rattle.step.specs.declared.Cause.the-variants as Cause
+use Rattle.laws.specs.Mark.{Steps}
+
+-- a printed line: the high byte, and when "PC ← PC + (DISP * 2)"
+pub record Line : Type 0 where
+  pub high : ℕ
+  pub when : Flags → Bool
+
+abbrev pub line : ℕ → (Flags → Bool) → Line
+line high when = record { high = high; when = when }
+
+-- the manual's OPERATION lines of format 5: "IF x = 0" is not x, "IF x = 1" is x
+abbrev pub lines : List Line
+lines
+    = line 0x01 (λ f. true)  -- BR
+    ∷ line 0x02 (λ f. not (f .z))  -- BNE
+    ∷ line 0x03 (λ f. f .z)  -- BEQ
+    ∷ line 0x04 (λ f. not (f .n xor f .v))  -- BGE
+    ∷ line 0x05 (λ f. f .n xor f .v)  -- BLT
+    ∷ line 0x06 (λ f. not (f .z || (f .n xor f .v)))  -- BGT
+    ∷ line 0x07 (λ f. f .z || (f .n xor f .v))  -- BLE
+    ∷ line 0x80 (λ f. not (f .n))  -- BPL
+    ∷ line 0x81 (λ f. f .n)  -- BMI
+    ∷ line 0x82 (λ f. not (f .c || f .z))  -- BHI
+    ∷ line 0x83 (λ f. f .c || f .z)  -- BLOS
+    ∷ line 0x84 (λ f. not (f .v))  -- BVC
+    ∷ line 0x85 (λ f. f .v)  -- BVS
+    ∷ line 0x86 (λ f. not (f .c))  -- BCC, BHIS
+    ∷ line 0x87 (λ f. f .c)  -- BCS, BLO
+    ∷ []
+
+-- the line of a high byte; there is none of another
+abbrev pub whenIn : List Line → ℕ → Flags → Bool
+whenIn [] h f = false
+whenIn (l ∷ ls) h f = cond (eqb h (l .high)) (l .when f) (whenIn ls h f)
+
+-- PC past the op code, with twice the signed displacement added where the line says so; the mark is cleared, as by every op code
+abbrev pub branched : ℕ → State → State
+branched op s =
+    let past = plus (s .regs .pc) 2 in
+    withMark (withPc s (cond (whenIn lines (highByte op) (s .flags)) (plus past (displacement op)) past)) false
+
+-- A STEP OF A RUNNING PROCESSOR that executes an op code of format 5: cause 0 says that it was executed, so no premise on the lines, the
+-- map or the image is needed.
+abbrev pub BranchesAsPrinted : Type 0
+BranchesAsPrinted = (settings : Settings) (m map : List ℕ) (lines : ℕ) (s : State) (t : Turn) (n : List ℕ) → Steps settings m map lines s t n
+    → (let op = wordAt m (s .regs .pc) in s .mode ≡ Running → t .cause ≡ Cause.OpCode → formatOf (highByte op) ≡ 5 → (t .state ≡ branched op s) × (n ≡ m))

@@ -1,0 +1,39 @@
+-- WISH 8. CHECKING ANOTHER SHOP'S TRACE, for C: "Accept it exactly when it has one entry for each step from power-up and every field is
+-- the manual's; else tell the first wrong step and its first wrong field. A trace shorter or longer than the job is wrong at the first
+-- missing or extra step, no field." Whatever a call of `wd16_check_trace` leaves in the six bytes of its verdict.
+-- (Of `check`: trace Right `accepted-only`, `accepted-if`, First `verdict-says`.)
+use Prim.Native.Nat.{ℕ, _<_}
+use mathlib.Core.List.{List}
+use mathlib.Core.Path.{_≡_}
+use lib.ListN.{length}
+use Rattle.words.specs.Words.{byteAt, wordAt}
+use Rattle.job.specs.Job.{whyJob}
+use Rattle.trace.specs.Trace.{rightTrace, traceBytes, toldIn}
+use Rattle.trace.specs.First.{AtStep, EndsAt}
+use Rattle.tracecall.specs.Calls.{went, checkCall}
+
+-- ---- accepted exactly when it is the manual's trace: the answer is 0 and the verdict's first word is 0
+
+abbrev pub accepts : ℕ → List ℕ → Type 0
+accepts number verdict = (number ≡ 0) × (wordAt verdict 0 ≡ 0)
+
+abbrev pub Wd16Accepts : Type 0
+Wd16Accepts = (job t b : List ℕ) (number : ℕ) (b′ : List ℕ) → went number b′ ≡ checkCall job t b
+    → whyJob job ≡ 0 → length b ≡ 6 → ((i : ℕ) → byteAt t i < 256)
+    → (accepts number b′ → t ≡ traceBytes (rightTrace job)) × (t ≡ traceBytes (rightTrace job) → accepts number b′)
+
+-- ---- else its first fault: `right` are the entries that the manual gives, `told` those of the trace
+
+pub data Tells (right told : List (List ℕ)) (verdict : List ℕ) : Type 0 where
+  -- word 0 is 0: they are the same
+  accepted : wordAt verdict 0 ≡ 0 → right ≡ told → Tells right told verdict
+  -- it is 1: word 1 is the first wrong step, word 2 its first wrong field, where x should stand
+  wrong : (x : ℕ) → wordAt verdict 0 ≡ 1 → AtStep right told (wordAt verdict 2) (wordAt verdict 4) x → Tells right told verdict
+  -- it is 2: word 1 is the first missing step, or the first extra one; all before it are right, and no field is told
+  missing : wordAt verdict 0 ≡ 2 → EndsAt told right (wordAt verdict 2) → wordAt verdict 4 ≡ 0 → Tells right told verdict
+  extra : wordAt verdict 0 ≡ 2 → EndsAt right told (wordAt verdict 2) → wordAt verdict 4 ≡ 0 → Tells right told verdict
+
+-- A call that answers 0 tells it, whatever the job and the trace. (Where it doesn't, the number is a refusal's and the bytes are as lent:
+-- demands Demand1.)
+abbrev pub Wd16Tells : Type 0
+Wd16Tells = (job t b b′ : List ℕ) → went 0 b′ ≡ checkCall job t b → Tells (rightTrace job) (toldIn t) b′
