@@ -1,0 +1,21 @@
+// Files that are opened or dropped: looked at in size before they are read, and told apart.
+
+const MOST_TEXT = 4 << 20, MOST_BYTES = 1310702;
+
+// { kind: job | bytes | saved | trace, name, text or bytes }, or { wrong } in words.
+export async function readFile(file, isTrace) {
+  const most = isTrace ? MOST_BYTES : MOST_TEXT;
+  if (file.size > most) return { wrong: `${file.name} has ${file.size.toLocaleString("en")} bytes, and the desk takes ${most.toLocaleString("en")} at most: nothing was read.` };
+  if (file.size === 0) return { wrong: `${file.name} is empty.` };
+  const bytes = new Uint8Array(await file.arrayBuffer()), name = file.name;
+  if (isTrace || name.endsWith(".trace")) return { kind: "trace", name, bytes };
+  const wide = bytes[0] === 0xFF && bytes[1] === 0xFE ? "utf-16le" : bytes[0] === 0xFE && bytes[1] === 0xFF ? "utf-16be" : null;
+  if (wide === null && bytes.includes(0)) return { kind: "bytes", name, bytes };
+  let text;
+  try {
+    text = new TextDecoder(wide ?? "utf-8", { fatal: true }).decode(bytes);
+  } catch {
+    return { wrong: `${name} is no text: it is not UTF-8.` };
+  }
+  return { kind: /^\s*\{/.test(text) ? "saved" : "job", name, text };
+}

@@ -1,0 +1,48 @@
+// What happened, in words: a line for each step that was made by itself, and for what else was done; and what a step changed.
+import { INDICATORS, REGISTERS, STATE, hex, wordAt } from "./layout.mjs";
+
+const MOST_KEPT = 1000;
+
+export class Log {
+  constructor() {
+    this.clear();
+  }
+
+  clear() {
+    this.entries = [];
+  }
+
+  // The number of the step, where it began, what it was, whether it is bad, and what it changed.
+  add(step, at, words, bad = false, changes = "") {
+    this.entries.push({ step, at, words, bad, changes });
+    if (this.entries.length > MOST_KEPT) this.entries.shift();
+  }
+
+  // Leaves what was before a step. Where something beside a step was undone, its own entry goes as well, which is the last.
+  backTo(step, last) {
+    if (last) this.entries.pop();
+    else this.entries = this.entries.filter((entry) => entry.step < step || (entry.step === step && entry.at === null));
+  }
+}
+
+// The addresses of the words that differ in two images.
+export function changedWords(before, after) {
+  const eight = (bytes) => new BigUint64Array(bytes.buffer, bytes.byteOffset, 8192);
+  const [old, now] = [eight(before), eight(after)], found = [];
+  for (let n = 0; n < 8192; n++) {
+    if (old[n] === now[n]) continue;
+    for (let at = 8 * n; at < 8 * n + 8; at += 2) if (wordAt(before, at) !== wordAt(after, at)) found.push(at);
+  }
+  return found;
+}
+
+// What a step changed, in a line: R2=C000 N=1 000E:=4F08. PC moves with every op code, and is shown elsewhere.
+export function changesIn(before, after) {
+  const parts = [];
+  for (let n = 0; n < 7; n++) if (wordAt(before.state, 2 * n) !== wordAt(after.state, 2 * n)) parts.push(`${REGISTERS[n]}=${hex(wordAt(after.state, 2 * n))}`);
+  for (const [name, bit] of INDICATORS)
+    if ((before.state[STATE.indicators] ^ after.state[STATE.indicators]) & bit) parts.push(`${name}=${after.state[STATE.indicators] & bit ? 1 : 0}`);
+  if (before.state[STATE.i2] !== after.state[STATE.i2]) parts.push(`I2=${after.state[STATE.i2]}`);
+  for (const address of changedWords(before.image, after.image)) parts.push(`${hex(address)}:=${hex(wordAt(after.image, address))}`);
+  return parts.join(" ");
+}

@@ -1,0 +1,272 @@
+// The page: makes the desk and its views, and says what each control and key does.
+import { Desk } from "./desk.mjs";
+import { Editor } from "./editor.mjs";
+import { Library } from "./library.mjs";
+import { Runner } from "./running.mjs";
+import { Stops } from "./stops.mjs";
+import { TextError } from "./text.mjs";
+import { BoardView } from "./view_board.mjs";
+import { ProcessorView } from "./view_processor.mjs";
+import { RecorderView } from "./view_recorder.mjs";
+import { TraceView } from "./view_trace.mjs";
+import { Words, counted, grouped } from "./words.mjs";
+import { at, download, made, tell } from "./elements.mjs";
+import { bringBack, savedText } from "./saved.mjs";
+import { CAUSE, MODE, hex } from "./layout.mjs";
+import { joinedText } from "./patching.mjs";
+import { readFile } from "./files.mjs";
+import { textOf } from "./job.mjs";
+
+const GIVEN = globalThis.GIVEN, MOST_TO_A_STOP = 1e9, MOST_STEPS = 1e9, FIRST = "card-pulled.txt";
+
+const library = new Library(Uint8Array.from(atob(GIVEN.module), (character) => character.charCodeAt(0)));
+const words = new Words(GIVEN.numbers), desk = new Desk(library, words), stops = new Stops(), runner = new Runner(desk);
+const about = `Hitchbriar ${GIVEN.version}, ${GIVEN.proved ? "its module is proved" : "its module is NOT proved"}`;
+const job = new Editor(at("job-editor"), "text of the job", () => load());
+const patch = new Editor(at("patch-editor"), "text of the patch", () => assemble(), ".ORG 0080\nLOOP: SOB R0,LOOP");
+const processor = new ProcessorView(desk, stops, show), board = new BoardView(desk, stops, show);
+const recorder = new RecorderView(desk, about, show), trace = new TraceView(desk, show);
+
+function show() {
+  processor.show(), board.show(), recorder.show();
+  at("job-name").textContent = desk.name;
+  document.title = `${desk.name} · Hitchbriar desk`;
+}
+
+// ---- jobs and files
+
+// Does what may be refused in words with a place; answers whether it was done.
+function trying(editor, what, work) {
+  try {
+    work();
+  } catch (why) {
+    if (!(why instanceof TextError)) throw why;
+    const where = why.inPatch ? patch : editor;
+    tell(`${what}: ${why.place ? `line ${why.place.line}, column ${why.place.column}: ` : ""}${why.message}. Nothing was changed.`, true);
+    if (where !== null) openTab(where === patch ? "patch" : "job"), where.tell(why.message, why.place);
+    return false;
+  }
+  return true;
+}
+
+function load(name = desk.name) {
+  if (!trying(job, name, () => desk.load(name, job.text, patch.text))) return;
+  job.clear(), patch.clear(), trace.clear();
+  processor.from = null;
+  recorder.limits = {};
+  tell(desk.mode === MODE.locked ? `${name} is loaded, and locked at power-up: the board can't fetch where it begins.` : `${name} is loaded and powered up.`, desk.mode === MODE.locked);
+  show();
+}
+
+function sample(name) {
+  [job.text, patch.text] = GIVEN.samples[name];
+  load(name);
+  if (desk.scans.length > 0 && desk.name === name) openTab("recorder");
+}
+
+function assemble() {
+  let told;
+  if (!trying(patch, "The patch", () => { told = desk.assemble(patch.text); })) return;
+  patch.clear();
+  if (told.missing.length > 0) return tell(`Nothing is fitted at ${hex(told.missing[0])}, where the patch has a word: nothing was changed.`, true);
+  tell(`${counted(told.count, "word")} of the patch put into the image.`);
+  show();
+}
+
+// What is opened: a job's text or bytes, a saved desk, or a trace of the job.
+async function opened(file, isTrace = false) {
+  if (runner.running) return tell("Stop the run first.", true);
+  const read = await readFile(file, isTrace);
+  if (read.wrong) return tell(read.wrong, true);
+  if (read.kind === "trace") return openTab("trace"), trace.check(read.name, read.bytes);
+  if (read.kind === "saved") return back(read);
+  const text = read.kind === "job" ? read.text : textOfBytes(read);
+  if (text === null) return;
+  job.text = text, patch.text = "";
+  load(read.name);
+  if (desk.text !== text) tell(`${at("told").textContent} The desk still has ${desk.name}.`, true);
+  else openTab(desk.scans.length > 0 ? "recorder" : "job");
+}
+
+// A job's bytes are laid out by the library, beside the desk, and shown as text.
+function textOfBytes({ name, bytes }) {
+  const kept = desk.kept(), { why, lines } = bytes.length > library.job.length ? { why: 20 } : library.readJob(bytes);
+  if (why !== 0) return tell(`${name} is refused: ${words.refusal(why)}. Nothing was changed.`, true), null;
+  const text = textOf(library.image, library.map, lines);
+  desk.bring(kept);
+  return text;
+}
+
+function back({ name, text }) {
+  let kept;
+  if (!trying(null, name, () => { kept = bringBack(desk, text, GIVEN); })) return;
+  job.text = desk.text, patch.text = desk.patch;
+  stops.set(kept.stops), recorder.limits = kept.limits ?? {};
+  processor.from = null;
+  tell(`${name}: the desk is as it was saved, after ${counted(desk.steps, "step")}.`);
+  show();
+}
+
+function saveJob() {
+  let text;
+  if (trying(job, "The job", () => { text = joinedText(job.text, patch.text, [...library.settings], library, words); })) {
+    download(desk.name.replace(/\.\w+$/, "") + (desk.scans.length > 0 ? ".scans" : ".txt"), text, "text/plain");
+    tell("The job is saved with its patch and its board, as one text.");
+  }
+}
+
+function lunch() {
+  download(`${desk.name.replace(/\.\w+$/, "")}.desk.json`, savedText(desk, stops, recorder.limits, GIVEN), "application/json");
+  tell("The desk is saved as it stands. Open the file to go on.");
+}
+
+// ---- steps and runs
+
+function refused(what, why) {
+  tell(`${what} is refused: ${words.refusal(why)}.`, true);
+}
+
+function step() {
+  const was = desk.pc, why = desk.step();
+  if (why !== 0) return refused("The step", why);
+  processor.from = null;
+  if (desk.cause === CAUSE.lock) tell("The processor is locked up: only Power up helps.", true);
+  else if (desk.told !== null) tell(`A blank: ${words.blank(desk.told, library.map)}. What stands at ${hex(was)} was dropped, and PC is where location 0012 points.`, true);
+  else tell(desk.cause === CAUSE.opCode ? "" : `${words.cause(desk.cause)}.`);
+  show();
+}
+
+function stepBack() {
+  const undone = desk.back();
+  tell(undone === null ? "Nothing is left to take back." : undone === "" ? `Back: ${counted(desk.steps, "step")} made.` : `Undone: ${undone}.`);
+  processor.from = null;
+  show();
+}
+
+function busy(on) {
+  document.querySelector("main").inert = document.querySelector("header").inert = on;
+  for (const control of document.querySelectorAll(".controls button, .controls input")) control.disabled = on;
+  at("stop").disabled = !on;
+  at("progress").hidden = !on;
+}
+
+async function run(most, asked) {
+  const from = desk.steps, place = desk.pc;
+  busy(true);
+  at("stop").focus();
+  const end = await runner.run(most, asked, (done) => {
+    at("progress").max = Math.min(most, 1e6 * Math.ceil((done + 1) / 1e6)), at("progress").value = done;
+    tell(`${grouped(done)} steps${most < MOST_TO_A_STOP ? ` of ${grouped(most)}` : ""} …`);
+  });
+  busy(false);
+  processor.from = null;
+  const last = ["blank", "lock", "interrupt", "switch", "write"].includes(end.how) && end.steps > 0 ? desk.again() : null;
+  if (end.steps > 1 || last === null) desk.log.add(from, place, `a run of ${counted(end.steps - (last ? 1 : 0), "step")}`, end.blanks > 1);
+  if (last !== null) desk.logStep(last);
+  const [told, bad] = inWords(end, last);
+  show();
+  tell(told, bad);
+  at(asked === null ? "run" : "until").focus();
+}
+
+// How a run ended, and what stood where its last step began.
+function inWords(end, last) {
+  const steps = counted(end.steps, "step"), blank = () => words.blank(desk.told ?? end.first.address, library.map);
+  const met = last === null ? "" : `${last.text} at ${hex(last.at)} met a blank: `;
+  const blanks = end.blanks === 0 ? "no step met a blank" : `${counted(end.blanks, "step")} met a blank, the first was step ${grouped(end.first.step)}, at ${hex(end.first.address)}`;
+  switch (end.how) {
+    case "refused": return [`The run is refused: ${words.refusal(end.at)}.`, true];
+    case "blank": return [`Step ${grouped(desk.steps - 1)}, ${met}${blank()}.`, true];
+    case "lock": return [`The processor is locked up${desk.told === null ? "" : `: ${blank()}`}. Only Power up helps.`, true];
+    case "interrupt": return [`${words.cause(desk.cause)} was taken in step ${grouped(desk.steps - 1)}.`, false];
+    case "switch": return [`The halt option was taken in step ${grouped(desk.steps - 1)}.`, false];
+    case "address": return [`Stopped at ${hex(end.at)} after ${steps}.`, false];
+    case "write": return [`Stopped after ${steps}: ${hex(end.at)} was written by ${last.text} at ${hex(last.at)}.`, false];
+    case "waits": return [`After ${steps} the processor is ${words.mode(desk.mode)}. Set a line switch, then run on.`, false];
+    case "asked": return [`Stopped after ${steps}; ${blanks}.`, end.blanks > 0];
+    default: return [`${steps} made; ${blanks}${desk.mode === MODE.locked ? "; the processor is locked up" : ""}.`, end.blanks > 0 || desk.mode === MODE.locked];
+  }
+}
+
+function runCount() {
+  const text = at("count").value.replace(/[ ,_]/g, ""), good = /^[0-9]{1,9}$/.test(text) && Number(text) > 0;
+  at("count").classList.toggle("wrong", !good);
+  if (!good) return tell(`'${at("count").value}' is no number of steps: 1 to ${grouped(MOST_STEPS - 1)} is needed.`, true);
+  return run(Number(text), null);
+}
+
+// ---- tabs, keys, files dropped
+
+function openTab(name) {
+  for (const section of document.querySelectorAll("[data-tab]")) section.hidden = section.id !== `tab-${name}`;
+  for (const tab of document.querySelectorAll("[role=tab]")) {
+    const on = tab.id === `to-${name}`;
+    tab.setAttribute("aria-selected", String(on)), tab.tabIndex = on ? 0 : -1;
+  }
+}
+
+function makeTabs() {
+  const sections = [...document.querySelectorAll("[data-tab]")], names = sections.map((section) => section.id.slice(4));
+  document.querySelector(".tabs").append(...sections.map((section, n) => {
+    section.setAttribute("role", "tabpanel"), section.setAttribute("aria-labelledby", `to-${names[n]}`);
+    const tab = made("button", { id: `to-${names[n]}`, role: "tab", "aria-controls": section.id, textContent: section.dataset.tab, onclick: () => openTab(names[n]) });
+    tab.onkeydown = (event) => {
+      const move = { ArrowRight: 1, ArrowLeft: -1 }[event.key];
+      if (move) openTab(names[(n + move + names.length) % names.length]), at(`to-${names[(n + move + names.length) % names.length]}`).focus();
+    };
+    return tab;
+  }));
+  openTab("cards");
+  return names;
+}
+
+function makeKeys(tabs) {
+  const keys = { s: () => step(), b: () => stepBack(), r: () => runCount(), u: () => run(MOST_TO_A_STOP, stops), p: () => at("power").click(), "?": () => at("help").showModal() };
+  document.addEventListener("keydown", (event) => {
+    if (event.key === "Escape" && runner.running) return runner.stop();
+    const typing = /^(INPUT|TEXTAREA|SELECT)$/.test(event.target.tagName) && event.target.type !== "checkbox";
+    if (runner.running || typing || event.ctrlKey || event.altKey || event.metaKey || at("help").open) return;
+    const tab = tabs[Number(event.key) - 1];
+    if (tab) openTab(tab), at(`to-${tab}`).focus();
+    else if (event.key.toLowerCase() in keys) event.preventDefault(), keys[event.key.toLowerCase()]();
+  });
+}
+
+function makeDrop() {
+  document.addEventListener("dragover", (event) => (event.preventDefault(), document.body.classList.add("drop")));
+  document.addEventListener("dragleave", () => document.body.classList.remove("drop"));
+  document.addEventListener("drop", (event) => {
+    event.preventDefault();
+    document.body.classList.remove("drop");
+    if (event.dataTransfer.files[0]) opened(event.dataTransfer.files[0]);
+  });
+}
+
+function chooser(button, input, isTrace) {
+  at(button).onclick = () => at(input).click();
+  at(input).onchange = async () => {
+    const file = at(input).files[0];
+    if (file) await opened(file, isTrace);
+    at(input).value = "";
+  };
+}
+
+function start() {
+  at("about").textContent = about.replace("Hitchbriar ", "");
+  at("about").className = GIVEN.proved ? "proved" : "unproved";
+  for (const name of Object.keys(GIVEN.samples)) at("sample").append(new Option(name, name));
+  at("sample").onchange = () => sample(at("sample").value);
+  chooser("open", "file", false), chooser("check", "trace-file", true);
+  at("step").onclick = step, at("back").onclick = stepBack;
+  at("run").onclick = runCount, at("until").onclick = () => run(MOST_TO_A_STOP, stops), at("stop").onclick = () => runner.stop();
+  at("count").onkeydown = (event) => { if (event.key === "Enter") runCount(); };
+  at("power").onclick = () => (desk.powerUp(), tell("Powered up; the job's line words begin anew."), processor.from = null, show());
+  at("keys").onclick = () => at("help").showModal();
+  at("load").onclick = () => load(), at("assemble").onclick = assemble, at("save-job").onclick = saveJob, at("lunch").onclick = lunch;
+  makeKeys(makeTabs()), makeDrop();
+  const first = FIRST in GIVEN.samples ? FIRST : Object.keys(GIVEN.samples)[0];
+  at("sample").value = first;
+  sample(first);
+}
+
+start();

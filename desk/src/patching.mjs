@@ -1,0 +1,51 @@
+// A job and its patch as one text, which reads to the same words: what the patch writes over is taken out of the job's own lines.
+import { SETTINGS, hex } from "./layout.mjs";
+import { jobOf } from "./job.mjs";
+import { readLines } from "./jobtext.mjs";
+import { Source } from "./source.mjs";
+import { TextError, linesIn } from "./text.mjs";
+
+// The one text of a text, a patch, and a board; or a TextError where that can't be.
+export function joinedText(text, patch, board, library, words) {
+  const job = jobOf(text, patch, library, words), lines = linesIn(text);
+  while (lines.at(-1) === "") lines.pop();
+  const taken = new Set(job.patch.map(([address]) => address));
+  if (taken.size > 0) withoutWords(lines, text, taken), withoutSource(lines, text, taken, job, library, words);
+  withBoard(lines, text, board);
+  if (patch.trim() !== "") lines.push("; the patch", ".ORG 0000", ...linesIn(patch.trimEnd()));
+  const whole = lines.flat().join("\n") + "\n", again = jobOf(whole, "", library, words);
+  if (again.bytes.length !== job.bytes.length || again.bytes.some((byte, n) => byte !== job.bytes[n]))
+    throw new TextError("the job and its patch don't go into one text: save them for after lunch, or put the patch's lines into the job by hand");
+  return whole;
+}
+
+const over = (line) => `; under the patch: ${line.trim()}`;
+
+// Lines ADDRESS = WORDS of which the patch writes over some words keep the others.
+function withoutWords(lines, text, taken) {
+  const byLine = new Map();
+  for (const one of readLines(text).words) byLine.set(one.place.line, [...(byLine.get(one.place.line) ?? []), one]);
+  for (const [line, entries] of byLine)
+    if (entries.some((one) => taken.has(one.address)))
+      lines[line - 1] = [over(lines[line - 1]), ...entries.filter((one) => !taken.has(one.address)).map((one) => `${hex(one.address)} = ${one.label ?? hex(one.value)}`)];
+}
+
+// So do the assembler's lines: what is left of them are words, and the origin goes on where it was.
+function withoutSource(lines, text, taken, job, library, words) {
+  const own = new Source(readLines(text).source, library, words), told = own.labels(), pairs = own.pairs(job.labels);
+  own.lines.forEach((line, n) => {
+    if (!line.hasWords()) return;
+    const mine = pairs.filter(([address]) => address >= told.all[n] && address < told.all[n + 1]);
+    if (!mine.some(([address]) => taken.has(address))) return;
+    const left = mine.filter(([address]) => !taken.has(address)).flatMap(([address, word]) => [`.ORG ${hex(address)}`, `.WORD ${hex(word)}`]);
+    lines[line.line - 1] = [over(lines[line.line - 1]), ...(line.label ? [`${line.label}:`] : []), ...left, `.ORG ${hex(mine.at(-1)[0] + 2 & 0xFFFF)}`];
+  });
+}
+
+// The board's lines, where the board is not the text's.
+function withBoard(lines, text, board) {
+  const job = readLines(text);
+  if (board.every((value, n) => value === job.board[n])) return;
+  for (const place of job.boardPlaces) if (place && typeof lines[place.line - 1] === "string") lines[place.line - 1] = `; was: ${lines[place.line - 1].trim()}`;
+  lines.push(`microm ${board[SETTINGS.microm] === 1 ? "yes" : "no"}`, `jumpers up ${board[SETTINGS.up]} halt ${board[SETTINGS.halt]}`, `external ${hex(board[SETTINGS.external], 2)}`);
+}

@@ -1,0 +1,109 @@
+// Half a shift now, half later: all that the desk has, in one file, and what is read of such a file.
+import { CHANNELS, SIZES, hex } from "./layout.mjs";
+import { lineRuns } from "./job.mjs";
+import { History } from "./history.mjs";
+import { TextError, lineWordsOf, wordsIn } from "./text.mjs";
+
+const KIND = "hitchbriar desk", FORMAT = 1;
+
+// The text of the file. `given` has the version of the page and the layout of the library's buffers.
+export function savedText(desk, stops, limits, given) {
+  const { library } = desk, bytes = (name) => hexOf(library[name]);
+  return JSON.stringify({
+    kind: KIND, format: FORMAT, layout: given.layout, version: given.version,
+    name: desk.name, text: desk.text, patch: desk.patch, lines: lineRuns(desk.lines), taken: desk.taken, steps: desk.steps,
+    state: bytes("state"), map: Array.from(library.map).join(""), settings: bytes("settings"), recorder: bytes("recorder"), image: bytes("image"),
+    plugged: Array.from(desk.plugged).join(""), switches: desk.switches, useOwn: desk.useOwn,
+    scans: desk.scans.map(({ channels, lines, line }) => ({ channels, lines: lineRuns(lines), line })), scansMade: desk.scansMade, rows: desk.rows,
+    labels: [...desk.labels], starts: [...desk.starts], stops, limits,
+  }, null, 1) + "\n";
+}
+
+// Puts a saved desk back; throws a TextError where the file is none, and then nothing is changed. Answers the stops and limits.
+export function bringBack(desk, text, given) {
+  const file = parsed(text, given), { library } = desk;
+  const lent = { state: bytesFrom(file.state, "state"), image: bytesFrom(file.image, "image"), map: digits(file.map, "map"),
+    settings: bytesFrom(file.settings, "settings"), recorder: bytesFrom(file.recorder, "recorder") };
+  refuse(library, lent, desk.words);
+  const next = {
+    name: word(file.name, "name"), text: word(file.text, "text"), patch: word(file.patch, "patch"), lines: lineWords(file.lines),
+    taken: whole(file.taken, "taken"), steps: whole(file.steps, "steps"), plugged: digits(file.plugged, "plugged"),
+    switches: whole(file.switches, "switches"), useOwn: file.useOwn === true, scans: list(file.scans, "scans").map(scanFrom),
+    scansMade: whole(file.scansMade, "scansMade"), rows: list(file.rows, "rows").map(channels), labels: new Map(list(file.labels, "labels")),
+    starts: new Set(list(file.starts, "starts")),
+  };
+  if (next.taken > next.lines.length || next.scansMade > next.scans.length) throw wrong("taken or scansMade");
+  const job = desk.reread(next.text, next.patch);
+  for (const [name, bytes] of Object.entries(lent)) library[name].set(bytes);
+  Object.assign(desk, next, { job, history: new History(), hit: null });
+  desk.log.clear();
+  desk.done("brought back from a file");
+  return { stops: file.stops, limits: file.limits };
+}
+
+function parsed(text, given) {
+  let file;
+  try {
+    file = JSON.parse(text);
+  } catch (why) {
+    throw new TextError(`no saved desk: ${why.message}`);
+  }
+  if (file === null || file.kind !== KIND) throw new TextError("no saved desk: it does not say that it is one");
+  if (file.format !== FORMAT || file.layout !== given.layout)
+    throw new TextError(`a saved desk of another layout: format ${file.format}, layout ${file.layout}; this page has format ${FORMAT}, layout ${given.layout}`);
+  return file;
+}
+
+// A run over no line words, on buffers beside the desk's, tells whether the library takes what the file has.
+function refuse(library, lent, words) {
+  library.trialState.set(lent.state), library.trialImage.set(lent.image), library.trialMap.set(lent.map), library.trialSettings.set(lent.settings);
+  const why = library.calls.wd16_run(...library.lent("trialState", "tally", "trialImage", "trialMap", "trialSettings"), library.at.lines, 0);
+  if (why !== 0) throw new TextError(`the saved desk is refused: ${words.refusal(why)}`);
+}
+
+function wrong(what) {
+  return new TextError(`the saved desk's ${what} can't be read`);
+}
+
+function hexOf(bytes) {
+  return Array.from(bytes, (byte) => hex(byte, 2)).join("");
+}
+
+function bytesFrom(text, name) {
+  if (typeof text !== "string" || text.length !== 2 * SIZES[name] || /[^0-9A-F]/.test(text)) throw wrong(name);
+  return Uint8Array.from({ length: SIZES[name] }, (_, n) => parseInt(text.slice(2 * n, 2 * n + 2), 16));
+}
+
+function digits(text, what) {
+  if (typeof text !== "string" || text.length !== SIZES.map || /[^0-9]/.test(text)) throw wrong(what);
+  return Uint8Array.from(text, Number);
+}
+
+function word(value, what) {
+  if (typeof value !== "string") throw wrong(what);
+  return value;
+}
+
+function whole(value, what) {
+  if (!Number.isSafeInteger(value) || value < 0) throw wrong(what);
+  return value;
+}
+
+function list(value, what) {
+  if (!Array.isArray(value)) throw wrong(what);
+  return value;
+}
+
+function lineWords(text) {
+  return lineWordsOf(wordsIn(word(text, "lines"), 1)).map((one) => one.value);
+}
+
+function channels(values) {
+  const good = (value) => value === null || Number.isInteger(value);
+  if (!Array.isArray(values) || values.length !== CHANNELS || !values.every(good)) throw wrong("rows");
+  return values;
+}
+
+function scanFrom(one) {
+  return { channels: channels(one?.channels), lines: lineWords(one?.lines), line: one?.line ?? 0 };
+}

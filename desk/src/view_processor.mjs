@@ -1,0 +1,94 @@
+// The processor and its listing: registers, indicators, mode, line switches; the lines around PC; what happened.
+import { INDICATORS, LINE, MODE, REGISTERS, STATE, even, hex, wordAt } from "./layout.mjs";
+import { at, hexFrom, made, pressed, tell } from "./elements.mjs";
+import { rowsAround, wayOf } from "./listing.mjs";
+import { statusWord } from "./library.mjs";
+import { grouped } from "./words.mjs";
+
+const ROWS = 14;
+const SWITCHES = [["i0", LINE.i0], ["i1", LINE.i1], ["i3", LINE.i3], ["fail", LINE.powerFail]];
+
+export class ProcessorView {
+  constructor(desk, stops, refresh) {
+    this.desk = desk, this.stops = stops, this.refresh = refresh, this.from = null;
+    this.cells = REGISTERS.map((name, n) => this.registerCell(name, n));
+    at("registers").append(...this.cells.map((cell) => cell.parentElement));
+    for (const [id, bit] of SWITCHES) at(id).onclick = () => (desk.flip(bit), this.show());
+    at("device").onchange = () => this.device();
+    at("own").onchange = () => (desk.useOwn = at("own").checked, this.show());
+    at("goto").onclick = () => this.goTo();
+    at("from").onkeydown = (event) => { if (event.key === "Enter") this.goTo(); };
+    at("follow").onclick = () => (this.from = null, this.show());
+  }
+
+  registerCell(name, n) {
+    const cell = made("input", { id: `reg-${name}`, size: 4, maxLength: 4, "aria-label": name });
+    cell.onchange = () => {
+      const word = hexFrom(cell, 0xFFFF, "a word");
+      if (word !== null) this.desk.setRegister(n, word), tell(`${name} is ${hex(word)} now.`), this.refresh();
+    };
+    made("label", {}, name.padEnd(2), cell);
+    return cell;
+  }
+
+  device() {
+    const text = at("device").value.trim(), good = /^[0-9]{1,2}$/.test(text) && Number(text) <= 15;
+    at("device").classList.toggle("wrong", !good);
+    if (!good) return tell(`'${text}' is not a device code: 0 to 15 is needed.`, true);
+    this.desk.setDevice(Number(text));
+  }
+
+  goTo() {
+    const address = hexFrom(at("from"));
+    if (address !== null) this.from = even(address), this.show();
+  }
+
+  show() {
+    this.showRegisters(), this.showList(), this.showLog();
+  }
+
+  showRegisters() {
+    const { desk, desk: { library: { state, settings }, before } } = this;
+    this.cells.forEach((cell, n) => {
+      cell.value = hex(desk.register(n));
+      cell.classList.remove("wrong");
+      cell.parentElement.className = wordAt(before.state, 2 * n) === desk.register(n) ? "" : "changed";
+    });
+    const flags = INDICATORS.map(([name, bit]) => {
+      const changed = (before.state[STATE.indicators] ^ state[STATE.indicators]) & bit;
+      return made("span", { textContent: `${name} ${state[STATE.indicators] & bit ? 1 : 0}`, className: changed ? "changed" : "" });
+    });
+    const enable = made("span", { textContent: `I2 ${state[STATE.i2]}${state[STATE.mark] ? ", held for one op code" : ""}`, title: "the interrupt enable" });
+    at("status").replaceChildren(made("span", { textContent: `PS ${hex(statusWord(state, settings))}` }), ...flags, enable);
+    at("mode").textContent = `After ${grouped(desk.steps)} steps: ${desk.words.mode(desk.mode)}.`;
+    at("mode").className = desk.mode === MODE.locked ? "over" : "";
+    for (const [id, bit] of SWITCHES) pressed(at(id), (desk.switches & bit) !== 0);
+    at("device").value = desk.switches >> 8;
+    at("own").checked = desk.useOwn;
+    at("left").textContent = grouped(desk.lines.length - desk.taken);
+  }
+
+  showList() {
+    const focused = document.activeElement?.dataset?.address;
+    at("list").replaceChildren(...rowsAround(this.desk, this.from, ROWS).map((row) => this.listLine(row)));
+    if (focused !== undefined) at("list").querySelector(`[data-address="${focused}"]`)?.focus();
+  }
+
+  listLine(row) {
+    const { desk, stops } = this, now = row.address === even(desk.pc), stop = stops.addresses.has(row.address), way = wayOf(desk, row);
+    const part = (className, textContent) => made("span", { className, textContent });
+    const words = row.text === "----" ? "---- nothing is fitted" : row.text;
+    const line = made("button", { className: `line${now ? " now" : ""}${row.text === "----" ? " none" : ""}`, "data-address": hex(row.address), role: "listitem",
+      "aria-label": `${now ? "PC, " : ""}${stop ? "stop, " : ""}${hex(row.address)} ${row.label} ${words} ${way?.words ?? ""}` },
+    part("mark", `${now ? "▸" : ""}${stop ? "●" : ""}`), part("label", row.label), part("", hex(row.address)), part("", row.words.join(" ")),
+    made("span", {}, words, part("way", way === null ? "" : `  ${way.words}`)));
+    line.onclick = () => (stops.addresses.delete(row.address) || stops.addresses.add(row.address), this.refresh());
+    return line;
+  }
+
+  showLog() {
+    at("log").replaceChildren(...this.desk.log.entries.slice(-200).reverse().map((entry) => made("li", { className: entry.bad ? "bad" : "" },
+      made("span", { textContent: entry.at === null ? "" : grouped(entry.step) }), made("span", { textContent: entry.at === null ? "" : hex(entry.at) }),
+      made("span", {}, entry.words, made("span", { className: "changes", textContent: entry.changes ? `   ${entry.changes}` : "" })))));
+  }
+}

@@ -1,0 +1,105 @@
+// The recorder: a picture and a row for each channel, limits, and a page to print.
+import { CHANNELS } from "./layout.mjs";
+import { at, made, tell } from "./elements.mjs";
+import { averageDegrees, degrees, limitOf, nextScan, over, reports } from "./recorder.mjs";
+import { picture } from "./picture.mjs";
+import { counted, grouped } from "./words.mjs";
+
+const HEADS = ["channel", "readings", "blanks", "lowest", "highest", "average, tenths", "average, °C", "limit", ""];
+
+export class RecorderView {
+  constructor(desk, about, refresh) {
+    this.desk = desk, this.about = about, this.refresh = refresh;
+    this.limits = {}; // by channel, in tenths
+    this.figures = Array.from({ length: CHANNELS }, (_, channel) => this.figure(channel));
+    at("channels").append(...this.figures.map((one) => one.element));
+    at("scan").onclick = () => this.scan();
+    at("scans-all").onclick = () => this.all();
+    at("print").onclick = () => this.print();
+    at("limit-all").onchange = () => this.limit(at("limit-all"), [...Array(CHANNELS).keys()]);
+  }
+
+  figure(channel) {
+    const drawn = made("div"), caption = made("span"), limit = made("input", { id: `limit-${channel}`, "aria-label": `limit of channel ${channel} in degrees` });
+    limit.onchange = () => this.limit(limit, [channel]);
+    return { drawn, caption, limit, element: made("figure", { id: `channel-${channel}` },
+      made("figcaption", {}, made("label", { className: "no-print" }, "limit ", limit), made("b", { textContent: `Channel ${channel} ` }), caption), drawn) };
+  }
+
+  // Sets the limit of channels from what was written, in degrees.
+  limit(input, channels) {
+    const limit = limitOf(input.value), good = !Number.isNaN(limit);
+    input.classList.toggle("wrong", !good);
+    if (!good) return tell(`'${input.value}' is no limit: degrees with at most one digit after the point are needed, as 5.0 or -18.`, true);
+    for (const channel of channels) {
+      if (limit === null) delete this.limits[channel];
+      else this.limits[channel] = limit;
+    }
+    tell(limit === null ? "The limit is taken away." : `The limit is ${degrees(limit)} °C.`);
+    this.show();
+  }
+
+  print() {
+    at("report-date").textContent = `Printed ${new Date().toLocaleString("en-GB")}.`;
+    print();
+  }
+
+  scan() {
+    const told = nextScan(this.desk);
+    if (told === null) return tell(this.none());
+    this.desk.done(told.words);
+    tell(told.words, told.bad);
+    this.refresh();
+  }
+
+  none() {
+    return this.desk.scans.length === 0 ? "The job has no scans: a line of its text, scan 205 -- .., is one." : "The job has no further scan.";
+  }
+
+  // All that are left, and what was bad among them.
+  all() {
+    const { desk } = this, first = desk.scansMade + 1, bad = [];
+    if (desk.scansMade === desk.scans.length) return tell(this.none());
+    for (let told; (told = nextScan(desk)) !== null;) {
+      desk.log.add(desk.steps, null, told.words, told.bad);
+      if (told.bad) bad.push(told.words);
+    }
+    desk.done(`scans ${first} to ${desk.scansMade} made`);
+    tell(`${counted(desk.scansMade - first + 1, "scan")} made. ${bad.slice(0, 3).join(" ")}${bad.length > 3 ? ` And ${bad.length - 3} more with a missing card or a refusal.` : ""}`, bad.length > 0);
+    this.refresh();
+  }
+
+  show() {
+    const { desk } = this, all = reports(desk.library), any = desk.scans.length > 0 || desk.rows.length > 0;
+    at("scans").textContent = desk.scans.length === 0 ? "no scans in this job" : `${grouped(desk.scansMade)} of ${counted(desk.scans.length, "scan")} made`;
+    at("scan").disabled = at("scans-all").disabled = desk.scansMade === desk.scans.length;
+    at("channels").hidden = at("report").hidden = !any;
+    all.forEach((report, channel) => this.showChannel(report, channel));
+    at("report").replaceChildren(made("tr", {}, ...HEADS.map((textContent, n) => made("th", { textContent, className: n > 0 && n < 8 ? "number" : "" }))), ...all.map((report, channel) => this.row(report, channel)));
+    at("report-title").textContent = `Plug recorder: ${desk.name}, ${counted(desk.rows.length, "scan")}`;
+    at("report-foot").textContent = `${this.about}. A missing card is a blank and counts to no average. Signed: ______________________`;
+  }
+
+  showChannel(report, channel) {
+    const { drawn, caption, limit } = this.figures[channel], set = this.limits[channel] ?? null;
+    drawn.innerHTML = picture(report, this.desk.rows, channel, set);
+    caption.textContent = report.readings === 0 ? (report.blanks === 0 ? "no scan yet" : "no reading") : `${degrees(report.lowest)} to ${degrees(report.highest)} °C, average ${averageDegrees(report)}${report.blanks > 0 ? `, ${counted(report.blanks, "scan")} without card` : ""}`;
+    caption.className = set !== null && over(report, this.desk.rows, channel, set).average ? "over" : "";
+    if (document.activeElement !== limit) limit.value = set === null ? "" : degrees(set);
+  }
+
+  row(report, channel) {
+    const none = report.readings === 0, set = this.limits[channel] ?? null, high = set === null ? null : over(report, this.desk.rows, channel, set);
+    const cells = [channel, report.readings, report.blanks, none ? "--" : degrees(report.lowest), none ? "--" : degrees(report.highest),
+      none ? "--" : `${report.sum}/${report.readings}`, none ? "--" : averageDegrees(report), set === null ? "" : degrees(set)];
+    return made("tr", { className: high && (high.average || high.readings > 0) ? "over" : report.blanks > 0 ? "missing" : "" }, ...cells.map((value) => made("td", { className: "number", textContent: value })), made("td", { textContent: judged(report, high) }));
+  }
+}
+
+// What a report comes to beside a limit. Scans without the card are always told: nothing is known of them.
+function judged(report, high) {
+  const missing = report.blanks > 0 ? [`no card in ${counted(report.blanks, "scan")}`] : [];
+  if (high === null) return missing.join("");
+  const told = report.readings === 0 ? "no reading" : high.average ? "average over the limit" : high.readings > 0 ? `${counted(high.readings, "reading")} over it` : "readings within it";
+  return [told, ...missing].join("; ");
+}

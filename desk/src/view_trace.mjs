@@ -1,0 +1,67 @@
+// Another shop's trace: what the library finds in it, the first wrong step beside ours, and our own trace to save.
+import { at, download, made, tell } from "./elements.mjs";
+import { FIELDS, checkTrace, makeTrace } from "./trace.mjs";
+import { SIZES, hex } from "./layout.mjs";
+import { counted, grouped } from "./words.mjs";
+
+export class TraceView {
+  constructor(desk, refresh) {
+    this.desk = desk, this.refresh = refresh;
+    at("make").onclick = () => this.save();
+  }
+
+  clear() {
+    at("verdict").replaceChildren();
+  }
+
+  save() {
+    const trace = makeTrace(this.desk);
+    if (trace === null) return tell("The trace that was made is not accepted by the library: nothing is saved.", true);
+    download(`${this.desk.name.replace(/\.\w+$/, "")}.trace`, trace, "application/octet-stream");
+    tell(`A trace of ${counted(this.desk.lines.length, "step")} from power-up on bench's board.`);
+  }
+
+  // Checks the bytes of a trace against the loaded job.
+  check(name, bytes) {
+    if (bytes.length > SIZES.trace) return this.told(`${name} has ${grouped(bytes.length)} bytes; a trace has ${grouped(SIZES.trace)} at most.`, true);
+    const found = checkTrace(this.desk, bytes), job = this.desk.name;
+    if (found.why !== 0) return this.told(`${name} is refused: ${this.desk.words.refusal(found.why)}.`, true);
+    if (found.found === 0) return this.told(`${name} is accepted: ${counted(found.count, "step")}, every field is the manual's (job ${job}, bench's board).`, false);
+    this.told(found.theirs === null ? `${name} ends before step ${found.step}; the job ${job} has more.`
+      : found.ours.after === null ? `${name} goes on with a step ${found.step}; the job ${job} has none.`
+        : `${name} is wrong at step ${found.step}: ${FIELDS[found.field]} is ${shown(found.theirs, found.field)}, right is ${shown(found.ours.after, found.field)}.`, true);
+    at("verdict").append(this.beside(found));
+  }
+
+  told(words, bad) {
+    at("verdict").replaceChildren(made("p", { className: bad ? "bad" : "good", textContent: words }));
+    tell(words, bad);
+  }
+
+  beside({ step, ours, theirs }) {
+    const wrong = (n) => theirs !== null && ours.after !== null && theirs[n] !== ours.after[n];
+    const row = (name, values) => made("tr", {}, made("th", { textContent: name }), ...FIELDS.map((_, n) => made("td", { textContent: shown(values, n), className: name === "before" ? "mono" : wrong(n) ? "mono wrong" : "mono" })));
+    const table = made("table", { id: "beside", "aria-label": `step ${step}, theirs beside ours` }, made("tr", {}, made("th"), ...FIELDS.map((textContent, n) => made("th", { textContent, className: wrong(n) ? "wrong" : "" }))),
+      row("before", ours.from), row("theirs", theirs), row("ours", ours.after));
+    const show = made("button", { id: "show-step", textContent: `Show step ${step} on the desk`, onclick: () => this.show(step) });
+    return made("div", {}, made("p", { className: "mono", textContent: `step ${step}, from 0: ${hex(ours.at)} ${ours.text}${ours.line === undefined ? "" : `, line word ${hex(ours.line)}`}` }), table, show);
+  }
+
+  // The desk before that step, from power-up on.
+  show(step) {
+    const { desk } = this;
+    desk.load(desk.name, desk.text, desk.patch);
+    for (let left = step; left > 0;) {
+      const lines = desk.nextLines(Math.min(left, 4096));
+      desk.library.run(lines), desk.made(lines);
+      left -= lines.length;
+    }
+    desk.mark();
+    this.refresh();
+    tell(`The desk stands before step ${step}: Step makes it.${desk.isBench() ? "" : " The check is of bench's board, and this job has another."}`);
+  }
+}
+
+function shown(values, n) {
+  return values === null ? "--" : n === FIELDS.length - 1 ? String(values[n]) : hex(values[n]);
+}

@@ -1,0 +1,205 @@
+// The part of logic.mjs that runs: stops, steps taken back, the recorder's pictures, traces, files saved and read.
+import assert from "node:assert";
+import fs from "node:fs";
+import { joinedText } from "../src/patching.mjs";
+import { jobOf, textOf } from "../src/job.mjs";
+import { CAUSE, PAGE, STATE, hex, wordAt } from "../src/layout.mjs";
+import { picture } from "../src/picture.mjs";
+import { averageDegrees, gaps, limitOf, nextScan, over } from "../src/recorder.mjs";
+import { Runner } from "../src/running.mjs";
+import { bringBack, savedText } from "../src/saved.mjs";
+import { Stops } from "../src/stops.mjs";
+import { TextError } from "../src/text.mjs";
+import { checkTrace, makeTrace } from "../src/trace.mjs";
+
+export async function more({ given, words, newDesk, snapshot: of }) {
+  let checks = 0;
+  const desk = newDesk(), other = newDesk(), runner = new Runner(desk), quiet = () => {}, snapshot = (one = desk) => of(one);
+  const load = (name, on = desk) => on.load(name, ...given.samples[name]);
+  const same = (what, right, got) => (assert.deepStrictEqual(got, right, what), checks++);
+  const thrown = (work) => {
+    try {
+      work();
+    } catch (why) {
+      if (why instanceof TextError) return why.message;
+      throw why;
+    }
+    return "taken";
+  };
+
+  // A run to the first blank ends as its steps one by one; so does a plain run, with the blanks that its steps met.
+  async function runs() {
+    load("card-pulled.txt"), load("card-pulled.txt", other);
+    const end = await runner.run(1e6, new Stops(), quiet);
+    while (other.step() === 0 && other.cause !== CAUSE.blankOpCode);
+    same("to the blank", [3, "blank", snapshot(other)], [end.steps, end.how, snapshot()]);
+    same("the blank's page", 0xC0, desk.hit);
+    load("card-pulled.txt"), load("card-pulled.txt", other);
+    const plain = await runner.run(18, null, quiet);
+    let blanks = 0;
+    for (let n = 0; n < 18; n++) other.step(), blanks += other.cause === CAUSE.blankOpCode ? 1 : 0;
+    same("a plain run", [18, "all", blanks, { step: 2, address: 0xC000 }], [plain.steps, plain.how, plain.blanks, plain.first]);
+    same("its registers", other.library.state.slice(0, 19), desk.library.state.slice(0, 19));
+  }
+
+  async function stops() {
+    const asked = new Stops();
+    load("card-pulled.txt");
+    asked.set({ causes: [], addresses: [0x90], writes: [] });
+    same("at an address", ["address", 0x90, 3], await runner.run(1e6, asked, quiet).then((end) => [end.how, end.at, end.steps]));
+    load("card-pulled.txt");
+    asked.set({ causes: [], addresses: [], writes: [0x0C] });
+    same("at a write", ["write", 0x0C, 3], await runner.run(1e6, asked, quiet).then((end) => [end.how, end.at, end.steps]));
+    load("halt-switch.txt");
+    asked.set({ causes: ["switch"], addresses: [], writes: [] });
+    same("at the halt option", "switch", (await runner.run(1e6, asked, quiet)).how);
+    load("interrupt-i0.txt");
+    asked.set({ causes: ["interrupt"], addresses: [], writes: [] });
+    same("at an interrupt", ["interrupt", CAUSE.i0], [(await runner.run(1e6, asked, quiet)).how, desk.cause]);
+    load("lock-up.txt");
+    same("at a lock-up", ["lock", 4], [(await runner.run(1e6, new Stops(), quiet)).how, desk.mode]);
+    desk.load("w", "pages 00\n0016 = 0080\n0080 = 0007"); // WFI
+    same("at a wait", ["waits", 1], [(await runner.run(1e6, new Stops(), quiet)).how, desk.mode]);
+  }
+
+  // A write is seen where it leaves what was there: after another write to its page, and where the word is read first.
+  async function writes() {
+    const asked = new Stops(), found = async (body, watch) => {
+      desk.load("w", `pages 00 10\n0012 = START\n0016 = START\n.ORG 0080\nSTART: MOV #0100,SP\n${body}\nDONE: BR DONE`);
+      asked.set({ causes: [], addresses: [desk.labels.get("DONE")], writes: [watch] });
+      const end = await runner.run(1000, asked, quiet);
+      return end.how === "write" ? hex(end.at) : end.how;
+    };
+    same("a clear of a zero", "00F0", await found("CLR @#00F0", 0xF0));
+    same("a word to itself", "1000", await found("MOV @#1000,@#1000", 0x1000));
+    same("a bit set of nothing", "1000", await found("BIS R0,@#1000", 0x1000));
+    same("the second push of zeros", "00FC", await found("CALL SUB\nBR DONE\nSUB: SAVE", 0xFC));
+    same("another word alone", "address", await found("CLR @#1002", 0x1000));
+    same("a read alone", "address", await found("MOV @#1000,R0", 0x1000));
+  }
+
+  // Steps taken back: each state on the way is as it was, across a pulled card, a change by hand, a patch, and a power-up.
+  async function backwards() {
+    load("card-pulled.txt");
+    const seen = [snapshot()], acts = [() => desk.step(), () => desk.step(), () => desk.step(), () => desk.pull(0xC0), () => desk.step(), () => desk.step(),
+      () => desk.poke(0x40, 0x1234), () => desk.protect(0), () => desk.protect(0), () => desk.assemble(".ORG 0040\nNOP"), () => desk.step(), () => desk.setRegister(3, 7),
+      () => desk.setBoard(1, 2, "jumpers"), () => desk.powerUp(), () => desk.step()];
+    for (const act of acts) act(), seen.push(snapshot());
+    while (seen.length > 1) {
+      seen.pop();
+      assert.notStrictEqual(desk.back(), null);
+      same(`back to ${seen.length}`, seen.at(-1), snapshot());
+    }
+    same("nothing before the start", null, desk.back());
+    load("sob.txt");
+    await runner.run(200000, null, quiet);
+    const late = snapshot();
+    for (let n = 0; n < 3; n++) desk.step();
+    for (let n = 0; n < 3; n++) desk.back();
+    same("back to a long run's end", late, snapshot());
+    same("its steps", [200000, 17], [desk.steps, desk.taken]);
+  }
+
+  function recorder() {
+    load("pulled-card.scans");
+    for (let one; (one = nextScan(desk)) !== null;) desk.done(one.words);
+    const report = desk.library.reportOf(4);
+    same("channel 4", [8, 4, 59, 61, 481], [report.readings, report.blanks, report.lowest, report.highest, report.sum]);
+    same("in degrees", "6.01", averageDegrees(report));
+    same("its gap", [[5, 8]], gaps(desk.rows, 4));
+    same("over 5.0", { readings: 8, average: true }, over(report, desk.rows, 4, limitOf("5.0")));
+    same("the average alone", { readings: 3, average: true }, over(report, desk.rows, 4, 60));
+    same("limits", [null, 50, -185, NaN, NaN], ["", "5", "-18.5", "warm", "5.05"].map(limitOf));
+    const drawn = picture(report, desk.rows, 4, 50);
+    same("a dot for each reading", 8, drawn.split("<circle").length - 1);
+    same("a gap for the missing cards", 1, drawn.split('class="gap"').length - 1);
+    same("in words", true, drawn.includes("8 readings; from 5.9 to 6.1 degrees, average 6.01; no card in scan 5 to 8; limit 5.0: 8 readings over it, the average is over it."));
+    load("no-card.scans");
+    while (nextScan(desk) !== null);
+    const never = picture(desk.library.reportOf(15), desk.rows, 15, null);
+    same("no dot, no number where no card ever was", [0, false], [never.split("<circle").length - 1, />-?[0-9]+\.[0-9]</.test(never)]);
+    load("pulled-card.scans");
+    const before = snapshot();
+    desk.done(nextScan(desk).words), desk.back(), desk.back(), desk.back();
+    same("a scan taken back", before, snapshot());
+  }
+
+  function traces() {
+    load("example.txt");
+    const before = snapshot(), good = fs.readFileSync("jobs/example.trace"), wrong = fs.readFileSync("jobs/example-wrong.trace");
+    same("the trace that is made", good.toString("hex"), Buffer.from(makeTrace(desk)).toString("hex"));
+    same("accepted", [0, 0, 3], Object.values((({ why, found, count }) => ({ why, found, count }))(checkTrace(desk, good))));
+    const found = checkTrace(desk, wrong);
+    same("the first wrong step", [1, 1, 8, "8F00", "0F00"], [found.found, found.step, found.field, hex(found.theirs[8]), hex(found.ours.after[8])]);
+    const short = checkTrace(desk, Uint8Array.from([2, 0, ...good.subarray(2, 42)]));
+    same("a step is missing", [2, 2, null], [short.found, short.step, short.theirs]);
+    const long = checkTrace(desk, Uint8Array.from([4, 0, ...good.subarray(2), ...good.subarray(2, 22)]));
+    same("a step too many", [2, 3, null], [long.found, long.step, long.ours.after]);
+    same("refused", 29, checkTrace(desk, good.subarray(0, 9)).why);
+    same("nothing is changed", before, snapshot());
+  }
+
+  // Lunch: what is saved and read again goes on as if there had been none.
+  async function lunch() {
+    load("pulled-card.scans"), load("pulled-card.scans", other);
+    for (const one of [desk, other]) {
+      for (let n = 0; n < 6; n++) one.done(nextScan(one).words);
+      one.step(), one.pull(0x30), one.poke(0x3000, 0xBEEF), one.assemble(".ORG 00A0\nAFTER: BR AFTER");
+    }
+    const stops = new Stops();
+    stops.addresses.add(0x90);
+    const file = savedText(desk, stops, { 4: 50 }, given), fresh = newDesk();
+    load("example.txt", fresh);
+    const kept = bringBack(fresh, file, given);
+    same("stops and limits", { stops: stops.toJSON(), limits: { 4: 50 } }, kept);
+    for (const one of [fresh, other]) {
+      for (let n = 0; n < 3; n++) one.step();
+      while (nextScan(one) !== null);
+    }
+    same("after lunch", snapshot(other), snapshot(fresh));
+    same("and the pictures' readings", other.rows, fresh.rows);
+    const was = snapshot(fresh), lost = (change) => thrown(() => bringBack(fresh, JSON.stringify({ ...JSON.parse(file), ...change }), given));
+    same("another layout", "a saved desk of another layout: format 1, layout 99; this page has format 1, layout " + given.layout, lost({ layout: 99 }));
+    same("another kind", "no saved desk: it does not say that it is one", lost({ kind: "shopping list" }));
+    same("a bad map", `the saved desk is refused: ${words.refusal(3)}`, lost({ map: "9".repeat(256) }));
+    same("a short image", "the saved desk's image can't be read", lost({ image: "00" }));
+    same("no list", "the saved desk's rows can't be read", lost({ rows: [[1, 2]] }));
+    same("a cut file", "no saved desk", thrown(() => bringBack(fresh, file.slice(0, 900), given)).slice(0, 13));
+    same("nothing is changed by those", was, snapshot(fresh));
+  }
+
+  // A job with its patch and its board is one text, and reads to the same job; a job's bytes give a text that reads to them.
+  function texts() {
+    const text = "pages 00\n0012 = 0090 0080 0080 # vectors\n.ORG 0080\nSTART: MOV #0005,R1\nAGAIN: ADD R1,R0\nINC R2\nSOB R1,AGAIN\nDONE: BR DONE\nlines 0000 x17\n";
+    const patch = "ST: .ORG 0014\n.WORD 1234\n.ORG 0082\n.WORD 0009\n.ORG 0088\nNOP", board = [0, 1, 2, 0x2F];
+    const one = joinedText(text, patch, board, desk.library, words), again = jobOf(one, "", desk.library, words), both = jobOf(text, patch, desk.library, words);
+    same("one text", Buffer.from(both.bytes).toString("hex"), Buffer.from(again.bytes).toString("hex"));
+    same("its board", board, again.board);
+    same("its labels", 0x84, again.labels.get("AGAIN"));
+    same("a label given twice", "25: the label DONE is already given in line 8", thrown(() => joinedText(text, "DONE: NOP", [1, 3, 3, 0], desk.library, words)));
+    for (const name of Object.keys(given.samples).filter((one) => !one.startsWith("refused"))) {
+      load(name);
+      const made = textOf(desk.library.image, desk.library.map, desk.lines);
+      const kept = { image: desk.library.image.slice(), map: desk.library.map.slice(), lines: desk.lines };
+      desk.load("again", made);
+      same(`${name} from its bytes`, [true, true, kept.lines], [desk.library.image.every((byte, n) => byte === kept.image[n] || desk.library.map[n >> 8] === PAGE.unfitted),
+        desk.library.map.every((byte, n) => byte === kept.map[n]), desk.lines]);
+      const whole = joinedText(given.samples[name][0], given.samples[name][1], [...jobOf(...given.samples[name], desk.library, words).board], desk.library, words);
+      same(`${name} saved`, Buffer.from(jobOf(...given.samples[name], desk.library, words).bytes).toString("hex"), Buffer.from(jobOf(whole, "", desk.library, words).bytes).toString("hex"));
+    }
+  }
+
+  // A million steps, in slices, and stopped in between.
+  async function million() {
+    load("sob.txt");
+    let slices = 0;
+    const end = await runner.run(1e6, null, () => slices++);
+    same("a million steps", [1e6, "all", true], [end.steps, end.how, slices >= 1]);
+    const asked = runner.run(1e9, null, (done) => { if (done > 0) runner.stop(); });
+    same("stopped", "asked", (await asked).how);
+  }
+
+  await runs(), await stops(), await writes(), await backwards();
+  recorder(), traces(), await lunch(), texts(), await million();
+  return checks;
+}

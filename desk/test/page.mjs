@@ -1,0 +1,306 @@
+// The page in a browser: node desk/test/page.mjs PAGE [PICTURES [BROWSER]]
+// Every control is clicked, filled in or chosen, and what stands on the page then is read. PICTURES is a folder for screenshots.
+import assert from "node:assert";
+import fs from "node:fs";
+import path from "node:path";
+import { Browser } from "./browser.mjs";
+
+const [page, pictures, command] = process.argv.slice(2);
+const browser = new Browser(command), used = new Set();
+let checks = 0;
+process.chdir(new URL("../..", import.meta.url).pathname);
+
+async function reads(id, pattern) {
+  const text = await browser.text(id);
+  assert.match(text, pattern, `${id} is ${JSON.stringify(text.slice(0, 300))}`);
+  checks++;
+}
+
+async function holds(id, value) {
+  assert.strictEqual(await browser.value(id), value, id);
+  checks++;
+}
+
+const note = (selector) => used.add(selector.replace(/^#/, "").split(" ")[0]);
+const click = async (id) => (note(id), browser.click(`#${id}`));
+const fill = async (id, text) => (note(id), browser.fill(`#${id}`, text));
+const choose = async (id, value) => (note(id), browser.choose(id, value));
+const tab = async (name) => click(`to-${name}`);
+const idle = () => browser.until("document.querySelector('#stop').disabled");
+
+async function runs(id) {
+  await click(id);
+  await idle();
+}
+
+async function shot(name, whole) {
+  if (pictures) await browser.picture(path.join(pictures, `${name}.png`), whole);
+}
+
+// Opens a text or bytes as a file.
+async function give(id, name, content) {
+  const file = path.join(browser.folder, name);
+  fs.writeFileSync(file, content);
+  note(id);
+  await browser.run("document.querySelector('#told').textContent = ''");
+  await browser.give(id, file);
+  await browser.until("document.querySelector('#told').textContent !== ''");
+}
+
+async function stepping() {
+  await reads("told", /^card-pulled\.txt is loaded and powered up\.$/);
+  await reads("about", /^1\.0, its module is (NOT )?proved$/);
+  await holds("reg-PC", "0080");
+  for (let n = 0; n < 3; n++) await click("step");
+  await reads("told", /^A blank: nothing is fitted at C000, page C0\. What stands at 0086 was dropped/);
+  await holds("reg-PC", "0090");
+  await reads("log", /MOV @R2,R0: a bus error in an op code: nothing is fitted at C000, page C0/);
+  assert.strictEqual(await browser.run("document.querySelector('#page-C0').className.trim()"), "hit");
+  await shot("step");
+  await click("back");
+  await holds("reg-PC", "0086");
+  await reads("told", /^Back: 2 steps made\.$/);
+  await click("power");
+  await runs("until");
+  await reads("told", /^Step 2, MOV @R2,R0 at 0086 met a blank: nothing is fitted at C000, page C0\.$/);
+  await shot("blank");
+  await fill("count", "15");
+  await runs("run");
+  await reads("told", /^15 steps made; 3 steps met a blank, the first was step 6, at C000\.$/);
+  await reads("left", /^0$/);
+  await fill("count", "many");
+  await click("run");
+  await reads("told", /^'many' is no number of steps/);
+}
+
+async function keys() {
+  await choose("sample", "card-pulled.txt");
+  await browser.run("document.activeElement.blur()");
+  for (const key of ["s", "s", "b"]) await browser.key(key);
+  await holds("reg-PC", "0082");
+  await browser.key("u"), await idle();
+  await reads("told", /met a blank/);
+  await browser.key("p");
+  await reads("told", /^Powered up/);
+  await fill("count", "4");
+  await browser.run("document.activeElement.blur()");
+  await browser.key("r"), await idle();
+  await reads("told", /^4 steps made/);
+  await browser.key("?");
+  assert.strictEqual(await browser.run("document.querySelector('#help').open"), true);
+  await browser.click("#help button.main");
+  await click("keys"), await browser.key("Escape");
+  await browser.key("3");
+  assert.strictEqual(await browser.run("document.querySelector('#tab-stops').hidden"), false);
+}
+
+async function cards() {
+  await choose("sample", "card-pulled.txt"), await tab("cards");
+  await click("page-C0");
+  await reads("told", /^Page C0: fitted\.$/);
+  await choose("click", "protect");
+  await click("page-C0");
+  await reads("told", /^Page C0: fitted, and a write there is a bus error\.$/);
+  await click("page-10");
+  await reads("told", /^Page 10 is not fitted/);
+  await choose("click", "pull"), await click("back");
+  await reads("told", /^Undone: page C0 read-only\.$/);
+  await browser.run("document.querySelector('#page-00').focus()");
+  await browser.key("ArrowDown"), await browser.key("ArrowRight");
+  assert.strictEqual(await browser.run("document.activeElement.id"), "page-11");
+}
+
+async function memory() {
+  await choose("sample", "card-pulled.txt"), await tab("memory");
+  for (let n = 0; n < 3; n++) await click("step");
+  assert.strictEqual(await browser.run("document.querySelector('#word-000C').className"), "changed");
+  await fill("memory-from", "0080"), await click("memory-show");
+  await holds("word-0086", "B280");
+  await fill("word-0086", "0000");
+  await reads("told", /^0086 is 0000 now\.$/);
+  await fill("word-0088", "zz");
+  await reads("told", /^'zz' is not a word/);
+  await click("memory-down"), await holds("memory-from", "0180");
+  await click("memory-up"), await holds("memory-from", "0080");
+  await click("memory-sp"), await holds("memory-from", "0000");
+  await fill("memory-from", "C000"), await click("memory-show");
+  await holds("word-C000", "----");
+  await click("back"), await reads("told", /^Undone: 0086 changed by hand from B280 to 0000\.$/);
+  await fill("reg-R3", "1234"), await reads("told", /^R3 is 1234 now\.$/);
+}
+
+async function stops() {
+  await choose("sample", "card-pulled.txt"), await tab("stops");
+  await fill("stop-address", "0092"), await click("add-address");
+  await reads("stops", /at 0092/);
+  await click("at-blank"), await runs("until");
+  await reads("told", /^Stopped at 0092 after 4 steps\.$/);
+  await click("clear-stops"), await reads("stops", /^$/);
+  await click("power"), await fill("stop-write", "000C"), await click("add-write"), await runs("until");
+  await reads("told", /^Stopped after 3 steps: 000C was written by MOV @R2,R0 at 0086\.$/);
+  await browser.click("#stops button"), await reads("stops", /^$/);
+  await click("at-blank");
+  await choose("sample", "interrupt-i0.txt"), await click("at-interrupt"), await runs("until");
+  await reads("told", /^interrupt I0 was taken in step \d+\.$/);
+  await click("at-interrupt"), await choose("sample", "halt-switch.txt"), await click("at-switch"), await runs("until");
+  await reads("told", /^The halt option was taken/);
+  await click("at-switch");
+  await browser.click("#list .line");
+  assert.match(await browser.text("stops"), /at [0-9A-F]{4}/);
+  await click("clear-stops");
+  await fill("from", "0016"), await click("goto");
+  await reads("list", /^0016/);
+  await click("follow"), await reads("list", /▸/);
+}
+
+async function lines() {
+  await choose("sample", "interrupt-i0.txt");
+  for (const id of ["i0", "i1", "i3", "fail"]) {
+    await click(id);
+    assert.strictEqual(await browser.run(`document.querySelector('#${id}').getAttribute("aria-pressed")`), "true");
+  }
+  await fill("device", "16"), await reads("told", /^'16' is not a device code/);
+  await fill("device", "3"), await click("own"), await click("step");
+  await reads("left", /^[1-9]/);
+  await reads("log", /halt option|interrupt/);
+}
+
+async function texts() {
+  await choose("sample", "card-pulled.txt"), await tab("job");
+  await fill("job-editor textarea", "pages 00\n0016 = 0080\n0080 = zz\n"), await click("load");
+  await reads("told", /^card-pulled\.txt: line 3, column 8: 'zz' is not a hex number, 0 to FFFF\. Nothing was changed\.$/);
+  assert.match(await browser.run("document.querySelector('#job-editor .wrong').textContent"), /^line 3, column 8: 'zz'/);
+  assert.strictEqual(await browser.run("(() => { const a = document.querySelector('#job-editor textarea'); return a.value.slice(a.selectionStart, a.selectionEnd); })()"), "zz");
+  await shot("wrong-line");
+  await holds("reg-PC", "0080");
+  await fill("job-editor textarea", "pages 00\n0016 = START\n.ORG 0080\nSTART: MOV #0003,R1\nLOOP: SOB R1,LOOP\nDONE: BR DONE\n"), await click("load");
+  await reads("list", /LOOP.*SOB R1,01 {2}→ 0084/);
+  await tab("patch");
+  await fill("patch-editor textarea", ".ORG 0084\nSOB R1,AWAY"), await click("assemble");
+  await reads("told", /^The patch: line 2, column 8: 26: no line gives the label AWAY\. Nothing was changed\.$/);
+  await fill("patch-editor textarea", ".ORG 0084\nAGAIN: SOB R1,AGAIN"), await click("assemble");
+  await reads("told", /^1 word of the patch put into the image\.$/);
+  await fill("patch-editor textarea", ".ORG 4000\nNOP"), await click("assemble");
+  await reads("told", /^Nothing is fitted at 4000/);
+  await fill("patch-editor textarea", ".ORG 0080\nMOV #0007,R1"), await click("assemble");
+}
+
+async function boards() {
+  await tab("board");
+  await choose("up", "1"), await reads("told", /^Power-up jumpers set to 1\. Power up to begin with it\.$/);
+  await choose("halt", "2"), await click("microm"), await fill("external", "40");
+  await reads("told", /^'40' is not an External Address Register/);
+  await fill("external", "2F"), await reads("told", /^External Address Register set to 2F/);
+  await reads("status", /PS 06/);
+  await click("save-job");
+  const text = fs.readFileSync(await browser.given("card-pulled.txt"), "utf8");
+  assert.match(text, /microm no\njumpers up 1 halt 2\nexternal 2F\n; the patch\n\.ORG 0000\n\.ORG 0080\nMOV #0007,R1\n$/);
+  assert.match(text, /; under the patch: START: MOV #0003,R1\nSTART:\n/);
+  await give("file", "again.txt", text);
+  await reads("told", /^again\.txt is loaded/);
+  await holds("external", "2F");
+}
+
+async function files() {
+  await click("open");
+  await give("file", "broken.txt", "pages 00\nlines 0004\n");
+  await reads("told", /^broken\.txt: line 2, column 7: refused: 19, .* Nothing was changed\. The desk still has again\.txt\.$/);
+  await give("file", "job.bin", Buffer.from([1, 0, 0, 1, 0, 0x16, 0, 0x80, 0, 0, 0]));
+  await reads("told", /^job\.bin is loaded and powered up\.$/);
+  await give("file", "cut.bin", Buffer.from([1, 0, 0, 1]));
+  await reads("told", /^cut\.bin is refused: 11, /);
+  await give("file", "strange.txt", Buffer.from([0x70, 0xFF, 0x70]));
+  await reads("told", /^strange\.txt is no text: it is not UTF-8\.$/);
+  const big = path.join(browser.folder, "big.bin");
+  fs.closeSync(fs.openSync(big, "w")), fs.truncateSync(big, 100 << 20);
+  const begun = Date.now();
+  await browser.run("document.querySelector('#told').textContent = ''");
+  await browser.give("file", big);
+  await browser.until("document.querySelector('#told').textContent !== ''");
+  await reads("told", /^big\.bin has 104,857,600 bytes, and the desk takes 4,194,304 at most: nothing was read\.$/);
+  assert(Date.now() - begun < 3000, "a file of 100 MB takes seconds");
+}
+
+async function traces() {
+  await choose("sample", "example.txt"), await tab("trace"), await click("check");
+  await give("trace-file", "wrong.trace", fs.readFileSync("jobs/example-wrong.trace"));
+  await reads("told", /^wrong\.trace is wrong at step 1: PS is 8F00, right is 0F00\.$/);
+  await reads("beside", /theirs.*8F00.*ours.*0F00/);
+  await shot("trace");
+  await click("show-step"), await reads("told", /^The desk stands before step 1/);
+  await give("trace-file", "good.trace", fs.readFileSync("jobs/example.trace"));
+  await reads("told", /^good\.trace is accepted: 3 steps, /);
+  await give("trace-file", "cut.trace", Buffer.from([9]));
+  await reads("told", /^cut\.trace is refused: 29, /);
+  await click("make");
+  assert.deepStrictEqual(fs.readFileSync(await browser.given("example.trace")), fs.readFileSync("jobs/example.trace"));
+}
+
+async function recorder() {
+  await choose("sample", "pulled-card.scans");
+  await tab("recorder"), await click("scan"), await reads("told", /^Scan 1: all cards in/);
+  await click("scans-all"), await reads("told", /^11 scans made\. Scan 5: no card in channel 4/);
+  await fill("limit-4", "5.0"), await reads("told", /^The limit is 5\.0 °C\.$/);
+  assert.match(await browser.run("document.querySelector('#channel-4 svg').getAttribute('aria-label')"), /8 readings; from 5\.9 to 6\.1 degrees, average 6\.01; no card in scan 5 to 8; limit 5\.0: 8 readings over it/);
+  await reads("report", /4845\.96\.1481\/86\.015\.0average over the limit; no card in 4 scans/);
+  await fill("limit-all", "warm"), await reads("told", /^'warm' is no limit/);
+  await shot("recorder", true);
+  await fill("limit-all", "14"), await reads("report", /481\/86\.0114\.0readings within it; no card in 4 scans/);
+  await browser.run("window.print = () => { window.printed = true; }"), await click("print");
+  assert.strictEqual(await browser.run("window.printed"), true);
+  await browser.send("Emulation.setEmulatedMedia", { media: "print" });
+  assert.strictEqual(await browser.run("getComputedStyle(document.querySelector('.controls')).display + getComputedStyle(document.querySelector('#report-title')).display"), "noneblock");
+  await shot("print", true);
+  await browser.send("Emulation.setEmulatedMedia", { media: "" });
+}
+
+async function lunch() {
+  await click("step"), await click("lunch");
+  const file = await browser.given("pulled-card.desk.json"), registers = await browser.run("[...document.querySelectorAll('#registers input')].map((e) => e.value).join()");
+  await choose("sample", "example.txt");
+  await give("file", "lunch.json", fs.readFileSync(file));
+  await reads("told", /^lunch\.json: the desk is as it was saved, after 147 steps\.$/);
+  assert.strictEqual(await browser.run("[...document.querySelectorAll('#registers input')].map((e) => e.value).join()"), registers);
+  await reads("report", /481\/86\.0114\.0/);
+  await give("file", "torn.json", fs.readFileSync(file, "utf8").slice(0, 500));
+  await reads("told", /^torn\.json: no saved desk: .* Nothing was changed\.$/);
+}
+
+// A run of a million steps shows how far it is; one without an end can be stopped.
+async function long() {
+  await choose("sample", "sob.txt"), await fill("count", "1,000,000"), await runs("run");
+  await reads("told", /^1,000,000 steps made; no step met a blank\.$/);
+  await fill("count", "900000000"), await click("run");
+  await browser.until("/ steps of 900,000,000/.test(document.querySelector('#told').textContent)");
+  assert.strictEqual(await browser.run("document.querySelector('#progress').hidden"), false);
+  await click("stop"), await idle();
+  await reads("told", /^Stopped after [0-9,]+ steps; no step met a blank\.$/);
+  await click("until"), await browser.until("!document.querySelector('#stop').disabled");
+  await browser.key("Escape"), await idle();
+  await reads("told", /^Stopped after/);
+}
+
+// Nothing is wider than the window; nothing asked of a network; every control has a name and was used.
+async function wholePage(width) {
+  assert.strictEqual(await browser.run("document.documentElement.scrollWidth <= innerWidth"), true, `wider than ${width}`);
+  const nameless = await browser.run(`[...document.querySelectorAll("button, input, select, textarea")].filter((e) => !(e.textContent.trim() || e.getAttribute("aria-label") || e.labels?.length)).map((e) => e.id || e.outerHTML)`);
+  assert.deepStrictEqual(nameless, [], "controls without a name");
+  checks += 2;
+}
+
+try {
+  await browser.open(page, 1280, 860);
+  for (const part of [stepping, keys, cards, memory, stops, lines, texts, boards, files, traces, recorder, lunch, long]) await part().catch((why) => { throw new Error(`${part.name}: ${why.message}`, { cause: why }); });
+  const all = await browser.run(`[...document.querySelectorAll("button[id], input[id], select[id]")].map((e) => e.id)`);
+  assert.deepStrictEqual(all.filter((id) => !used.has(id) && !/^(page|word|limit|reg)-|^at-lock$/.test(id)), [], "controls that were not used");
+  for (const [width, height, mobile, name] of [[1024, 700, false, "small"], [390, 844, true, "phone"]]) {
+    await browser.open(page, width, height, mobile);
+    for (const one of await browser.run(`[...document.querySelectorAll("[role=tab]")].map((e) => e.id.slice(3))`)) await tab(one), await wholePage(width);
+    await tab("cards"), await runs("until"), await shot(name, mobile);
+  }
+  assert.deepStrictEqual(browser.errors, []);
+  assert.deepStrictEqual(browser.asked.filter((url) => !/^(file|blob|data|about):/.test(url)), []);
+  console.log(`the page: ${checks} checks and ${used.size} controls, all right`);
+} finally {
+  await browser.close();
+}
