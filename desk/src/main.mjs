@@ -132,7 +132,7 @@ function step() {
   processor.from = null;
   if (desk.cause === CAUSE.lock) tell("The processor is locked up: only Power up helps.", true);
   else if (desk.told !== null) tell(`A blank: ${words.blank(desk.told, library.map)}. What stands at ${hex(was)} was dropped, and PC is where location 0012 points.`, true);
-  else tell(desk.cause === CAUSE.opCode ? "" : `${words.cause(desk.cause)}.`);
+  else tell(`Step ${grouped(desk.steps - 1)} at ${hex(was)}: ${desk.log.entries.at(-1).words}. ${desk.log.entries.at(-1).changes}`);
   show();
 }
 
@@ -198,6 +198,7 @@ function runCount() {
 // ---- tabs, keys, files dropped
 
 function openTab(name) {
+  document.body.dataset.open = name;
   for (const section of document.querySelectorAll("[data-tab]")) section.hidden = section.id !== `tab-${name}`;
   for (const tab of document.querySelectorAll("[role=tab]")) {
     const on = tab.id === `to-${name}`;
@@ -267,6 +268,7 @@ function start() {
   const first = FIRST in GIVEN.samples ? FIRST : Object.keys(GIVEN.samples)[0];
   at("sample").value = first;
   sample(first);
+  tell(`${at("told").textContent} Step goes on step by step, Run to a stop to the first blank. Open… takes your own job; so does dropping its file here.`);
 }
 
 start();

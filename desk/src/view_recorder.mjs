@@ -56,16 +56,16 @@ export class RecorderView {
     return this.desk.scans.length === 0 ? "The job has no scans: a line of its text, scan 205 -- .., is one." : "The job has no further scan.";
   }
 
-  // All that are left, and what was bad among them.
+  // All that are left; then which channels had no card, and how many scans were refused.
   all() {
-    const { desk } = this, first = desk.scansMade + 1, bad = [];
+    const { desk } = this, first = desk.scansMade + 1, rows = desk.rows.length;
     if (desk.scansMade === desk.scans.length) return tell(this.none());
-    for (let told; (told = nextScan(desk)) !== null;) {
-      desk.log.add(desk.steps, null, told.words, told.bad);
-      if (told.bad) bad.push(told.words);
-    }
+    for (let told; (told = nextScan(desk)) !== null;) desk.log.add(desk.steps, null, told.words, told.bad);
     desk.done(`scans ${first} to ${desk.scansMade} made`);
-    tell(`${counted(desk.scansMade - first + 1, "scan")} made. ${bad.slice(0, 3).join(" ")}${bad.length > 3 ? ` And ${bad.length - 3} more with a missing card or a refusal.` : ""}`, bad.length > 0);
+    const asked = desk.scansMade - first + 1, refused = asked - (desk.rows.length - rows);
+    const missing = reports(desk.library).flatMap((report, channel) => (report.blanks > 0 ? [`channel ${channel} in ${counted(report.blanks, "scan")}`] : []));
+    const parts = [refused > 0 ? `${counted(refused, "scan")} refused: What happened tells why.` : "", missing.length > 0 ? `No card: ${missing.join(", ")}.` : "Every channel had its card in every scan."];
+    tell(`${counted(asked - refused, "scan")} made. ${parts.filter((part) => part !== "").join(" ")}`, missing.length > 0 || refused > 0);
     this.refresh();
   }
 
@@ -81,10 +81,11 @@ export class RecorderView {
   }
 
   showChannel(report, channel) {
-    const { drawn, caption, limit } = this.figures[channel], set = this.limits[channel] ?? null;
+    const { drawn, caption, limit, element } = this.figures[channel], set = this.limits[channel] ?? null;
     drawn.innerHTML = picture(report, this.desk.rows, channel, set);
     caption.textContent = report.readings === 0 ? (report.blanks === 0 ? "no scan yet" : "no reading") : `${degrees(report.lowest)} to ${degrees(report.highest)} °C, average ${averageDegrees(report)}${report.blanks > 0 ? `, ${counted(report.blanks, "scan")} without card` : ""}`;
     caption.className = set !== null && over(report, this.desk.rows, channel, set).average ? "over" : "";
+    element.className = caption.className;
     if (document.activeElement !== limit) limit.value = set === null ? "" : degrees(set);
   }
 

@@ -79,7 +79,7 @@ export class Browser {
   async click(selector) {
     const place = await this.run(`(() => { const e = document.querySelector(${JSON.stringify(selector)}); if (!e) return null; e.scrollIntoView({ block: "center" });
       const r = e.getBoundingClientRect(), x = r.x + r.width / 2, y = r.y + r.height / 2, top = document.elementFromPoint(x, y);
-      return { x, y, top: top === e || e.contains(top) || top?.contains(e) }; })()`);
+      return { x, y, top: r.width > 0 && (top === e || e.contains(top) || e.labels?.[0]?.contains(top)) }; })()`);
     if (place === null || !place.top) throw new Error(`${selector} can't be clicked: ${place === null ? "it is not there" : "something else is on top"}`);
     for (const type of ["mousePressed", "mouseReleased"]) await this.send("Input.dispatchMouseEvent", { type, x: place.x, y: place.y, button: "left", clickCount: 1 });
   }

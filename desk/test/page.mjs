@@ -48,7 +48,7 @@ async function give(id, name, content) {
 }
 
 async function stepping() {
-  await reads("told", /^card-pulled\.txt is loaded and powered up\.$/);
+  await reads("told", /^card-pulled\.txt is loaded and powered up\. Step goes on/);
   await reads("about", /^1\.0, its module is (NOT )?proved$/);
   await holds("reg-PC", "0080");
   for (let n = 0; n < 3; n++) await click("step");
@@ -174,7 +174,7 @@ async function texts() {
   await shot("wrong-line");
   await holds("reg-PC", "0080");
   await fill("job-editor textarea", "pages 00\n0016 = START\n.ORG 0080\nSTART: MOV #0003,R1\nLOOP: SOB R1,LOOP\nDONE: BR DONE\n"), await click("load");
-  await reads("list", /LOOP.*SOB R1,01 {2}→ 0084/);
+  await reads("list", /LOOP.*SOB R1,01 {2}→ 0084 LOOP/);
   await tab("patch");
   await fill("patch-editor textarea", ".ORG 0084\nSOB R1,AWAY"), await click("assemble");
   await reads("told", /^The patch: line 2, column 8: 26: no line gives the label AWAY\. Nothing was changed\.$/);
@@ -239,7 +239,7 @@ async function traces() {
 async function recorder() {
   await choose("sample", "pulled-card.scans");
   await tab("recorder"), await click("scan"), await reads("told", /^Scan 1: all cards in/);
-  await click("scans-all"), await reads("told", /^11 scans made\. Scan 5: no card in channel 4/);
+  await click("scans-all"), await reads("told", /^11 scans made\. No card: channel 4 in 4 scans\.$/);
   await fill("limit-4", "5.0"), await reads("told", /^The limit is 5\.0 °C\.$/);
   assert.match(await browser.run("document.querySelector('#channel-4 svg').getAttribute('aria-label')"), /8 readings; from 5\.9 to 6\.1 degrees, average 6\.01; no card in scan 5 to 8; limit 5\.0: 8 readings over it/);
   await reads("report", /4845\.96\.1481\/86\.015\.0average over the limit; no card in 4 scans/);
