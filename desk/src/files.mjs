@@ -1,4 +1,5 @@
 // Files that are opened or dropped: looked at in size before they are read, and told apart.
+import { linesIn } from "./text.mjs";
 
 const MOST_TEXT = 4 << 20, MOST_BYTES = 1310702;
 
@@ -15,7 +16,8 @@ export async function readFile(file, isTrace) {
   try {
     text = new TextDecoder(wide ?? "utf-8", { fatal: true }).decode(bytes);
   } catch {
-    return { wrong: `${name} is no text: it is not UTF-8.` };
+    const before = linesIn(new TextDecoder(wide ?? "utf-8").decode(bytes).split("\uFFFD")[0]);
+    return { wrong: `${name}, line ${before.length}, column ${before.at(-1).length + 1}: no text: a byte is not ${wide === null ? "UTF-8" : "UTF-16"}.` };
   }
   return { kind: /^\s*\{/.test(text) ? "saved" : "job", name, text };
 }

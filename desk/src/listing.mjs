@@ -7,7 +7,7 @@ const BRANCH = /^(B[A-Z]{1,3} [0-9A-F]{2}|SOB (R[0-5]|SP|PC),[0-9A-F]{2})$/;
 // Lines from an address on, or around PC where it is null: those before PC begin at an address where an op code is known to begin,
 // and end before PC, so that PC is always a line.
 export function rowsAround(desk, from, count) {
-  const here = even(desk.pc), rows = [], before = Math.floor(count / 3);
+  const here = even(desk.pc), rows = [], before = Math.floor(count * 2 / 5);
   if (from === null) {
     const start = knownBefore(desk, here);
     if (start !== null) for (let at = start; at !== null;) at = add(desk, rows, at, here - 2);

@@ -10,11 +10,12 @@ import { ProcessorView } from "./view_processor.mjs";
 import { RecorderView } from "./view_recorder.mjs";
 import { TraceView } from "./view_trace.mjs";
 import { Words, counted, grouped } from "./words.mjs";
-import { at, download, made, tell } from "./elements.mjs";
+import { at, download, tell } from "./elements.mjs";
 import { bringBack, savedText } from "./saved.mjs";
 import { CAUSE, MODE, hex } from "./layout.mjs";
 import { joinedText } from "./patching.mjs";
 import { readFile } from "./files.mjs";
+import { makeTabs, openTab } from "./tabs.mjs";
 import { textOf } from "./job.mjs";
 
 const GIVEN = globalThis.GIVEN, MOST_TO_A_STOP = 1e9, MOST_STEPS = 1e9, FIRST = "card-pulled.txt";
@@ -25,7 +26,7 @@ const about = `Hitchbriar ${GIVEN.version}, ${GIVEN.proved ? "its module is prov
 const job = new Editor(at("job-editor"), "text of the job", () => load());
 const patch = new Editor(at("patch-editor"), "text of the patch", () => assemble(), ".ORG 0080\nLOOP: SOB R0,LOOP");
 const processor = new ProcessorView(desk, stops, show), board = new BoardView(desk, stops, show);
-const recorder = new RecorderView(desk, about, show), trace = new TraceView(desk, show);
+const recorder = new RecorderView(desk, about, show, repeat), trace = new TraceView(desk, show);
 
 function show() {
   processor.show(), board.show(), recorder.show();
@@ -91,7 +92,7 @@ async function opened(file, isTrace = false) {
 // A job's bytes are laid out by the library, beside the desk, and shown as text.
 function textOfBytes({ name, bytes }) {
   const kept = desk.kept(), { why, lines } = bytes.length > library.job.length ? { why: 20 } : library.readJob(bytes);
-  if (why !== 0) return tell(`${name} is refused: ${words.refusal(why)}. Nothing was changed.`, true), null;
+  if (why !== 0) return tell(`${name} is no job: refused, ${words.refusal(why)}. Nothing was changed. A trace is opened on the tab Trace.`, true), null;
   const text = textOf(library.image, library.map, lines);
   desk.bring(kept);
   return text;
@@ -150,6 +151,12 @@ function busy(on) {
   at("progress").hidden = !on;
 }
 
+async function repeat(work, progress) {
+  busy(true);
+  await runner.repeat(work, progress);
+  busy(false);
+}
+
 async function run(most, asked) {
   const from = desk.steps, place = desk.pc;
   busy(true);
@@ -195,31 +202,7 @@ function runCount() {
   return run(Number(text), null);
 }
 
-// ---- tabs, keys, files dropped
-
-function openTab(name) {
-  document.body.dataset.open = name;
-  for (const section of document.querySelectorAll("[data-tab]")) section.hidden = section.id !== `tab-${name}`;
-  for (const tab of document.querySelectorAll("[role=tab]")) {
-    const on = tab.id === `to-${name}`;
-    tab.setAttribute("aria-selected", String(on)), tab.tabIndex = on ? 0 : -1;
-  }
-}
-
-function makeTabs() {
-  const sections = [...document.querySelectorAll("[data-tab]")], names = sections.map((section) => section.id.slice(4));
-  document.querySelector(".tabs").append(...sections.map((section, n) => {
-    section.setAttribute("role", "tabpanel"), section.setAttribute("aria-labelledby", `to-${names[n]}`);
-    const tab = made("button", { id: `to-${names[n]}`, role: "tab", "aria-controls": section.id, textContent: section.dataset.tab, onclick: () => openTab(names[n]) });
-    tab.onkeydown = (event) => {
-      const move = { ArrowRight: 1, ArrowLeft: -1 }[event.key];
-      if (move) openTab(names[(n + move + names.length) % names.length]), at(`to-${names[(n + move + names.length) % names.length]}`).focus();
-    };
-    return tab;
-  }));
-  openTab("cards");
-  return names;
-}
+// ---- keys, files dropped
 
 function makeKeys(tabs) {
   const keys = { s: () => step(), b: () => stepBack(), r: () => runCount(), u: () => run(MOST_TO_A_STOP, stops), p: () => at("power").click(), "?": () => at("help").showModal() };

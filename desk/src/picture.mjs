@@ -12,9 +12,11 @@ export function picture(report, rows, channel, limit) {
   const x = (n) => LEFT + wide * (n + 0.5), y = (value) => TOP + (HEIGHT - TOP - BOTTOM) * (high - value) / (high - low);
   const parts = [frame(rows.length), ...gaps(rows, channel).map((gap) => gapAt(gap, wide))];
   if (limit !== null) parts.push(`<path class="limit" d="M${LEFT} ${y(limit).toFixed(1)}H${WIDTH - RIGHT}"/>`);
+  const dots = { reading: "", over: "" };
   rows.forEach((row, n) => {
-    if (row[channel] !== null) parts.push(`<circle class="${limit !== null && row[channel] > limit ? "over" : "reading"}" cx="${x(n).toFixed(1)}" cy="${y(row[channel]).toFixed(1)}" r="${Math.max(1, Math.min(3, wide / 2)).toFixed(1)}"/>`);
+    if (row[channel] !== null) dots[limit !== null && row[channel] > limit ? "over" : "reading"] += `M${x(n).toFixed(1)} ${y(row[channel]).toFixed(1)}h.01`;
   });
+  for (const [kind, path] of Object.entries(dots)) if (path !== "") parts.push(`<path class="${kind}" stroke-width="${Math.max(2, Math.min(6, wide)).toFixed(1)}" d="${path}"/>`);
   parts.push(...scale([...(report.readings > 0 ? [report.highest, report.lowest] : []), ...(limit === null ? [] : [limit])], limit, y));
   return `<svg class="channel" viewBox="0 0 ${WIDTH} ${HEIGHT}" role="img" aria-label="${inWords(report, rows, channel, limit)}">${parts.join("")}</svg>`;
 }

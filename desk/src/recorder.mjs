@@ -5,11 +5,11 @@ import { counted } from "./words.mjs";
 // Makes the job's next scan. Its own line words run before the first. Answers what is told, and whether it is bad; null without one.
 export function nextScan(desk) {
   if (desk.scansMade === desk.scans.length) return null;
-  const number = desk.scansMade + 1, { channels, lines } = desk.scans[desk.scansMade], { library } = desk;
+  const number = desk.scansMade + 1, { channels, lines, line } = desk.scans[desk.scansMade], { library } = desk;
   if (desk.scansMade === 0) desk.runOwn();
   const why = library.scan(lines, channels);
   desk.scansMade = number;
-  if (why !== 0) return { words: `Scan ${number} is refused and counts nothing: ${desk.words.refusal(why)}.`, bad: true };
+  if (why !== 0) return { words: `Scan ${number} is refused and counts nothing: ${desk.words.refusal(why)} (line ${line} of the job).`, bad: true };
   desk.rows.push(channels);
   desk.steps += lines.length;
   const missing = channels.flatMap((value, n) => (value === null ? [n] : [])), blanks = wordAt(library.tally, TALLY.blanks);

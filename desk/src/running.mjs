@@ -40,6 +40,21 @@ export class Runner {
     return end;
   }
 
+  // Does work again and again until it answers that there is none left, or until it is to stop.
+  async repeat(work, progress) {
+    this.running = true, this.asked = false;
+    try {
+      for (let left = true; left && !this.asked;) {
+        const until = performance.now() + SLICE;
+        while (left && performance.now() < until) left = work();
+        progress();
+        if (left) await pause();
+      }
+    } finally {
+      this.running = false;
+    }
+  }
+
   some(most, stops, end) {
     if (end.steps >= most) end.how = "all";
     else if (stops === null) this.plain(most, end);

@@ -78,7 +78,7 @@ export class ProcessorView {
     const { desk, stops } = this, now = row.address === even(desk.pc), stop = stops.addresses.has(row.address), way = wayOf(desk, row);
     const part = (className, textContent) => made("span", { className, textContent });
     const words = row.text === "----" ? "---- nothing is fitted" : row.text;
-    const line = made("button", { className: `line${now ? " now" : ""}${row.text === "----" ? " none" : ""}`, "data-address": hex(row.address), role: "listitem",
+    const line = made("button", { className: `line${now ? " now" : ""}${row.text === "----" ? " none" : ""}`, "data-address": hex(row.address), "aria-pressed": String(stop),
       "aria-label": `${now ? "PC, " : ""}${stop ? "stop, " : ""}${hex(row.address)} ${row.label} ${words} ${way?.words ?? ""}` },
     part("mark", `${now ? "▸" : ""}${stop ? "●" : ""}`), part("label", row.label), part("", hex(row.address)), part("", row.words.join(" ")),
     made("span", {}, words, part("way", way === null ? "" : `  ${way.words}`)));

@@ -8,8 +8,9 @@ import { counted, grouped } from "./words.mjs";
 const HEADS = ["channel", "readings", "blanks", "lowest", "highest", "average, tenths", "average, °C", "limit", ""];
 
 export class RecorderView {
-  constructor(desk, about, refresh) {
-    this.desk = desk, this.about = about, this.refresh = refresh;
+  // `repeat` does work again and again without stopping the page.
+  constructor(desk, about, refresh, repeat) {
+    this.desk = desk, this.about = about, this.refresh = refresh, this.repeat = repeat;
     this.limits = {}; // by channel, in tenths
     this.figures = Array.from({ length: CHANNELS }, (_, channel) => this.figure(channel));
     at("channels").append(...this.figures.map((one) => one.element));
@@ -56,11 +57,17 @@ export class RecorderView {
     return this.desk.scans.length === 0 ? "The job has no scans: a line of its text, scan 205 -- .., is one." : "The job has no further scan.";
   }
 
+  // Tells a scan in the log; answers whether one is left.
+  logged(told) {
+    if (told !== null) this.desk.log.add(this.desk.steps, null, told.words, told.bad);
+    return told !== null;
+  }
+
   // All that are left; then which channels had no card, and how many scans were refused.
-  all() {
+  async all() {
     const { desk } = this, first = desk.scansMade + 1, rows = desk.rows.length;
     if (desk.scansMade === desk.scans.length) return tell(this.none());
-    for (let told; (told = nextScan(desk)) !== null;) desk.log.add(desk.steps, null, told.words, told.bad);
+    await this.repeat(() => this.logged(nextScan(desk)), () => tell(`${grouped(desk.scansMade)} of ${counted(desk.scans.length, "scan")} …`));
     desk.done(`scans ${first} to ${desk.scansMade} made`);
     const asked = desk.scansMade - first + 1, refused = asked - (desk.rows.length - rows);
     const missing = reports(desk.library).flatMap((report, channel) => (report.blanks > 0 ? [`channel ${channel} in ${counted(report.blanks, "scan")}`] : []));

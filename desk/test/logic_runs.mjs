@@ -111,13 +111,13 @@ export async function more({ given, words, newDesk, snapshot: of }) {
     same("the average alone", { readings: 3, average: true }, over(report, desk.rows, 4, 60));
     same("limits", [null, 50, -185, NaN, NaN], ["", "5", "-18.5", "warm", "5.05"].map(limitOf));
     const drawn = picture(report, desk.rows, 4, 50);
-    same("a dot for each reading", 8, drawn.split("<circle").length - 1);
+    same("a dot for each reading", 8, drawn.split("h.01").length - 1);
     same("a gap for the missing cards", 1, drawn.split('class="gap"').length - 1);
     same("in words", true, drawn.includes("8 readings; from 5.9 to 6.1 degrees, average 6.01; no card in scan 5 to 8; limit 5.0: 8 readings over it, the average is over it."));
     load("no-card.scans");
     while (nextScan(desk) !== null);
     const never = picture(desk.library.reportOf(15), desk.rows, 15, null);
-    same("no dot, no number where no card ever was", [0, false], [never.split("<circle").length - 1, />-?[0-9]+\.[0-9]</.test(never)]);
+    same("no dot, no number where no card ever was", [0, false], [never.split("h.01").length - 1, />-?[0-9]+\.[0-9]</.test(never)]);
     load("pulled-card.scans");
     const before = snapshot();
     desk.done(nextScan(desk).words), desk.back(), desk.back(), desk.back();

@@ -4,6 +4,7 @@ import assert from "node:assert";
 import fs from "node:fs";
 import path from "node:path";
 import { Browser } from "./browser.mjs";
+import { fileParts } from "./page_files.mjs";
 
 const [page, pictures, command] = process.argv.slice(2);
 const browser = new Browser(command), used = new Set();
@@ -49,7 +50,7 @@ async function give(id, name, content) {
 
 async function stepping() {
   await reads("told", /^card-pulled\.txt is loaded and powered up\. Step goes on/);
-  await reads("about", /^1\.0, its module is (NOT )?proved$/);
+  await reads("about", new RegExp(`^${fs.readFileSync("VERSION", "utf8").trim()}, its module is (NOT )?proved$`));
   await holds("reg-PC", "0080");
   for (let n = 0; n < 3; n++) await click("step");
   await reads("told", /^A blank: nothing is fitted at C000, page C0\. What stands at 0086 was dropped/);
@@ -165,107 +166,6 @@ async function lines() {
   await reads("log", /halt option|interrupt/);
 }
 
-async function texts() {
-  await choose("sample", "card-pulled.txt"), await tab("job");
-  await fill("job-editor textarea", "pages 00\n0016 = 0080\n0080 = zz\n"), await click("load");
-  await reads("told", /^card-pulled\.txt: line 3, column 8: 'zz' is not a hex number, 0 to FFFF\. Nothing was changed\.$/);
-  assert.match(await browser.run("document.querySelector('#job-editor .wrong').textContent"), /^line 3, column 8: 'zz'/);
-  assert.strictEqual(await browser.run("(() => { const a = document.querySelector('#job-editor textarea'); return a.value.slice(a.selectionStart, a.selectionEnd); })()"), "zz");
-  await shot("wrong-line");
-  await holds("reg-PC", "0080");
-  await fill("job-editor textarea", "pages 00\n0016 = START\n.ORG 0080\nSTART: MOV #0003,R1\nLOOP: SOB R1,LOOP\nDONE: BR DONE\n"), await click("load");
-  await reads("list", /LOOP.*SOB R1,01 {2}→ 0084 LOOP/);
-  await tab("patch");
-  await fill("patch-editor textarea", ".ORG 0084\nSOB R1,AWAY"), await click("assemble");
-  await reads("told", /^The patch: line 2, column 8: 26: no line gives the label AWAY\. Nothing was changed\.$/);
-  await fill("patch-editor textarea", ".ORG 0084\nAGAIN: SOB R1,AGAIN"), await click("assemble");
-  await reads("told", /^1 word of the patch put into the image\.$/);
-  await fill("patch-editor textarea", ".ORG 4000\nNOP"), await click("assemble");
-  await reads("told", /^Nothing is fitted at 4000/);
-  await fill("patch-editor textarea", ".ORG 0080\nMOV #0007,R1"), await click("assemble");
-}
-
-async function boards() {
-  await tab("board");
-  await choose("up", "1"), await reads("told", /^Power-up jumpers set to 1\. Power up to begin with it\.$/);
-  await choose("halt", "2"), await click("microm"), await fill("external", "40");
-  await reads("told", /^'40' is not an External Address Register/);
-  await fill("external", "2F"), await reads("told", /^External Address Register set to 2F/);
-  await reads("status", /PS 06/);
-  await click("save-job");
-  const text = fs.readFileSync(await browser.given("card-pulled.txt"), "utf8");
-  assert.match(text, /microm no\njumpers up 1 halt 2\nexternal 2F\n; the patch\n\.ORG 0000\n\.ORG 0080\nMOV #0007,R1\n$/);
-  assert.match(text, /; under the patch: START: MOV #0003,R1\nSTART:\n/);
-  await give("file", "again.txt", text);
-  await reads("told", /^again\.txt is loaded/);
-  await holds("external", "2F");
-}
-
-async function files() {
-  await click("open");
-  await give("file", "broken.txt", "pages 00\nlines 0004\n");
-  await reads("told", /^broken\.txt: line 2, column 7: refused: 19, .* Nothing was changed\. The desk still has again\.txt\.$/);
-  await give("file", "job.bin", Buffer.from([1, 0, 0, 1, 0, 0x16, 0, 0x80, 0, 0, 0]));
-  await reads("told", /^job\.bin is loaded and powered up\.$/);
-  await give("file", "cut.bin", Buffer.from([1, 0, 0, 1]));
-  await reads("told", /^cut\.bin is refused: 11, /);
-  await give("file", "strange.txt", Buffer.from([0x70, 0xFF, 0x70]));
-  await reads("told", /^strange\.txt is no text: it is not UTF-8\.$/);
-  const big = path.join(browser.folder, "big.bin");
-  fs.closeSync(fs.openSync(big, "w")), fs.truncateSync(big, 100 << 20);
-  const begun = Date.now();
-  await browser.run("document.querySelector('#told').textContent = ''");
-  await browser.give("file", big);
-  await browser.until("document.querySelector('#told').textContent !== ''");
-  await reads("told", /^big\.bin has 104,857,600 bytes, and the desk takes 4,194,304 at most: nothing was read\.$/);
-  assert(Date.now() - begun < 3000, "a file of 100 MB takes seconds");
-}
-
-async function traces() {
-  await choose("sample", "example.txt"), await tab("trace"), await click("check");
-  await give("trace-file", "wrong.trace", fs.readFileSync("jobs/example-wrong.trace"));
-  await reads("told", /^wrong\.trace is wrong at step 1: PS is 8F00, right is 0F00\.$/);
-  await reads("beside", /theirs.*8F00.*ours.*0F00/);
-  await shot("trace");
-  await click("show-step"), await reads("told", /^The desk stands before step 1/);
-  await give("trace-file", "good.trace", fs.readFileSync("jobs/example.trace"));
-  await reads("told", /^good\.trace is accepted: 3 steps, /);
-  await give("trace-file", "cut.trace", Buffer.from([9]));
-  await reads("told", /^cut\.trace is refused: 29, /);
-  await click("make");
-  assert.deepStrictEqual(fs.readFileSync(await browser.given("example.trace")), fs.readFileSync("jobs/example.trace"));
-}
-
-async function recorder() {
-  await choose("sample", "pulled-card.scans");
-  await tab("recorder"), await click("scan"), await reads("told", /^Scan 1: all cards in/);
-  await click("scans-all"), await reads("told", /^11 scans made\. No card: channel 4 in 4 scans\.$/);
-  await fill("limit-4", "5.0"), await reads("told", /^The limit is 5\.0 °C\.$/);
-  assert.match(await browser.run("document.querySelector('#channel-4 svg').getAttribute('aria-label')"), /8 readings; from 5\.9 to 6\.1 degrees, average 6\.01; no card in scan 5 to 8; limit 5\.0: 8 readings over it/);
-  await reads("report", /4845\.96\.1481\/86\.015\.0average over the limit; no card in 4 scans/);
-  await fill("limit-all", "warm"), await reads("told", /^'warm' is no limit/);
-  await shot("recorder", true);
-  await fill("limit-all", "14"), await reads("report", /481\/86\.0114\.0readings within it; no card in 4 scans/);
-  await browser.run("window.print = () => { window.printed = true; }"), await click("print");
-  assert.strictEqual(await browser.run("window.printed"), true);
-  await browser.send("Emulation.setEmulatedMedia", { media: "print" });
-  assert.strictEqual(await browser.run("getComputedStyle(document.querySelector('.controls')).display + getComputedStyle(document.querySelector('#report-title')).display"), "noneblock");
-  await shot("print", true);
-  await browser.send("Emulation.setEmulatedMedia", { media: "" });
-}
-
-async function lunch() {
-  await click("step"), await click("lunch");
-  const file = await browser.given("pulled-card.desk.json"), registers = await browser.run("[...document.querySelectorAll('#registers input')].map((e) => e.value).join()");
-  await choose("sample", "example.txt");
-  await give("file", "lunch.json", fs.readFileSync(file));
-  await reads("told", /^lunch\.json: the desk is as it was saved, after 147 steps\.$/);
-  assert.strictEqual(await browser.run("[...document.querySelectorAll('#registers input')].map((e) => e.value).join()"), registers);
-  await reads("report", /481\/86\.0114\.0/);
-  await give("file", "torn.json", fs.readFileSync(file, "utf8").slice(0, 500));
-  await reads("told", /^torn\.json: no saved desk: .* Nothing was changed\.$/);
-}
-
 // A run of a million steps shows how far it is; one without an end can be stopped.
 async function long() {
   await choose("sample", "sob.txt"), await fill("count", "1,000,000"), await runs("run");
@@ -290,7 +190,9 @@ async function wholePage(width) {
 
 try {
   await browser.open(page, 1280, 860);
-  for (const part of [stepping, keys, cards, memory, stops, lines, texts, boards, files, traces, recorder, lunch, long]) await part().catch((why) => { throw new Error(`${part.name}: ${why.message}`, { cause: why }); });
+  const tools = { browser, reads, holds, click, fill, choose, tab, idle, shot, give };
+  for (const part of [stepping, keys, cards, memory, stops, lines, ...fileParts(tools), long])
+    await part().catch((why) => { throw new Error(`${part.name}: ${why.message}`, { cause: why }); });
   const all = await browser.run(`[...document.querySelectorAll("button[id], input[id], select[id]")].map((e) => e.id)`);
   assert.deepStrictEqual(all.filter((id) => !used.has(id) && !/^(page|word|limit|reg)-|^at-lock$/.test(id)), [], "controls that were not used");
   for (const [width, height, mobile, name] of [[1024, 700, false, "small"], [390, 844, true, "phone"]]) {

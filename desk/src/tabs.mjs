@@ -1,0 +1,27 @@
+// The tabs: one section at a time.
+import { at, made } from "./elements.mjs";
+
+export function openTab(name) {
+  document.body.dataset.open = name;
+  for (const section of document.querySelectorAll("[data-tab]")) section.hidden = section.id !== `tab-${name}`;
+  for (const tab of document.querySelectorAll("[role=tab]")) {
+    const on = tab.id === `to-${name}`;
+    tab.setAttribute("aria-selected", String(on)), tab.tabIndex = on ? 0 : -1;
+  }
+}
+
+// Makes a tab of each section that has one, and answers their names.
+export function makeTabs() {
+  const sections = [...document.querySelectorAll("[data-tab]")], names = sections.map((section) => section.id.slice(4));
+  document.querySelector(".tabs").append(...sections.map((section, n) => {
+    section.setAttribute("role", "tabpanel"), section.setAttribute("aria-labelledby", `to-${names[n]}`);
+    const tab = made("button", { id: `to-${names[n]}`, role: "tab", "aria-controls": section.id, textContent: section.dataset.tab, onclick: () => openTab(names[n]) });
+    tab.onkeydown = (event) => {
+      const move = { ArrowRight: 1, ArrowLeft: -1 }[event.key];
+      if (move) openTab(names[(n + move + names.length) % names.length]), at(`to-${names[(n + move + names.length) % names.length]}`).focus();
+    };
+    return tab;
+  }));
+  openTab("cards");
+  return names;
+}
