@@ -67,7 +67,7 @@ export function patchOf(text, library, words) {
   }
 }
 
-function wholeBytes(sections, job) {
+export function wholeBytes(sections, job) {
   let bytes = bytesOf(sections).concat(job.rest.map((one) => one.value));
   for (const cut of job.cuts) {
     if (cut.value > bytes.length) throw new TextError(`a cut past the end: ${bytes.length} bytes are left`, cut.place);
