@@ -90,7 +90,7 @@ export class RecorderView {
   showChannel(report, channel) {
     const { drawn, caption, limit, element } = this.figures[channel], set = this.limits[channel] ?? null;
     drawn.innerHTML = picture(report, this.desk.rows, channel, set);
-    caption.textContent = report.readings === 0 ? (report.blanks === 0 ? "no scan yet" : "no reading") : `${degrees(report.lowest)} to ${degrees(report.highest)} °C, average ${averageDegrees(report)}${report.blanks > 0 ? `, ${counted(report.blanks, "scan")} without card` : ""}`;
+    caption.textContent = report.readings === 0 ? (report.blanks === 0 ? "no scan yet" : "no reading") : `${degrees(report.lowest)} to ${degrees(report.highest)} °C, average ${report.sum}/${report.readings} tenths, ${averageDegrees(report)} °C${report.blanks > 0 ? `, ${counted(report.blanks, "scan")} without card` : ""}`;
     caption.className = set !== null && over(report, this.desk.rows, channel, set).average ? "over" : "";
     element.className = caption.className;
     if (document.activeElement !== limit) limit.value = set === null ? "" : degrees(set);
