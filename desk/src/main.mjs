@@ -18,7 +18,7 @@ import { readFile } from "./files.mjs";
 import { makeTabs, openTab } from "./tabs.mjs";
 import { textOf } from "./job.mjs";
 
-const GIVEN = globalThis.GIVEN, MOST_TO_A_STOP = 1e9, MOST_STEPS = 1e9, FIRST = "card-pulled.txt";
+const GIVEN = globalThis.GIVEN, MOST_TO_A_STOP = 1e9, MOST_STEPS = 1e9, FIRST = "card-pulled.txt", BETWEEN_PROGRESS = 300; // milliseconds
 
 const library = new Library(Uint8Array.from(atob(GIVEN.module), (character) => character.charCodeAt(0)));
 const words = new Words(GIVEN.numbers), desk = new Desk(library, words), stops = new Stops(), runner = new Runner(desk);
@@ -55,7 +55,8 @@ function load(name = desk.name) {
   job.clear(), patch.clear(), trace.clear();
   processor.from = null;
   recorder.limits = {};
-  tell(desk.mode === MODE.locked ? `${name} is loaded, and locked at power-up: the board can't fetch where it begins.` : `${name} is loaded and powered up.`, desk.mode === MODE.locked);
+  const what = `${name}${desk.job.patch.length === 0 ? "" : ` with its patch of ${counted(desk.job.patch.length, "word")}`} is loaded`;
+  tell(desk.mode === MODE.locked ? `${what}, and locked at power-up: the board can't fetch where it begins.` : `${what} and powered up.`, desk.mode === MODE.locked);
   show();
 }
 
@@ -161,8 +162,11 @@ async function run(most, asked) {
   const from = desk.steps, place = desk.pc;
   busy(true);
   at("stop").focus();
+  let next = 0; // when it is told again how far the run is: not too often for who listens to it
   const end = await runner.run(most, asked, (done) => {
     at("progress").max = Math.min(most, 1e6 * Math.ceil((done + 1) / 1e6)), at("progress").value = done;
+    if (performance.now() < next) return;
+    next = performance.now() + BETWEEN_PROGRESS;
     tell(`${grouped(done)} steps${most < MOST_TO_A_STOP ? ` of ${grouped(most)}` : ""} …`);
   });
   busy(false);

@@ -108,6 +108,12 @@ export class Browser {
     await this.send("DOM.setFileInputFiles", { nodeId, files: [path.resolve(file)] });
   }
 
+  // Drops a file on the middle of the page.
+  async drop(file) {
+    const data = { items: [], files: [path.resolve(file)], dragOperationsMask: 1 }, { x, y } = await this.run("({ x: innerWidth / 2, y: innerHeight / 2 })");
+    for (const type of ["dragEnter", "dragOver", "drop"]) await this.send("Input.dispatchDragEvent", { type, x, y, data });
+  }
+
   // A file that the page gave, once it is whole.
   async given(name) {
     const file = path.join(this.folder, name);

@@ -54,7 +54,7 @@ export function fileParts({ browser, reads, holds, click, fill, choose, tab, idl
     fs.closeSync(fs.openSync(big, "w")), fs.truncateSync(big, 100 << 20);
     const begun = Date.now();
     await browser.run("document.querySelector('#told').textContent = ''");
-    await browser.give("file", big);
+    await browser.drop(big);
     await browser.until("document.querySelector('#told').textContent !== ''");
     await reads("told", /^big\.bin has 104,857,600 bytes, and the desk takes 4,194,304 at most: nothing was read\.$/);
     assert(Date.now() - begun < 3000, "a file of 100 MB takes seconds");
