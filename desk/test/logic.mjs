@@ -154,6 +154,14 @@ function listingAround() {
   same("SOB goes to its label", 0x84, wayOf(desk, sob).target);
   const all = rowsAround(desk, 0x80, 6);
   same("labels stand at their lines", ["START", "AGAIN"], [all[0].label, all[1].label]);
+  desk.load("w", "pages 00\n0016 = 0080\n.ORG 0080\nAGAIN: WFI\nBR AGAIN");
+  desk.step();
+  same("a branch's way while the processor waits", 0x80, wayOf(desk, rowsAround(desk, 0x82, 1)[0]).target);
+  desk.load("w", "pages 00\n0016 = 0080\n.ORG 0080\nMOV #1234,R2");
+  desk.setRegister(7, 0x82);
+  same("PC in the midst of an op code", [[0x80, ".WORD B5C2"], [0x82, 0x82]], [[0x80, rowsAround(desk, null, 9)[0].text], [0x82, rowsAround(desk, null, 9)[1].address]]);
+  load("sob.txt");
+  rowsAround(desk, null, 9).forEach((row) => wayOf(desk, row));
   same("nothing is changed by looking", true, desk.history.parts.at(-1).steps === 0 && desk.steps === 0);
 }
 

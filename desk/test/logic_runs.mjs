@@ -40,6 +40,13 @@ export async function more({ given, words, newDesk, snapshot: of }) {
     for (let n = 0; n < 18; n++) other.step(), blanks += other.cause === CAUSE.blankOpCode ? 1 : 0;
     same("a plain run", [18, "all", blanks, { step: 2, address: 0xC000 }], [plain.steps, plain.how, plain.blanks, plain.first]);
     same("its registers", other.library.state.slice(0, 19), desk.library.state.slice(0, 19));
+    load("card-pulled.txt"), desk.step();
+    same("the first blank's step", 2, (await runner.run(9, null, quiet)).first.step);
+    load("card-pulled.txt");
+    for (let n = 0; n < 3; n++) desk.step();
+    same("what a step changed", [0x0C, 0x0E], desk.changed());
+    load("card-fitted.txt"), desk.protect(0xC0), desk.pull(0xC0), desk.pull(0xC0);
+    same("a read-only page comes back as one", PAGE.readOnly, desk.library.map[0xC0]);
   }
 
   async function stops() {
@@ -73,7 +80,7 @@ export async function more({ given, words, newDesk, snapshot: of }) {
     same("a clear of a zero", "00F0", await found("CLR @#00F0", 0xF0));
     same("a word to itself", "1000", await found("MOV @#1000,@#1000", 0x1000));
     same("a bit set of nothing", "1000", await found("BIS R0,@#1000", 0x1000));
-    same("the second push of zeros", "00FC", await found("CALL SUB\nBR DONE\nSUB: SAVE", 0xFC));
+    same("the second push of zeros", "00FA", await found("MOV #00FE,SP\nSAVE", 0xFA));
     same("another word alone", "address", await found("CLR @#1002", 0x1000));
     same("a read alone", "address", await found("MOV @#1000,R0", 0x1000));
   }
@@ -108,6 +115,7 @@ export async function more({ given, words, newDesk, snapshot: of }) {
     same("in degrees", "6.01", averageDegrees(report));
     same("its gap", [[5, 8]], gaps(desk.rows, 4));
     same("over 5.0", { readings: 8, average: true }, over(report, desk.rows, 4, limitOf("5.0")));
+    same("over a limit below zero", 8, over(report, desk.rows, 4, -10).readings);
     same("the average alone", { readings: 3, average: true }, over(report, desk.rows, 4, 60));
     same("limits", [null, 50, -185, NaN, NaN], ["", "5", "-18.5", "warm", "5.05"].map(limitOf));
     const drawn = picture(report, desk.rows, 4, 50);
@@ -131,6 +139,9 @@ export async function more({ given, words, newDesk, snapshot: of }) {
     same("accepted", [0, 0, 3], Object.values((({ why, found, count }) => ({ why, found, count }))(checkTrace(desk, good))));
     const found = checkTrace(desk, wrong);
     same("the first wrong step", [1, 1, 8, "8F00", "0F00"], [found.found, found.step, found.field, hex(found.theirs[8]), hex(found.ours.after[8])]);
+    desk.setBoard(1, 2, "other jumpers");
+    same("on bench's board", "0F00", hex(checkTrace(desk, wrong).ours.after[8]));
+    desk.back();
     const short = checkTrace(desk, Uint8Array.from([2, 0, ...good.subarray(2, 42)]));
     same("a step is missing", [2, 2, null], [short.found, short.step, short.theirs]);
     const long = checkTrace(desk, Uint8Array.from([4, 0, ...good.subarray(2), ...good.subarray(2, 22)]));
