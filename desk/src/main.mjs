@@ -239,7 +239,15 @@ function chooser(button, input, isTrace) {
   };
 }
 
+// What the page did not foresee is told, never silent.
+function makeAlarm() {
+  const alarm = (why) => tell(`The page made a mistake, which is no mistake of the job's: ${why?.message ?? why}. Save the desk for later and open it again.`, true);
+  addEventListener("error", (event) => alarm(event.error ?? event.message));
+  addEventListener("unhandledrejection", (event) => alarm(event.reason));
+}
+
 function start() {
+  makeAlarm();
   at("about").textContent = about.replace("Hitchbriar ", "");
   at("about").className = GIVEN.proved ? "proved" : "unproved";
   for (const name of Object.keys(GIVEN.samples)) at("sample").append(new Option(name, name));
