@@ -1,4 +1,5 @@
 -- The laws of the crate's definitions.
 pub mod Ends
 pub mod Good
+pub mod Labels
 pub mod Section

@@ -4,6 +4,8 @@ ghost use Prim.Native.Nat.{_≤_};
 ghost use lib.ListN.{length};
 ghost use Rattle.assembler.specs.Source.{countOf};
 ghost use Rattle.assembler.specs.Answer.{faults, pageOf, after, checked, asmOf};
+ghost use Rattle.refusal.specs.Page.{left};
+ghost use Rattle.assembler.specs.Labels.{labelledPage, labelsPage, labelsWhy};
 use crate::source::Fault;
 use refusal::number::LABEL_AGAIN;
 use refusal::number::LABEL_MISSING;
@@ -13,6 +15,7 @@ use refusal::number::OUTPUT_SHORT;
 use refusal::number::SOURCE_LINES;
 use refusal::number::UNKNOWN_TEXT;
 
+mod labelling;
 mod section;
 mod source;
 
@@ -21,12 +24,24 @@ const MOST_LINES: usize = 1024;
 
 const LONGEST_SECTION: usize = 12290;
 
+// The bytes of the labels of all lines.
+const MOST_LABELS: usize = 4096;
+
 // What the assembler answers: the length of the section, or why the source is refused.
 pub enum Assembled {
     Section(u16),
     // 10 or 36.
     Refused(u8),
     // 24 to 28, and the lowest line that has it, from 0.
+    RefusedAt(u8, u16),
+}
+
+// What is answered of the labels: the number of bytes written, or why the source is refused.
+pub enum Labelled {
+    Bytes(u16),
+    // 10 or 36.
+    Refused(u8),
+    // 24 or 25, and the lowest line that has it, from 0.
     RefusedAt(u8, u16),
 }
 
@@ -79,4 +94,33 @@ pub fn assemble(source: &[u8], out: &mut [u8]) -> Assembled
         return Assembled::Refused(SOURCE_LINES);
     }
     assemble_lines(source, out)
+}
+
+// 10 or 36 for the labels, 0 for none.
+fn labels_refusal(source: &[u8], out: usize) -> u8
+    ensures { λ r. ⌜ r ≡ labelsWhy (now (source .entry)) out ⌝ }
+{
+    if out < MOST_LABELS {
+        return OUTPUT_SHORT;
+    }
+    if source.len() % 32 != 0 {
+        return SOURCE_LINES;
+    }
+    let lines = source::count(source);
+    if MOST_LINES < lines {
+        return SOURCE_LINES;
+    }
+    0
+}
+
+// Tells each line's label and its value: four bytes a line in front of the output, the label's length and the address that the line
+// begins at. A refusal leaves the output as lent: 10, 36, 24 or 25.
+pub fn labels(source: &[u8], out: &mut [u8]) -> Labelled
+    ensures { λ r. ⌜ left (labelledPage r) (now (out .exit)) ≡ labelsPage (now (source .entry)) (now (out .entry)) ⌝ }
+{
+    let why = labels_refusal(source, out.len());
+    if why != 0 {
+        return Labelled::Refused(why);
+    }
+    labelling::label_lines(source, out)
 }

@@ -111,7 +111,7 @@ fn put_entry_at(out: &mut [u8], at: usize, e: u32) -> usize
     at + n
 }
 
-fn put_count(out: &mut [u8], n: usize) -> usize
+pub(crate) fn put_count(out: &mut [u8], n: usize) -> usize
     requires { ⌜ 2 ≤ length (now out) ⌝ }
     ensures { λ k. ⌜ Wrote (pair n) (now (out .entry)) (now (out .exit)) k ⌝ }
 {

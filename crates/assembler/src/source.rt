@@ -40,7 +40,7 @@ pub(crate) fn count(source: &[u8]) -> usize
 }
 
 // A line's 32 bytes.
-fn line_at(source: &[u8], i: usize) -> &[u8]
+pub(crate) fn line_at(source: &[u8], i: usize) -> &[u8]
     requires { ⌜ i < countOf (now source) ⌝ }
     ensures { λ r. ⌜ now r ≡ lineAt (now (source .entry)) i ⌝ }
 {

@@ -6,6 +6,9 @@ ghost use Rattle.firmware.specs.Runs as Runs;
 ghost use Rattle.lentrecorder.specs.Calls as Recorder;
 ghost use Rattle.textc.specs.Calls as Text;
 ghost use Rattle.assembler_c.specs.Call as Assembler;
+ghost use Rattle.assembler_c.specs.Labels as Labels;
+ghost use Rattle.listing_c.specs.Calls as Listing;
+ghost use Rattle.job_c.specs.Calls as Job;
 ghost use Rattle.tracecall.specs.Calls as Trace;
 
 // The state after power-up; or 21, 1, 2, 3 or 35.
@@ -144,6 +147,43 @@ pub extern "C" fn wd16_assemble(source: &[u8], section: &mut [u8], answer: &mut 
     ensures { λ r. ⌜ Assembler.went r (now (section .exit)) (now (answer .exit)) ≡ Assembler.assembleCall (now (source .entry)) (now (section .entry)) (now (answer .entry)) ⌝ }
 {
     assembler_c::wd16_assemble(source, section, answer)
+}
+
+// Tells each line's label and its value, four bytes a line, in front of the labels; or 21, 10, 36, 24 or 25.
+#[no_mangle]
+pub extern "C" fn wd16_labels(source: &[u8], labels: &mut [u8], answer: &mut [u8]) -> u8
+    ensures { λ r. ⌜ told r (now (labels .exit), now (answer .exit)) ≡ Labels.labelsCall (now (source .entry)) (now (labels .entry)) (now (answer .entry)) ⌝ }
+{
+    assembler_c::wd16_labels(source, labels, answer)
+}
+
+// Writes the line at the address `first` of a stretch that ends at `last` in front of the text; or 21, 1, 2, 3, 23 or 8.
+#[no_mangle]
+pub extern "C" fn wd16_list_line(
+    image: &[u8],
+    map: &[u8],
+    first: u16,
+    last: u16,
+    text: &mut [u8],
+    answer: &mut [u8],
+) -> u8
+    ensures { λ r. ⌜ told r (now (text .exit), now (answer .exit)) ≡ Listing.listCall (now (image .entry)) (now (map .entry)) first last (now (text .entry)) (now (answer .entry)) ⌝ }
+{
+    listing_c::wd16_list_line(image, map, first, last, text, answer)
+}
+
+// Reads a job into the image, the map and the line words; or 21, 1, 2, 4 or the job's own refusal.
+#[no_mangle]
+pub extern "C" fn wd16_read_job(
+    job: &[u8],
+    image: &mut [u8],
+    map: &mut [u8],
+    lines: &mut [u16],
+    answer: &mut [u8],
+) -> u8
+    ensures { λ r. ⌜ told r (now (image .exit), now (map .exit), now (lines .exit), now (answer .exit)) ≡ Job.readCall (now (job .entry)) (now (image .entry)) (now (map .entry)) (now (lines .entry)) (now (answer .entry)) ⌝ }
+{
+    job_c::wd16_read_job(job, image, map, lines, answer)
 }
 
 // Checks a trace of a job; or 21, the job's own refusal, or 29. The image, the map and the line words are the call's own.

@@ -1,0 +1,78 @@
+-- From the code's facts to what the exported call leaves.
+use Prim.Native.Nat.{ℕ, zero, suc, _+_, _≤_, _<_}
+use native.Mathlib.Omega.{arith}
+use mathlib.Core.Bool.{Bool, true, false, cond}
+use mathlib.Core.List.{List, [], _∷_}
+use mathlib.Core.Path.{_≡_, refl, ap}
+use lib.ListN.{length, take, getD, length-append}
+use borrow.Author.Tests.{eq-eqb, ne-eqb}
+use Rattle.words.specs.Words.{bytesIn, wordAt}
+use Rattle.refusal.specs.Numbers.{noState}
+use Rattle.refusal.specs.Page.{Page, refused, refusedAt, answered, told, unless}
+use Rattle.letters.specs.Over.{over}
+use Rattle.board.specs.Work.{fitted}
+use Rattle.line.specs.Line.{dashes, fields}
+use Rattle.line.proofs.Laws.Lengths.{fields-length}
+use Rattle.optext.specs.Line.{wordText, taken, textOf}
+use Rattle.optext.proofs.Laws.Longest.{text-le}
+use Rattle.optext.proofs.Laws.Meets.{taken-le}
+use Rattle.listing.specs.declared.Found.the-variants.{Nothing, Cut, Whole}
+use Rattle.listing.specs.declared.Listed.{Listed}
+use Rattle.listing.specs.declared.Listed.the-variants.{Line, Last, Refused}
+use Rattle.listing.specs.Listing.{allStand, wordsAt, foundAt, lineOf, lineAt, nextAt}
+use Rattle.listing.specs.Calls.{Told, listedPage, left, lineWhy, nextOf, lineCall}
+use Rattle.listing.specs.Calls as Calls
+use Rattle.listing.proofs.Laws.{word-length}
+use Rattle.listing_c.specs.Calls.{listCall}
+
+-- ---- a line is short
+
+line-short : (a : ℕ) (ws : List ℕ) (n : ℕ) (f s : Bool) → n ≤ 3 → length (lineOf a ws (cond f (cond s (Whole n) Cut) Nothing)) ≤ 44
+unfolding lineOf
+line-short a ws n true true h = simp length-append (omega (arith, fields-length (a ∷ ws) (n + 1), text-le (take n ws)))
+line-short a ws n true false h = simp length-append (omega (arith, fields-length (a ∷ ws) 2, word-length (getD ws 0 0)))
+line-short a ws n false s h = simp length-append (omega (arith, fields-length (a ∷ ws) 1))
+
+line-few : (map image : List ℕ) (last a : ℕ) → length (lineAt map image last a) ≤ 44
+unfolding lineAt foundAt
+line-few map image last a = line-short a (wordsAt image a) (taken (wordAt image a)) (fitted map a) (allStand map last a (taken (wordAt image a))) (taken-le (wordAt image a))
+
+abbrev countIn : Page Told → ℕ
+countIn (answered p) = p .count
+countIn (refused why) = 0
+countIn (refusedAt why place) = 0
+
+-- what is answered tells a short line
+told-short : (image map : List ℕ) (a last : ℕ) (b e : List ℕ) (p : Page Told) → left p e ≡ lineCall image map a last b → countIn p < 65536
+unfolding lineCall
+told-short image map a last b e p h = by (lineWhy (length image) map a last (length b)) (over (lineAt map image last a) b) h
+  where
+    by : (why : ℕ) (t : List ℕ) → left p e ≡ unless why (left (answered (Calls.told (length (lineAt map image last a)) (nextOf last (nextAt map image last a)))) t) (left (refused why) b) → countIn p < 65536
+    by zero t d = let q : countIn p ≡ length (lineAt map image last a) = ap (λ z. countIn (z .page)) d in omega (arith, q, line-few map image last a)
+    by (suc why) t d = let q : countIn p ≡ 0 = ap (λ z. countIn (z .page)) d in omega (arith, q)
+
+pub line-told : (image map : List ℕ) (a last : ℕ) (b e : List ℕ) (r : Listed) (n x : ℕ) → r ≡ Line n x → left (listedPage r) e ≡ lineCall image map a last b → n < 65536
+line-told image map a last b e r n x q h = told-short image map a last b e (listedPage (Line n x)) (rw q at h)
+
+pub last-told : (image map : List ℕ) (a last : ℕ) (b e : List ℕ) (r : Listed) (n : ℕ) → r ≡ Last n → left (listedPage r) e ≡ lineCall image map a last b → n < 65536
+last-told image map a last b e r n q h = told-short image map a last b e (listedPage (Last n)) (rw q at h)
+
+-- ---- the call
+
+module _ (image map : List ℕ) (a last : ℕ) (t b : List ℕ) where
+  pub bad : (length b ≡ 6 → ⊥) → told noState (t, b) ≡ listCall image map a last t b
+  unfolding listCall
+  bad h = rw (ne-eqb (length b) 6 h) refl
+
+  module _ (t′ : List ℕ) (r : Listed) (l : length b ≡ 6) (e : left (listedPage r) t′ ≡ lineCall image map a last t) where
+    pub goes-on : (n x : ℕ) (b′ : List ℕ) → r ≡ Line n x → b′ ≡ bytesIn (n ∷ x ∷ 0 ∷ []) → told 0 (t′, b′) ≡ listCall image map a last t b
+    unfolding listCall
+    goes-on n x b′ q p = rw (eq-eqb (length b) 6 l, ← e, q, p) refl
+
+    pub ended : (n : ℕ) (b′ : List ℕ) → r ≡ Last n → b′ ≡ bytesIn (n ∷ 0 ∷ 1 ∷ []) → told 0 (t′, b′) ≡ listCall image map a last t b
+    unfolding listCall
+    ended n b′ q p = rw (eq-eqb (length b) 6 l, ← e, q, p) refl
+
+    pub stopped : (why : ℕ) → r ≡ Refused why → told why (t′, b) ≡ listCall image map a last t b
+    unfolding listCall
+    stopped why q = rw (eq-eqb (length b) 6 l, ← e, q) refl
