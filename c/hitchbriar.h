@@ -1,4 +1,4 @@
-/* The WD16 for C, on buffers that the caller lends: the processor, with power-up, one step, and a run over line words; the
+/* The WD16 for C, on buffers that the caller lends: the processor, with power-up, one step, and runs over line words; the
    text of one op code, written and read; the assembler for patches; the check of another shop's trace; and the plug
    recorder: one scan, and the report of a channel.
 
@@ -260,28 +260,30 @@ uint8_t wd16_run(uint8_t *state, size_t state_length, uint8_t *tally, size_t tal
                  size_t image_length, const uint8_t *map, size_t map_length, const uint8_t *settings,
                  size_t settings_length, const uint16_t *lines, size_t lines_length);
 
-/* So many steps over one line word, 0 to 65,535, as wd16_run over as many such words: no list is lent. The tally's blanks and place go
-   up to 65,535 and 65,534. Refusals: 21, 1, 2, 3, 35, 5. */
+/* So many steps over one line word, 0 to 65,535, as wd16_run over as many such words: no list is lent. The tally's blanks and
+   place go up to 65,535 and 65,534. Refusals: 21, 1, 2, 3, 35, 5. */
 uint8_t wd16_run_same(uint8_t *state, size_t state_length, uint8_t *tally, size_t tally_length, uint8_t *image,
                       size_t image_length, const uint8_t *map, size_t map_length, const uint8_t *settings,
                       size_t settings_length, uint16_t line, uint16_t steps);
 
-enum { /* what a run may be asked to end after, together in one byte */
+/* What wd16_run_until is asked to end after, added up. */
+enum {
     WD16_UNTIL_INTERRUPT = 1, /* an interrupt taken: cause 2 or 3 */
     WD16_UNTIL_BLANK = 2,     /* a blank: cause 5, 6 or 9 */
     WD16_UNTIL_LOCK = 4,      /* the processor is locked: cause 8 */
-    WD16_UNTIL_SWITCH = 8,    /* the halt switch taken: cause 1 */
+    WD16_UNTIL_SWITCH = 8,    /* the halt switch taken, or let go after a save: cause 1 */
 };
 
+/* The bytes of its tally: those of a run's, then the number of steps that were done, two bytes, low byte first. */
 enum {
-    WD16_STOPPED = 8, /* bytes of the tally of a run that may end early: a tally's, then */
-    WD16_STEPS = 6,   /* the number of steps that were done, two bytes, low byte first */
+    WD16_STEPS = 6,
+    WD16_STOPPED = 8, /* bytes of this tally */
 };
 
-/* A run over line words that ends after the first step whose cause is asked for, or after which the processor waits or is halted (modes 1,
-   2, 3 and 5); else after the last line word. It is wd16_run over the line words of the steps that were done, but that the state has the
-   last step's cause and the address that it tells, as after wd16_step; cause 4 where there was no line word. The tally has 8 bytes.
-   Refusals: 21, also for an unused bit of `until`, 1, 2, 3, 35, 4, 5. */
+/* A run over line words that ends after the first step whose cause is asked for, or after which the processor waits, is halted
+   or saved (modes 1, 2, 3 and 5); else after the last line word. It is wd16_run over the line words of the steps that were
+   done, but that the state has the last step's cause and the address that it tells, as after wd16_step; cause 4 where there
+   was no line word. All line words are looked at first. Refusals: 21, also for an unused bit of `until`, 1, 2, 3, 35, 4, 5. */
 uint8_t wd16_run_until(uint8_t *state, size_t state_length, uint8_t *tally, size_t tally_length, uint8_t *image,
                        size_t image_length, const uint8_t *map, size_t map_length, const uint8_t *settings,
                        size_t settings_length, const uint16_t *lines, size_t lines_length, uint8_t until);

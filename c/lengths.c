@@ -19,6 +19,8 @@ static void nothing_lent(void)
     show("power_up", wd16_power_up(NULL, 0, NULL, 0, NULL, 0, NULL, 0));
     show("step", wd16_step(NULL, 0, NULL, 0, NULL, 0, NULL, 0, 0));
     show("run", wd16_run(NULL, 0, NULL, 0, NULL, 0, NULL, 0, NULL, 0, NULL, 0));
+    show("run_same", wd16_run_same(NULL, 0, NULL, 0, NULL, 0, NULL, 0, NULL, 0, 0, 0));
+    show("run_until", wd16_run_until(NULL, 0, NULL, 0, NULL, 0, NULL, 0, NULL, 0, NULL, 0, 0));
     show("write_text", wd16_write_text(NULL, 0, NULL, 0, NULL, 0));
     show("read_text", wd16_read_text(NULL, 0, NULL, 0, NULL, 0));
     show("assemble", wd16_assemble(NULL, 0, NULL, 0, NULL, 0));
@@ -45,10 +47,14 @@ static void one_missing(void)
 static void none_is_good(void)
 {
     static uint8_t section[WD16_SECTION];
+    uint8_t stopped[WD16_STOPPED];
     map[0] = WD16_FITTED;
     show("power_up", wd16_power_up(state, sizeof state, image, sizeof image, map, sizeof map, settings, sizeof settings));
     show("no line words", wd16_run(state, sizeof state, tally, sizeof tally, image, sizeof image, map, sizeof map, settings,
                                    sizeof settings, NULL, 0));
+    show("no line words", wd16_run_until(state, sizeof state, stopped, sizeof stopped, image, sizeof image, map, sizeof map,
+                                         settings, sizeof settings, NULL, 0, WD16_UNTIL_BLANK));
+    printf("%u steps, %s\n", wd16_word(stopped, WD16_STEPS), wd16_cause_words(state[WD16_CAUSE]));
     show("no source", wd16_assemble(NULL, 0, section, sizeof section, answer, sizeof answer));
     printf("a section of %u bytes\n", wd16_word(answer, WD16_SECTION_LENGTH));
 }

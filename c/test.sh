@@ -26,10 +26,11 @@ compared() { # KIND NAME SEED CASES COMMAND
     fi
 }
 
-# The processor's calls, the text's with every byte that is lent, and cases of texts, patches, scans and traces.
+# The processor's calls, the text's and the boards' with every byte that is lent, and cases of texts, patches, scans and traces.
 all_compared() { # NAME SEED COMMAND
     compared served "$1" "$2" "$cases" "$3"
     compared calls "$1" "$2" "$cases" "$3"
+    compared boards "$1" "$2" "$((cases / 10))" "$3"
     compared text "$1" "$2" "$((cases / 10))" "$3"
     compared asm "$1" "$2" "$((cases / 10))" "$3"
     compared scans "$1" "$2" "$((cases / 20))" "$3"

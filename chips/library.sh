@@ -1,5 +1,6 @@
 #!/usr/bin/env bash
-# Builds the library for a chip: target/chips/TARGET/libhitchbriar.a, all functions of c/hitchbriar.h in it.
+# Builds the library for a chip: target/chips/TARGET/libhitchbriar.a, all functions of c/hitchbriar.h in it. For wasm32 also
+# target/chips/wasm32/hitchbriar.wasm, which has nothing to import.
 #   [PROVED=1] chips/library.sh TARGET [OPTIMIZATION [AS]]
 # TARGET: cortex-m4, riscv32imc, aarch64, wasm32 or x86-64 (chips/targets.sh). With PROVED=1 it is made of the module that rt
 # staticlib compiles once all is proved; else of the module that rt try makes, which proves nothing and takes seconds.
@@ -37,12 +38,24 @@ else
     compiled $inlining
 fi
 
+# One module of WebAssembly, with the memory functions that the library calls, and a stack for the deepest of its functions.
+wasm_module() {
+    local exports
+    exports=$(python3 -c 'import json, sys; print(*("--export=" + name for name in json.load(open(sys.argv[1]))))' "$from/calls.json")
+    in_c chips/bare/memory.c memory.o -fno-builtin
+    ln -sf "$tools/bin/ld.lld" "$out/wasm-ld"
+    "$out/wasm-ld" --no-entry $exports --export=wd16_refusal_words --export=wd16_cause_words --export=wd16_mode_words \
+        --export=__heap_base --strip-all -z stack-size=262144 --initial-memory=1048576 "$out/libhitchbriar.a" "$out/memory.o" \
+        -o "$out/hitchbriar.wasm"
+}
+
 # The functions' own names over the module, and the words. The kit's clang has no headers: those in chips/bare do.
-in_c() { # SOURCE OBJECT
+in_c() { # SOURCE OBJECT FLAGS
     "$clang" $flags -std=c11 -Wall -Wextra -Werror -Wmissing-prototypes -nostdinc -isystem chips/bare/include -Ic \
-        -ffile-prefix-map="$PWD"=. -c "$1" -o "$out/$2"
+        -ffile-prefix-map="$PWD"=. "${@:3}" -c "$1" -o "$out/$2"
 }
 in_c "$from/$(basename "$from").c" exports.o
 in_c c/words.c words.o
 rm -f "$out/libhitchbriar.a"
 "$tools/bin/llvm-ar" rcsD "$out/libhitchbriar.a" "$out/module.o" "$out/exports.o" "$out/words.o"
+[ "$1" != wasm32 ] || wasm_module

@@ -2,9 +2,13 @@
 # FOLDER/module.ll has the functions under the names that FOLDER/tried.c or FOLDER/proved.c calls; c/exports.py writes what
 # else is in FOLDER.
 
-# What a module is made of: its sources and the kit.
-sources() {
-    { cat "$kit/KIT-ID" c/exports.py crates.txt; find crates/*/src crates/*/specs crates/*/proofs -type f -exec sha256sum {} + | sort; } | sha256sum
+# What a module is made of: the kit, and the files of each crate's FOLDERS.
+sources() { # FOLDERS
+    local folder
+    {
+        cat "$kit/KIT-ID" c/exports.py crates.txt
+        for folder; do find crates/*/"$folder" -type f -exec sha256sum {} + | sort; done
+    } | sha256sum
 }
 
 # A program that reaches the library's functions, over links to our crates.
@@ -19,7 +23,7 @@ reaching() { # FOLDER
 # The module that rt try makes, which proves nothing and takes seconds; unless it is there already.
 tried_module() { # FOLDER
     local stamp
-    stamp=$(sources)
+    stamp=$(sources src)
     [ "$stamp" != "$(cat "$1/stamp" 2>/dev/null)" ] || return 0
     rm -rf "$1"
     python3 c/exports.py "$1" .
@@ -32,7 +36,7 @@ tried_module() { # FOLDER
 # The module that rt staticlib compiles once all is proved; unless it is there already. With it target/staticlib/libhitchbriar.a.
 proved_module() { # FOLDER
     local stamp made
-    stamp=$(sources)
+    stamp=$(sources src specs proofs)
     [ "$stamp" != "$(cat "$1/stamp" target/staticlib/libhitchbriar.a.stamp 2>/dev/null | uniq)" ] || return 0
     rm -rf "$1" target/staticlib/libhitchbriar.a*
     python3 c/exports.py "$1" .

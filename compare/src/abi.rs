@@ -40,10 +40,15 @@ pub enum Call {
     CheckTrace = 6,
     Scan = 7,
     Report = 8,
+    RunSame = 9,
+    RunUntil = 10,
+    ListLine = 11,
+    ReadJob = 12,
+    Labels = 13,
 }
 
 /// All of them.
-pub const CALLS: [Call; 9] = [
+pub const CALLS: [Call; 14] = [
     Call::PowerUp,
     Call::Step,
     Call::Run,
@@ -53,6 +58,11 @@ pub const CALLS: [Call; 9] = [
     Call::CheckTrace,
     Call::Scan,
     Call::Report,
+    Call::RunSame,
+    Call::RunUntil,
+    Call::ListLine,
+    Call::ReadJob,
+    Call::Labels,
 ];
 
 impl Call {
@@ -69,6 +79,16 @@ impl Call {
             Call::Scan => &[1, 1, 1, 1, 2, 1, 1, 2, 1],
             // the recorder, the channel's number, its report
             Call::Report => &[1, 1, 1],
+            // as a run, but the line word and the number of steps are the lines
+            Call::RunSame => &[1, 1, 1, 1, 2, 1],
+            // as a run, then what ends it, as a word
+            Call::RunUntil => &[1, 1, 1, 1, 2, 1, 2],
+            // image, map, the first and the last address as two words, text, answer
+            Call::ListLine => &[1, 1, 2, 1, 1],
+            // job, image, map, lines, answer
+            Call::ReadJob => &[1, 1, 1, 2, 1],
+            // source, labels, answer
+            Call::Labels => &[1, 1, 1],
         }
     }
 }
@@ -245,6 +265,11 @@ pub fn tally_length(level: Level) -> usize {
     } else {
         4
     }
+}
+
+/// The tally of a run that ends early has the number of its steps behind the rest.
+pub fn stopped_length(level: Level) -> usize {
+    tally_length(level) + 2
 }
 
 pub fn tally_bytes(level: Level, ran: &Ran) -> Vec<u8> {

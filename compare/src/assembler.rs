@@ -11,6 +11,8 @@ use crate::{Placed, Refusal};
 /// The bytes of a line, and the most lines of a source.
 pub const LINE: usize = 32;
 pub const MOST_LINES: usize = 1_024;
+/// The bytes of the labels of the longest source: two words of each line.
+pub const LEAST_LABELS: usize = MOST_LINES * 4;
 /// The bytes of the longest word section: a count, and three words of each line.
 pub const LEAST_SECTION: usize = 2 + MOST_LINES * 3 * 4;
 
@@ -263,11 +265,15 @@ fn settled(line: &Line, at: u16, value_of: impl Fn(&str) -> u16) -> Option<Vec<u
     Some(words)
 }
 
+/// The lines of a source. Refusal 24.
+fn lines_of(level: Level, source: &[u8]) -> Result<Vec<Line<'_>>, Placed> {
+    let line = |(place, bytes)| line_of(level, bytes).ok_or(Placed::new(24, place));
+    source.chunks_exact(LINE).enumerate().map(line).collect()
+}
+
 /// The words by their addresses. Refusals 24, 25, 26, 28, 27.
 fn patch(level: Level, source: &[u8]) -> Result<BTreeMap<u16, u16>, Placed> {
-    let line = |(place, bytes)| line_of(level, bytes).ok_or(Placed::new(24, place));
-    let lines = source.chunks_exact(LINE).enumerate().map(line);
-    let lines: Vec<Line> = lines.collect::<Result<_, _>>()?;
+    let lines = lines_of(level, source)?;
     let labels = labels_of(&lines)?;
     all_known(&lines, &labels)?;
     let origins = origins_of(&lines)?;
@@ -280,15 +286,55 @@ fn patch(level: Level, source: &[u8]) -> Result<BTreeMap<u16, u16>, Placed> {
     Ok(patch)
 }
 
+/// Refusals 10 and 36 of what is lent.
+fn check_lent(source: &[u8], output: &[u8], least: usize) -> Result<(), Refusal> {
+    if output.len() < least {
+        return Err(Refusal(10));
+    }
+    if source.len() % LINE != 0 || source.len() > MOST_LINES * LINE {
+        return Err(Refusal(36));
+    }
+    Ok(())
+}
+
+/// The address at which each line begins, wherever its words would go.
+fn beginnings(lines: &[Line]) -> Vec<u16> {
+    let mut origin = 0_u16;
+    let mut begins = Vec::new();
+    for line in lines {
+        begins.push(origin);
+        match &line.said {
+            Said::Nothing => {}
+            Said::Origin(to) => origin = *to,
+            Said::Words(words, _) => origin = origin.wrapping_add(2 * words.len() as u16),
+        }
+    }
+    begins
+}
+
+/// Each line's label, as its length, and the address at which the line begins, two words a line;
+/// answers their bytes. Refusals 10, 36, then 24 and 25 with their line.
+pub fn labels(level: Level, source: &[u8], out: &mut [u8]) -> Result<usize, Placed> {
+    check_lent(source, out, LEAST_LABELS)?;
+    let lines = lines_of(level, source)?;
+    labels_of(&lines)?;
+    for (line, begins, entry) in lines
+        .iter()
+        .zip(beginnings(&lines))
+        .zip(out.chunks_exact_mut(4))
+        .map(|((line, begins), entry)| (line, begins, entry))
+    {
+        let length = line.label.map_or(0, str::len) as u16;
+        entry[..2].copy_from_slice(&length.to_le_bytes());
+        entry[2..].copy_from_slice(&begins.to_le_bytes());
+    }
+    Ok(4 * lines.len())
+}
+
 /// Assembles a source into the word section of a job; answers its length in bytes.
 /// Refusals 10, 36, then 24, 25, 26, 28, 27 with their line.
 pub fn assemble(level: Level, source: &[u8], section: &mut [u8]) -> Result<usize, Placed> {
-    if section.len() < LEAST_SECTION {
-        return Err(Refusal(10).into());
-    }
-    if source.len() % LINE != 0 || source.len() > MOST_LINES * LINE {
-        return Err(Refusal(36).into());
-    }
+    check_lent(source, section, LEAST_SECTION)?;
     let patch = patch(level, source)?;
     let mut bytes = (patch.len() as u16).to_le_bytes().to_vec();
     for (address, word) in patch {

@@ -370,24 +370,26 @@ fn spoil(lines: &mut Vec<String>, random: &mut Random, origin: usize) {
     }
 }
 
-fn patch_case(random: &mut Random, level: Level) -> (String, Vec<&'static str>) {
-    let mut meant = Vec::new();
-    let mut lines = labeled_lines(random, level, &mut meant);
+/// A source, good most of the time, and what it is meant to show.
+pub fn source(random: &mut Random, level: Level, meant: &mut Vec<&'static str>) -> Vec<u8> {
+    let mut lines = labeled_lines(random, level, meant);
     let origin = 2 * random.below(0x7F00);
     if random.percent(50) {
         meant.push(".ORG");
         lines.insert(0, format!(".ORG {origin:04X}"));
     }
-    let mut room = LEAST_SECTION;
-    if random.percent(6) {
-        room -= 1;
-    } else {
-        spoil(&mut lines, random, origin);
-    }
+    spoil(&mut lines, random, origin);
     let mut bytes = source_of(&lines);
     if random.percent(3) {
         bytes.pop();
     }
+    bytes
+}
+
+fn patch_case(random: &mut Random, level: Level) -> (String, Vec<&'static str>) {
+    let mut meant = Vec::new();
+    let bytes = source(random, level, &mut meant);
+    let room = LEAST_SECTION - usize::from(random.percent(6));
     (format!("asm {} {room:X} {}", level.0, hex(&bytes)), meant)
 }
 

@@ -9,6 +9,7 @@ pub mod alu;
 pub mod assembler;
 pub mod bench;
 pub mod board;
+pub mod boards;
 pub mod calls;
 pub mod cases;
 mod columns;

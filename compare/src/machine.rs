@@ -363,3 +363,112 @@ pub fn run(
         address,
     })
 }
+
+// ---- runs for boards ----
+
+/// What ends a run early.
+#[derive(Clone, Copy, PartialEq, Eq, Debug)]
+pub struct Until(u8);
+
+impl Until {
+    /// The one of that number: 1 an interrupt taken, 2 a blank, 4 a lock, 8 the switch, added up.
+    pub fn from_number(number: u16) -> Option<Until> {
+        u8::try_from(number)
+            .ok()
+            .filter(|&bits| bits < 16)
+            .map(Until)
+    }
+
+    fn asks_for(self, cause: Cause) -> bool {
+        let bit = match cause {
+            Cause::I1 | Cause::I0 => 1,
+            Cause::BlankInOpCode | Cause::BlankInInterrupt | Cause::BlankInSave => 2,
+            Cause::Locked => 4,
+            Cause::I3 => 8,
+            Cause::OpCode | Cause::Nothing => 0,
+        };
+        self.0 & bit != 0
+    }
+}
+
+/// Whether the processor waits, or is halted or saved.
+fn rests(mode: Mode) -> bool {
+    !matches!(mode, Mode::Running | Mode::Locked)
+}
+
+/// What a run that may end early answers.
+#[derive(Clone, Copy, PartialEq, Eq, Debug)]
+pub struct Stopped {
+    pub last: Stepped,
+    pub ran: Ran,
+    pub steps: u16,
+}
+
+/// Steps over line words, each put on the one before, until one ends it.
+fn stopped(
+    cpu: &mut Cpu,
+    lines: impl Iterator<Item = u16>,
+    ends: impl Fn(Cause, Mode) -> bool,
+) -> Stopped {
+    let (mut cause, mut steps) = (Cause::Nothing, 0);
+    let (mut blanks, mut first, mut address) = (0, None, None);
+    for line in lines {
+        cpu.told = None;
+        cause = cpu.step(line);
+        if cause.is_blank() {
+            if blanks == 0 {
+                (first, address) = (Some(steps), cpu.told);
+            }
+            blanks += 1;
+        }
+        steps += 1;
+        if ends(cause, cpu.s.mode) {
+            break;
+        }
+    }
+    Stopped {
+        last: Stepped {
+            state: cpu.s,
+            cause,
+            blank: cpu.told,
+        },
+        ran: Ran {
+            state: cpu.s,
+            blanks,
+            first,
+            address,
+        },
+        steps,
+    }
+}
+
+/// A run that ends after the first step that is asked for, or that leaves the processor at rest.
+/// Refusals as of a run.
+pub fn run_until(
+    setup: &Setup,
+    state: State,
+    image: &mut [u8],
+    map: &[u8],
+    lines: &[u16],
+    until: Until,
+) -> Result<Stopped, Refusal> {
+    check_run(setup, image, map, lines)?;
+    let mut cpu = cpu(setup, state, image, map)?;
+    let ends = |cause: Cause, mode: Mode| until.asks_for(cause) || rests(mode);
+    Ok(stopped(&mut cpu, lines.iter().copied(), ends))
+}
+
+/// As many steps over one line word. Refusals 1, 2, 3, 35, 5.
+pub fn run_same(
+    setup: &Setup,
+    state: State,
+    image: &mut [u8],
+    map: &[u8],
+    line: u16,
+    steps: u16,
+) -> Result<Ran, Refusal> {
+    check_run(setup, image, map, &[line])?;
+    let mut cpu = cpu(setup, state, image, map)?;
+    let lines = std::iter::repeat(line).take(usize::from(steps));
+    Ok(stopped(&mut cpu, lines, |_, _| false).ran)
+}

@@ -38,28 +38,57 @@ pub struct Served {
     level: Level,
 }
 
-/// An argument: a buffer of the call by its place, or the first word of one as a number.
+/// An argument: a buffer of the call by its place, or a word of one, by its place too, as a number.
 #[derive(Clone, Copy)]
 enum Argument {
     Buffer(usize),
-    FirstWord(usize),
+    Word(usize, usize),
 }
 
-use Argument::{Buffer, FirstWord};
+use Argument::{Buffer, Word};
 
 /// The function of a call, and its arguments in their order.
 fn function(call: Call, level: Level) -> (&'static str, Vec<Argument>) {
     let settings = level.has(Wish::BlockMoves).then_some(Buffer(5));
     let (name, first, last): (_, &[usize], Option<Argument>) = match call {
         Call::PowerUp => ("wd16_power_up", &[0, 2, 3], None),
-        Call::Step => ("wd16_step", &[0, 2, 3], Some(FirstWord(4))),
+        Call::Step => ("wd16_step", &[0, 2, 3], Some(Word(4, 0))),
         Call::Run => ("wd16_run", &[0, 1, 2, 3], Some(Buffer(4))),
         Call::WriteText => return ("wd16_write_text", [0, 1, 2].map(Buffer).to_vec()),
         Call::ReadText => return ("wd16_read_text", [0, 1, 2].map(Buffer).to_vec()),
         Call::Assemble => return ("wd16_assemble", [0, 1, 2].map(Buffer).to_vec()),
         Call::CheckTrace => return ("wd16_check_trace", [0, 1, 2].map(Buffer).to_vec()),
-        Call::Scan => return ("wd16_scan", [0, 1, 2, 3, 5, 4, 6, 7, 8].map(Buffer).to_vec()),
+        Call::Scan => {
+            return (
+                "wd16_scan",
+                [0, 1, 2, 3, 5, 4, 6, 7, 8].map(Buffer).to_vec(),
+            )
+        }
         Call::Report => return ("wd16_report", [0, 1, 2].map(Buffer).to_vec()),
+        Call::RunSame => {
+            let buffers = [0, 1, 2, 3, 5].map(Buffer).into_iter();
+            return (
+                "wd16_run_same",
+                buffers.chain([Word(4, 0), Word(4, 1)]).collect(),
+            );
+        }
+        Call::RunUntil => {
+            let buffers = [0, 1, 2, 3, 5, 4].map(Buffer).into_iter();
+            return ("wd16_run_until", buffers.chain([Word(6, 0)]).collect());
+        }
+        Call::ListLine => {
+            let arguments = [
+                Buffer(0),
+                Buffer(1),
+                Word(2, 0),
+                Word(2, 1),
+                Buffer(3),
+                Buffer(4),
+            ];
+            return ("wd16_list_line", arguments.to_vec());
+        }
+        Call::ReadJob => return ("wd16_read_job", [0, 1, 2, 3, 4].map(Buffer).to_vec()),
+        Call::Labels => return ("wd16_labels", [0, 1, 2].map(Buffer).to_vec()),
     };
     let buffers = first.iter().map(|&at| Buffer(at));
     (name, buffers.chain(settings).chain(last).collect())
@@ -85,7 +114,9 @@ impl Served {
                     request.extend(&buffers[at]);
                     back.push(at);
                 }
-                FirstWord(at) => request.extend([buffers[at][0], buffers[at][1], 0, 0]),
+                Word(at, place) => {
+                    request.extend([buffers[at][2 * place], buffers[at][2 * place + 1], 0, 0])
+                }
             }
         }
         (request, back)

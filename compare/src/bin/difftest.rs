@@ -5,6 +5,7 @@
 //! difftest served COMMAND SEED CASES  with the static library, through a program that serves its calls
 //! difftest bench COMMAND SEED JOBS    with a bench program, by jobs on its standard input
 //! difftest calls COMMAND SEED CASES   calls of the text for C, with every byte that is lent to them
+//! difftest boards COMMAND SEED CASES  the same of the functions for boards
 //! difftest text COMMAND SEED CASES    case lines of texts, through a program that serves calls;
 //! difftest asm | trace | scans ..     the same for assemblies, traces and scans
 //! difftest list COMMAND SEED CASES    the same for listings, through a listing program
@@ -22,6 +23,7 @@ use std::process::ExitCode;
 use wd16::abi::{self, Buffers, Call, Interface};
 use wd16::bench::bench;
 use wd16::board::{IMAGE, PAGES, READ_ONLY, WRITABLE};
+use wd16::boards::{board_call, BOARD_ANSWERS};
 use wd16::calls::Plain;
 use wd16::cases::{self, hex_text, Answers};
 use wd16::coverage::{changed_kinds, cut_kinds, is_sound, plugged_kinds, Ahead, Coverage, RunKind};
@@ -671,19 +673,37 @@ fn other_interface(command: &str, level: Level) -> std::io::Result<Box<dyn Inter
     Ok(Box::new(Served::start(command, level)?))
 }
 
-// ---- calls of the text for C ----
+// ---- calls with every byte that is lent ----
+
+/// A buffer for a person; an image is its beginning.
+fn short(bytes: &[u8]) -> String {
+    hex_text(&bytes[..bytes.len().min(MOST_SHOWN)])
+}
+
+const MOST_SHOWN: usize = 1_024;
+
+/// A random call, and the answers that the calls must meet.
+type Calls<'a> = (
+    fn(&mut Random, Level) -> (Call, Vec<Vec<u8>>),
+    &'a [(Call, &'a [u8])],
+);
 
 /// Holds the number and every lent buffer of a call against the other's.
-fn compare_calls(level: Level, other: &mut dyn Interface, seed: u64, cases: usize) -> ExitCode {
+fn compare_calls(
+    level: Level,
+    other: &mut dyn Interface,
+    (some_call, answers): Calls,
+    seed: u64,
+    cases: usize,
+) -> ExitCode {
     println!("seed {seed}, {cases} cases");
     let mut random = Random::new(seed);
     let mut reached: BTreeMap<(u8, u8), u64> = BTreeMap::new();
     for _ in 0..cases {
-        let (call, lent) = text_call(&mut random, level);
+        let (call, lent) = some_call(&mut random, level);
         let [ours, theirs] = both(level, other, call, lent.clone());
         if ours != theirs {
-            let told =
-                |buffers: &[Vec<u8>]| buffers.iter().map(|b| hex_text(b)).collect::<Vec<_>>();
+            let told = |buffers: &[Vec<u8>]| buffers.iter().map(|b| short(b)).collect::<Vec<_>>();
             println!("{call:?} on {:?}", told(&lent));
             println!("  ours   {} {:?}", ours.0, told(&ours.1));
             println!("  theirs {} {:?}", theirs.0, told(&theirs.1));
@@ -693,7 +713,7 @@ fn compare_calls(level: Level, other: &mut dyn Interface, seed: u64, cases: usiz
     }
     println!("{reached:?}");
     println!("0 differences");
-    let wanted = TEXT_ANSWERS
+    let wanted = answers
         .iter()
         .flat_map(|&(call, numbers)| numbers.iter().map(move |&number| (call, number)));
     let missing: Vec<String> = wanted
@@ -774,7 +794,9 @@ fn compare_lines(
 
 fn usage() -> ExitCode {
     println!("difftest self SEED CASES [LEVEL]");
-    println!("difftest served|bench|calls|text|asm|trace|scans|list COMMAND SEED CASES [LEVEL]");
+    println!(
+        "difftest served|bench|calls|boards|text|asm|trace|scans|list COMMAND SEED CASES [LEVEL]"
+    );
     ExitCode::FAILURE
 }
 
@@ -786,7 +808,19 @@ fn compared(
 ) -> std::io::Result<Option<ExitCode>> {
     Ok(Some(match what {
         "served" => compare(level, &mut *other_interface(command, level)?, seed, count),
-        "calls" => compare_calls(level, &mut *other_interface(command, level)?, seed, count),
+        "calls" | "boards" => {
+            let calls: Calls = match what {
+                "calls" => (text_call, &TEXT_ANSWERS),
+                _ => (board_call, &BOARD_ANSWERS),
+            };
+            compare_calls(
+                level,
+                &mut *other_interface(command, level)?,
+                calls,
+                seed,
+                count,
+            )
+        }
         "bench" => compare_jobs(level, command, seed, count),
         name => {
             let Some(kind) = Kind::named(name) else {
