@@ -6,10 +6,10 @@ import re
 import sys
 
 ROOT = os.path.join(os.path.dirname(os.path.abspath(__file__)), "..")
-PAPERS = ["README.md"] + [f"docs/{name}.md" for name in "PROOFS CONTRACTS ARCHITECTURE DECISIONS LANDINGS SPEED BELIEVE GLOSSARY".split()]
+PAPERS = ["README.md"] + [f"docs/{name}.md" for name in "PROOFS CONTRACTS ARCHITECTURE DECISIONS LANDINGS SPEED CHIPS BELIEVE GLOSSARY".split()]
 PROOFS = "docs/PROOFS.md"
 # Quoted words that are no names of ours: the language's, commands, the C library's, and texts and words of op codes.
-NO_NAMES = set("requires ensures match let  rt cargo python3  memset memcpy  ADD ADDX BRX NOPX B001".split())
+NO_NAMES = set("requires ensures match let  rt cargo python3 make  memset memcpy memmove __aeabi_memclr4 size_t uint16_t zeroext  ADD ADDX BRX NOPX B001".split())
 NAME = r"[A-Za-z_][\w'′₀-₉-]*"
 
 
@@ -86,7 +86,7 @@ def wrong_names(text, names):
 
 
 def wrong_files(text):
-    for path in re.findall(r"(?<![\w/])(?:crates|docs|edits|c|jobs|compare|believed)/[\w./-]*\w", text):
+    for path in re.findall(r"(?<![\w/])(?:crates|docs|edits|c|jobs|compare|believed|chips|board)/[\w./-]*\w", text):
         if not os.path.exists(os.path.join(ROOT, path)):
             yield f"{path}: no such file"
 
