@@ -49,8 +49,8 @@ def layout():
 def samples():
     """The sample jobs, each with the patch that stands beside it, if there is one."""
     names = sorted(path for path in (ROOT / "jobs").iterdir() if path.suffix in (".txt", ".scans"))
-    patch = lambda path: path.with_suffix(".asm")
-    return {path.name: [path.read_text(encoding="utf-8"), patch(path).read_text(encoding="utf-8") if patch(path).exists() else ""] for path in names}
+    texts = lambda path: path.read_text(encoding="utf-8") if path.exists() else ""
+    return {path.name: [texts(path), texts(path.with_suffix(".asm"))] for path in names}
 
 
 def given(module, proved):

@@ -56,7 +56,8 @@ export class Desk {
 
   kept() {
     const buffers = KEPT.map((name) => [name, this.library[name].slice()]);
-    return { ...Object.fromEntries(buffers), plugged: this.plugged.slice(), taken: this.taken, steps: this.steps, scansMade: this.scansMade, rows: this.rows.length };
+    const { taken, steps, scansMade } = this;
+    return { ...Object.fromEntries(buffers), plugged: this.plugged.slice(), taken, steps, scansMade, rows: this.rows.length };
   }
 
   bring(kept) {
@@ -174,7 +175,8 @@ export class Desk {
   logStep(from) {
     this.starts.add(even(from.at));
     this.hit = this.told === null ? null : pageOf(this.told);
-    this.log.add(this.steps - 1, from.at, this.inWords(from.text, from.wasHalted), isBlank(this.cause) || this.cause === CAUSE.lock, changesIn(this.before, this.library));
+    const bad = isBlank(this.cause) || this.cause === CAUSE.lock;
+    this.log.add(this.steps - 1, from.at, this.inWords(from.text, from.wasHalted), bad, changesIn(this.before, this.library));
   }
 
   // What the last step was.

@@ -3,6 +3,7 @@ import { made } from "./elements.mjs";
 import { linesIn } from "./text.mjs";
 
 const LINE = 18, PADDING = 4; // as in style.css
+const MOST_NUMBERED = 5000;
 
 export class Editor {
   // `go` is what Ctrl+Enter does.
@@ -57,7 +58,8 @@ export class Editor {
 
   number() {
     const count = linesIn(this.area.value).length;
-    this.gutter.replaceChildren(...Array.from({ length: Math.min(count, 5000) }, (_, n) => made("div", { textContent: n + 1, className: this.place?.line === n + 1 ? "bad" : "" })));
+    const line = (_, n) => made("div", { textContent: n + 1, className: this.place?.line === n + 1 ? "bad" : "" });
+    this.gutter.replaceChildren(...Array.from({ length: Math.min(count, MOST_NUMBERED) }, line));
     this.scrolled();
   }
 

@@ -1,4 +1,5 @@
 // Files that are opened or dropped: looked at in size before they are read, and told apart.
+import { grouped } from "./words.mjs";
 import { linesIn } from "./text.mjs";
 
 const MOST_TEXT = 4 << 20, MOST_BYTES = 1310702;
@@ -6,7 +7,8 @@ const MOST_TEXT = 4 << 20, MOST_BYTES = 1310702;
 // { kind: job | bytes | saved | trace, name, text or bytes }, or { wrong } in words.
 export async function readFile(file, isTrace) {
   const most = isTrace ? MOST_BYTES : MOST_TEXT;
-  if (file.size > most) return { wrong: `${file.name} has ${file.size.toLocaleString("en")} bytes, and the desk takes ${most.toLocaleString("en")} at most: nothing was read.` };
+  if (file.size > most)
+    return { wrong: `${file.name} has ${grouped(file.size)} bytes, and the desk takes ${grouped(most)} at most: nothing was read.` };
   if (file.size === 0) return { wrong: `${file.name} is empty.` };
   const bytes = new Uint8Array(await file.arrayBuffer()), name = file.name;
   if (isTrace || name.endsWith(".trace")) return { kind: "trace", name, bytes };
@@ -17,7 +19,8 @@ export async function readFile(file, isTrace) {
     text = new TextDecoder(wide ?? "utf-8", { fatal: true }).decode(bytes);
   } catch {
     const before = linesIn(new TextDecoder(wide ?? "utf-8").decode(bytes).split("\uFFFD")[0]);
-    return { wrong: `${name}, line ${before.length}, column ${before.at(-1).length + 1}: no text: a byte is not ${wide === null ? "UTF-8" : "UTF-16"}.` };
+    const place = `line ${before.length}, column ${before.at(-1).length + 1}`;
+    return { wrong: `${name}, ${place}: no text: a byte is not ${wide === null ? "UTF-8" : "UTF-16"}.` };
   }
   return { kind: /^\s*\{/.test(text) ? "saved" : "job", name, text };
 }

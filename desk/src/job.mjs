@@ -5,7 +5,12 @@ import { Source } from "./source.mjs";
 import { TextError, linesIn } from "./text.mjs";
 
 const two = (word) => [word & 0xFF, word >> 8];
-const ENCODED = { pages: (one) => [one.value], words: (one) => [...two(one.address), ...two(one.value)], lines: (one) => two(one.value), readOnly: (one) => [one.value] };
+const ENCODED = {
+  pages: (one) => [one.value],
+  words: (one) => [...two(one.address), ...two(one.value)],
+  lines: (one) => two(one.value),
+  readOnly: (one) => [one.value],
+};
 const SECTIONS = Object.keys(ENCODED);
 
 // The bytes of sections; one that is null is left out.
@@ -49,7 +54,8 @@ export function jobOf(text, patchText, library, words) {
   const ownPairs = own.pairs(labels), assembled = new Set(ownPairs.map(([address]) => address));
   const twice = job.words.find((one) => assembled.has(one.address));
   if (twice) throw new TextError(`an assembler line has a word at ${hex(twice.address)} too`, twice.place);
-  const sections = { pages: job.pages, words: patched(patched(job.words, entries(ownPairs)), entries(beside.pairs)), lines: job.lines, readOnly: job.readOnly };
+  const all = patched(patched(job.words, entries(ownPairs)), entries(beside.pairs));
+  const sections = { pages: job.pages, words: all, lines: job.lines, readOnly: job.readOnly };
   const starts = [...job.words.filter((one) => one.begins).map((one) => one.address), ...told.addresses, ...beside.addresses];
   const made = { sections, bytes: wholeBytes(sections, job), scans: job.scans, board: job.board, labels, starts, patch: beside.pairs };
   refuseByNumber(made, job, library, words);
@@ -80,7 +86,10 @@ export function wholeBytes(sections, job) {
 // Throws where the library refuses the job or its board, with the library's number and the place in the text.
 function refuseByNumber(made, job, library, words) {
   const why = library.jobRefusal(made.bytes);
-  if (why !== 0) throw new TextError(`refused: ${words.refusal(why)}`, placeOf(made.sections, why, library) ?? job.rest[0]?.place ?? job.cuts[0]?.place ?? null);
+  if (why !== 0) {
+    const place = placeOf(made.sections, why, library) ?? job.rest[0]?.place ?? job.cuts[0]?.place ?? null;
+    throw new TextError(`refused: ${words.refusal(why)}`, place);
+  }
   const refused = boardRefusal(library, job.board);
   if (refused === 0) return;
   const at = job.board.findIndex((value, n) => boardRefusal(library, BENCH_BOARD.map((one, k) => (k === n ? value : one))) !== 0);

@@ -19,9 +19,11 @@ export class JobText {
     if (words.length > 0 && (words[0].text in KINDS || words.slice(1).some((word) => word.text === "="))) {
       this.begun = true;
       this[KINDS[words[0].text] ?? "takeWords"](words);
-    } else if (words.length > 0 && /^[0-9]/.test(words[0].text)) throw new TextError("an address, =, and words are needed", words.at(-1).place);
-    else if (words.length > 0 && words[0].text === "=") throw new TextError("an address is needed before =", words[0].place);
-    else if (/[^ \t\f\v]/.test(text) && !/^[ \t\f\v]*#/.test(text)) {
+    } else if (words.length > 0 && /^[0-9]/.test(words[0].text)) {
+      throw new TextError("an address, =, and words are needed", words.at(-1).place);
+    } else if (words.length > 0 && words[0].text === "=") {
+      throw new TextError("an address is needed before =", words[0].place);
+    } else if (/[^ \t\f\v]/.test(text) && !/^[ \t\f\v]*#/.test(text)) {
       this.begun = true;
       this.source.push({ text, line: at });
     }
@@ -73,7 +75,8 @@ export class JobText {
     const named = words.findIndex((word) => word.text === "lines"), at = named < 0 ? words.length : named;
     if (at !== CHANNELS + 1)
       throw new TextError(`a scan has ${CHANNELS} channels; here are ${at - 1}`, words[at > CHANNELS + 1 ? CHANNELS + 1 : at - 1].place);
-    this.scans.push({ channels: words.slice(1, at).map(channelOf), lines: lineWordsOf(words.slice(at + 1)).map((one) => one.value), line: words[0].place.line });
+    const channels = words.slice(1, at).map(channelOf), lines = lineWordsOf(words.slice(at + 1)).map((one) => one.value);
+    this.scans.push({ channels, lines, line: words[0].place.line });
   }
 
   takeMicrom(words) {
@@ -86,7 +89,10 @@ export class JobText {
     const names = words.slice(1).filter((_, n) => n % 2 === 0);
     if (words.length < 3 || words.length % 2 === 0 || names.some((name) => !["up", "halt"].includes(name.text)))
       throw new TextError("jumpers up N, halt N, or both, N from 0 to 3", words.at(-1).place);
-    names.forEach((name, n) => this.set(name.text === "up" ? SETTINGS.up : SETTINGS.halt, number(words[2 * n + 2], 0xFF), words[2 * n + 2]));
+    names.forEach((name, n) => {
+      const word = words[2 * n + 2];
+      this.set(name.text === "up" ? SETTINGS.up : SETTINGS.halt, number(word, 0xFF), word);
+    });
   }
 
   // external 2F
@@ -115,7 +121,8 @@ function joined(section, entries, words) {
 // A reading in tenths of a degree, or null for no card.
 function channelOf(word) {
   if (word.text === "--") return null;
-  if (!/^-?[0-9]+$/.test(word.text)) throw new TextError(`'${word.text}' is no reading and not --: tenths of a degree are needed, as -37`, word.place);
+  if (!/^-?[0-9]+$/.test(word.text))
+    throw new TextError(`'${word.text}' is no reading and not --: tenths of a degree are needed, as -37`, word.place);
   const value = parseInt(word.text, 10);
   if (Math.abs(value) > MOST_READING) throw new TextError(`'${word.text}' is not from -${MOST_READING} to ${MOST_READING}`, word.place);
   return value === 0 ? 0 : value;

@@ -1,5 +1,5 @@
 // The library in WebAssembly: its calls, over buffers in its memory. Every call answers its number: 0, or that of its refusal.
-import { CHANNELS, LAST_WORD, REPORT, SETTINGS, SIZES, SOURCE_LINE, STATE, putWord, wordAt } from "./layout.mjs";
+import { CHANNELS, LAST_WORD, MOST_LINES, REPORT, SETTINGS, SIZES, SOURCE_LINE, STATE, putWord, wordAt } from "./layout.mjs";
 import { withStandIns } from "./stand_ins.mjs";
 
 export class Library {
@@ -94,7 +94,8 @@ export class Library {
   labelsOf(lines) {
     const why = this.calls.wd16_labels(...this.putSource(lines), ...this.lent("labels", "answer"));
     if (why !== 0) return { why, line: wordAt(this.answer, 4) };
-    return { why, labels: lines.map((line, n) => ({ label: line.slice(0, wordAt(this.labels, 4 * n)), address: wordAt(this.labels, 4 * n + 2) })) };
+    const one = (line, n) => ({ label: line.slice(0, wordAt(this.labels, 4 * n)), address: wordAt(this.labels, 4 * n + 2) });
+    return { why, labels: lines.map(one) };
   }
 
   // ---- jobs and traces
@@ -102,14 +103,15 @@ export class Library {
   // Lays a job out in the image and the map, and answers its line words. A refused job changes nothing.
   readJob(bytes) {
     this.job.set(bytes);
-    const why = this.calls.wd16_read_job(this.at.job, bytes.length, ...this.lent("image", "map"), this.at.lines, 4096, ...this.lent("answer"));
+    const why = this.calls.wd16_read_job(this.at.job, bytes.length, ...this.lent("image", "map"), this.at.lines, MOST_LINES,
+      ...this.lent("answer"));
     return { why, lines: why === 0 ? Array.from({ length: wordAt(this.answer, 0) }, (_, n) => wordAt(this.lines, 2 * n)) : [] };
   }
 
   // The number of a job's bytes alone: the image and the map that the reader is lent are those beside the desk's.
   jobRefusal(bytes) {
     this.job.set(bytes);
-    return this.calls.wd16_read_job(this.at.job, bytes.length, this.at.trialImage, SIZES.image, this.at.trialMap, SIZES.map, this.at.lines, 4096,
+    return this.calls.wd16_read_job(this.at.job, bytes.length, ...this.lent("trialImage", "trialMap"), this.at.lines, MOST_LINES,
       ...this.lent("answer"));
   }
 

@@ -52,6 +52,6 @@ export function wayOf(desk, row) {
     for (let n = 0; n < 7; n++) putWord(tried, 2 * n, 2);
     target = goes(tried);
   }
-  const label = labelAt(desk, target);
-  return { target, now, words: `→ ${hex(target)}${label === "" ? "" : ` ${label}`}${row.address === even(desk.pc) ? (now === target ? ", taken now" : ", not taken now") : ""}` };
+  const label = labelAt(desk, target), taken = now === target ? ", taken now" : ", not taken now";
+  return { target, now, words: `→ ${hex(target)}${label === "" ? "" : ` ${label}`}${row.address === even(desk.pc) ? taken : ""}` };
 }

@@ -39,9 +39,12 @@ export function changedWords(before, after) {
 // What a step changed, in a line: R2=C000 N=1 000E:=4F08. PC moves with every op code, and is shown elsewhere.
 export function changesIn(before, after) {
   const parts = [];
-  for (let n = 0; n < 7; n++) if (wordAt(before.state, 2 * n) !== wordAt(after.state, 2 * n)) parts.push(`${REGISTERS[n]}=${hex(wordAt(after.state, 2 * n))}`);
-  for (const [name, bit] of INDICATORS)
-    if ((before.state[STATE.indicators] ^ after.state[STATE.indicators]) & bit) parts.push(`${name}=${after.state[STATE.indicators] & bit ? 1 : 0}`);
+  for (let n = 0; n < 7; n++) {
+    const now = wordAt(after.state, 2 * n);
+    if (wordAt(before.state, 2 * n) !== now) parts.push(`${REGISTERS[n]}=${hex(now)}`);
+  }
+  const was = before.state[STATE.indicators], is = after.state[STATE.indicators];
+  for (const [name, bit] of INDICATORS) if ((was ^ is) & bit) parts.push(`${name}=${is & bit ? 1 : 0}`);
   if (before.state[STATE.i2] !== after.state[STATE.i2]) parts.push(`I2=${after.state[STATE.i2]}`);
   for (const address of changedWords(before.image, after.image)) parts.push(`${hex(address)}:=${hex(wordAt(after.image, address))}`);
   return parts.join(" ");

@@ -1,6 +1,7 @@
 // The page: makes the desk and its views, and says what each control and key does.
 import { Desk } from "./desk.mjs";
 import { Editor } from "./editor.mjs";
+import { howEnded } from "./ended.mjs";
 import { Library } from "./library.mjs";
 import { Runner } from "./running.mjs";
 import { Stops } from "./stops.mjs";
@@ -18,7 +19,9 @@ import { readFile } from "./files.mjs";
 import { makeTabs, openTab } from "./tabs.mjs";
 import { textOf } from "./job.mjs";
 
-const GIVEN = globalThis.GIVEN, MOST_TO_A_STOP = 1e9, MOST_STEPS = 1e9, FIRST = "card-pulled.txt", BETWEEN_PROGRESS = 300; // milliseconds
+const GIVEN = globalThis.GIVEN, MOST_TO_A_STOP = 1e9, MOST_STEPS = 1e9, BETWEEN_PROGRESS = 300; // milliseconds
+const FIRST = "card-pulled.txt";
+const BEGINNING = "Step goes on by one step, Run to a stop to the first blank. Open… takes your own job; so does dropping its file here.";
 
 const library = new Library(Uint8Array.from(atob(GIVEN.module), (character) => character.charCodeAt(0)));
 const words = new Words(GIVEN.numbers), desk = new Desk(library, words), stops = new Stops(), runner = new Runner(desk);
@@ -56,7 +59,8 @@ function load(name = desk.name) {
   processor.from = null;
   recorder.limits = {};
   const what = `${name}${desk.job.patch.length === 0 ? "" : ` with its patch of ${counted(desk.job.patch.length, "word")}`} is loaded`;
-  tell(desk.mode === MODE.locked ? `${what}, and locked at power-up: the board can't fetch where it begins.` : `${what} and powered up.`, desk.mode === MODE.locked);
+  const locked = desk.mode === MODE.locked;
+  tell(`${what}${locked ? ", and locked at power-up: the board can't fetch where it begins" : " and powered up"}.`, locked);
   show();
 }
 
@@ -70,7 +74,8 @@ function assemble() {
   let told;
   if (!trying(patch, "The patch", () => { told = desk.assemble(patch.text); })) return;
   patch.clear();
-  if (told.missing.length > 0) return tell(`Nothing is fitted at ${hex(told.missing[0])}, where the patch has a word: nothing was changed.`, true);
+  if (told.missing.length > 0)
+    return tell(`Nothing is fitted at ${hex(told.missing[0])}, where the patch has a word: nothing was changed.`, true);
   tell(`${counted(told.count, "word")} of the patch put into the image.`);
   show();
 }
@@ -93,7 +98,10 @@ async function opened(file, isTrace = false) {
 // A job's bytes are laid out by the library, beside the desk, and shown as text.
 function textOfBytes({ name, bytes }) {
   const kept = desk.kept(), { why, lines } = bytes.length > library.job.length ? { why: 20 } : library.readJob(bytes);
-  if (why !== 0) return tell(`${name} is no job: refused, ${words.refusal(why)}. Nothing was changed. A trace is opened on the tab Trace.`, true), null;
+  if (why !== 0) {
+    tell(`${name} is no job: refused, ${words.refusal(why)}. Nothing was changed. A trace is opened on the tab Trace.`, true);
+    return null;
+  }
   const text = textOf(library.image, library.map, lines);
   desk.bring(kept);
   return text;
@@ -124,23 +132,21 @@ function lunch() {
 
 // ---- steps and runs
 
-function refused(what, why) {
-  tell(`${what} is refused: ${words.refusal(why)}.`, true);
-}
-
 function step() {
-  const was = desk.pc, why = desk.step();
-  if (why !== 0) return refused("The step", why);
+  const was = hex(desk.pc), why = desk.step(), blank = () => words.blank(desk.told, library.map);
+  if (why !== 0) return tell(`The step is refused: ${words.refusal(why)}.`, true);
   processor.from = null;
+  const last = desk.log.entries.at(-1);
   if (desk.cause === CAUSE.lock) tell("The processor is locked up: only Power up helps.", true);
-  else if (desk.told !== null) tell(`A blank: ${words.blank(desk.told, library.map)}. What stands at ${hex(was)} was dropped, and PC is where location 0012 points.`, true);
-  else tell(`Step ${grouped(desk.steps - 1)} at ${hex(was)}: ${desk.log.entries.at(-1).words}. ${desk.log.entries.at(-1).changes}`);
+  else if (desk.told === null) tell(`Step ${grouped(desk.steps - 1)} at ${was}: ${last.words}. ${last.changes}`);
+  else tell(`A blank: ${blank()}. What stands at ${was} was dropped, and PC is where location 0012 points.`, true);
   show();
 }
 
 function stepBack() {
   const undone = desk.back();
-  tell(undone === null ? "Nothing is left to take back." : undone === "" ? `Back: ${counted(desk.steps, "step")} made.` : `Undone: ${undone}.`);
+  if (undone === null) tell("Nothing is left to take back.");
+  else tell(undone === "" ? `Back: ${counted(desk.steps, "step")} made.` : `Undone: ${undone}.`);
   processor.from = null;
   show();
 }
@@ -174,29 +180,10 @@ async function run(most, asked) {
   const last = ["blank", "lock", "interrupt", "switch", "write"].includes(end.how) && end.steps > 0 ? desk.again() : null;
   if (end.steps > 1 || last === null) desk.log.add(from, place, `a run of ${counted(end.steps - (last ? 1 : 0), "step")}`, end.blanks > 1);
   if (last !== null) desk.logStep(last);
-  const [told, bad] = inWords(end, last);
+  const [told, bad] = howEnded(desk, end, last);
   show();
   tell(told, bad);
   at(asked === null ? "run" : "until").focus();
-}
-
-// How a run ended, and what stood where its last step began.
-function inWords(end, last) {
-  const steps = counted(end.steps, "step"), blank = () => words.blank(desk.told ?? end.first.address, library.map);
-  const met = last === null ? "" : `${last.text} at ${hex(last.at)} met a blank: `;
-  const blanks = end.blanks === 0 ? "no step met a blank" : `${counted(end.blanks, "step")} met a blank, the first was step ${grouped(end.first.step)}, at ${hex(end.first.address)}`;
-  switch (end.how) {
-    case "refused": return [`The run is refused: ${words.refusal(end.at)}.`, true];
-    case "blank": return [`Step ${grouped(desk.steps - 1)}, ${met}${blank()}.`, true];
-    case "lock": return [`The processor is locked up${desk.told === null ? "" : `: ${blank()}`}. Only Power up helps.`, true];
-    case "interrupt": return [`${words.cause(desk.cause)} was taken in step ${grouped(desk.steps - 1)}.`, false];
-    case "switch": return [`The halt option was taken in step ${grouped(desk.steps - 1)}.`, false];
-    case "address": return [`Stopped at ${hex(end.at)} after ${steps}.`, false];
-    case "write": return [`Stopped after ${steps}: ${hex(end.at)} was written by ${last.text} at ${hex(last.at)}.`, false];
-    case "waits": return [`After ${steps} the processor is ${words.mode(desk.mode)}. Set a line switch, then run on.`, false];
-    case "asked": return [`Stopped after ${steps}; ${blanks}.`, end.blanks > 0];
-    default: return [`${steps} made; ${blanks}${desk.mode === MODE.locked ? "; the processor is locked up" : ""}.`, end.blanks > 0 || desk.mode === MODE.locked];
-  }
 }
 
 function runCount() {
@@ -209,14 +196,14 @@ function runCount() {
 // ---- keys, files dropped
 
 function makeKeys(tabs) {
-  const keys = { s: () => step(), b: () => stepBack(), r: () => runCount(), u: () => run(MOST_TO_A_STOP, stops), p: () => at("power").click(), "?": () => at("help").showModal() };
+  const keys = { s: "step", b: "back", r: "run", u: "until", p: "power", "?": "keys" };
   document.addEventListener("keydown", (event) => {
     if (event.key === "Escape" && runner.running) return runner.stop();
     const typing = /^(INPUT|TEXTAREA|SELECT)$/.test(event.target.tagName) && event.target.type !== "checkbox";
     if (runner.running || typing || event.ctrlKey || event.altKey || event.metaKey || at("help").open) return;
     const tab = tabs[Number(event.key) - 1];
     if (tab) openTab(tab), at(`to-${tab}`).focus();
-    else if (event.key.toLowerCase() in keys) event.preventDefault(), keys[event.key.toLowerCase()]();
+    else if (event.key.toLowerCase() in keys) event.preventDefault(), at(keys[event.key.toLowerCase()]).click();
   });
 }
 
@@ -241,7 +228,7 @@ function chooser(button, input, isTrace) {
 
 // What the page did not foresee is told, never silent.
 function makeAlarm() {
-  const alarm = (why) => tell(`The page made a mistake, which is no mistake of the job's: ${why?.message ?? why}. Save the desk for later and open it again.`, true);
+  const alarm = (why) => tell(`The page made a mistake, and not the job: ${why?.message ?? why}. Save the desk and open it again.`, true);
   addEventListener("error", (event) => alarm(event.error ?? event.message));
   addEventListener("unhandledrejection", (event) => alarm(event.reason));
 }
@@ -263,7 +250,7 @@ function start() {
   const first = FIRST in GIVEN.samples ? FIRST : Object.keys(GIVEN.samples)[0];
   at("sample").value = first;
   sample(first);
-  tell(`${at("told").textContent} Step goes on step by step, Run to a stop to the first blank. Open… takes your own job; so does dropping its file here.`);
+  tell(`${at("told").textContent} ${BEGINNING}`);
 }
 
 start();

@@ -15,10 +15,11 @@ export function joinedText(text, patch, board, library, words) {
   if (patch.trim() !== "") lines.push("; the patch", ".ORG 0000", ...linesIn(patch.trimEnd()));
   const whole = lines.flat().join("\n") + "\n", again = jobOf(whole, "", library, words);
   if (again.bytes.length !== job.bytes.length || again.bytes.some((byte, n) => byte !== job.bytes[n]))
-    throw new TextError("the job and its patch don't go into one text: save them for after lunch, or put the patch's lines into the job by hand");
+    throw new TextError("the job and its patch don't go into one text: save the desk for later, or put the patch into the job by hand");
   return whole;
 }
 
+const said = (one) => `${hex(one.address)} = ${one.label ?? hex(one.value)}`;
 const over = (line) => `; under the patch: ${line.trim()}`;
 
 // Lines ADDRESS = WORDS of which the patch writes over some words keep the others.
@@ -27,7 +28,7 @@ function withoutWords(lines, text, taken) {
   for (const one of readLines(text).words) byLine.set(one.place.line, [...(byLine.get(one.place.line) ?? []), one]);
   for (const [line, entries] of byLine)
     if (entries.some((one) => taken.has(one.address)))
-      lines[line - 1] = [over(lines[line - 1]), ...entries.filter((one) => !taken.has(one.address)).map((one) => `${hex(one.address)} = ${one.label ?? hex(one.value)}`)];
+      lines[line - 1] = [over(lines[line - 1]), ...entries.filter((one) => !taken.has(one.address)).map(said)];
 }
 
 // So do the assembler's lines: what is left of them are words, and the origin goes on where it was.
@@ -37,8 +38,9 @@ function withoutSource(lines, text, taken, job, library, words) {
     if (!line.hasWords()) return;
     const mine = pairs.filter(([address]) => address >= told.all[n] && address < told.all[n + 1]);
     if (!mine.some(([address]) => taken.has(address))) return;
-    const left = mine.filter(([address]) => !taken.has(address)).flatMap(([address, word]) => [`.ORG ${hex(address)}`, `.WORD ${hex(word)}`]);
-    lines[line.line - 1] = [over(lines[line.line - 1]), ...(line.label ? [`${line.label}:`] : []), ...left, `.ORG ${hex(mine.at(-1)[0] + 2 & 0xFFFF)}`];
+    const left = mine.filter(([address]) => !taken.has(address)), at = line.line - 1;
+    const kept = left.flatMap(([address, word]) => [`.ORG ${hex(address)}`, `.WORD ${hex(word)}`]);
+    lines[at] = [over(lines[at]), ...(line.label ? [`${line.label}:`] : []), ...kept, `.ORG ${hex(mine.at(-1)[0] + 2 & 0xFFFF)}`];
   });
 }
 
@@ -46,6 +48,8 @@ function withoutSource(lines, text, taken, job, library, words) {
 function withBoard(lines, text, board) {
   const job = readLines(text);
   if (board.every((value, n) => value === job.board[n])) return;
-  for (const place of job.boardPlaces) if (place && typeof lines[place.line - 1] === "string") lines[place.line - 1] = `; was: ${lines[place.line - 1].trim()}`;
-  lines.push(`microm ${board[SETTINGS.microm] === 1 ? "yes" : "no"}`, `jumpers up ${board[SETTINGS.up]} halt ${board[SETTINGS.halt]}`, `external ${hex(board[SETTINGS.external], 2)}`);
+  const own = new Set(job.boardPlaces.filter((place) => place).map((place) => place.line - 1));
+  for (const at of own) lines[at] = `; was: ${lines[at].trim()}`;
+  lines.push(`microm ${board[SETTINGS.microm] === 1 ? "yes" : "no"}`);
+  lines.push(`jumpers up ${board[SETTINGS.up]} halt ${board[SETTINGS.halt]}`, `external ${hex(board[SETTINGS.external], 2)}`);
 }

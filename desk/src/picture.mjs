@@ -1,7 +1,7 @@
 // The picture of a channel: readings as dots, missing cards as gaps, a limit as a line. A missing card is never a zero.
 import { degrees, gaps, inWords } from "./recorder.mjs";
 
-const WIDTH = 300, HEIGHT = 92, LEFT = 40, RIGHT = 6, TOP = 8, BOTTOM = 16, LETTER = 10;
+const WIDTH = 300, HEIGHT = 92, LEFT = 40, RIGHT = 6, TOP = 8, BOTTOM = 16, LETTER = 10, WORDS = 44;
 
 // The SVG of a channel over the scans that were made.
 export function picture(report, rows, channel, limit) {
@@ -14,22 +14,28 @@ export function picture(report, rows, channel, limit) {
   if (limit !== null) parts.push(`<path class="limit" d="M${LEFT} ${y(limit).toFixed(1)}H${WIDTH - RIGHT}"/>`);
   const dots = { reading: "", over: "" };
   rows.forEach((row, n) => {
-    if (row[channel] !== null) dots[limit !== null && row[channel] > limit ? "over" : "reading"] += `M${x(n).toFixed(1)} ${y(row[channel]).toFixed(1)}h.01`;
+    const value = row[channel], kind = limit !== null && value > limit ? "over" : "reading";
+    if (value !== null) dots[kind] += `M${x(n).toFixed(1)} ${y(value).toFixed(1)}h.01`;
   });
-  for (const [kind, path] of Object.entries(dots)) if (path !== "") parts.push(`<path class="${kind}" stroke-width="${Math.max(2, Math.min(6, wide)).toFixed(1)}" d="${path}"/>`);
+  const size = Math.max(2, Math.min(6, wide)).toFixed(1);
+  for (const [kind, path] of Object.entries(dots))
+    if (path !== "") parts.push(`<path class="${kind}" stroke-width="${size}" d="${path}"/>`);
   parts.push(...scale([...(report.readings > 0 ? [report.highest, report.lowest] : []), ...(limit === null ? [] : [limit])], limit, y));
-  return `<svg class="channel" viewBox="0 0 ${WIDTH} ${HEIGHT}" role="img" aria-label="${inWords(report, rows, channel, limit)}">${parts.join("")}</svg>`;
+  const words = inWords(report, rows, channel, limit);
+  return `<svg class="channel" viewBox="0 0 ${WIDTH} ${HEIGHT}" role="img" aria-label="${words}">${parts.join("")}</svg>`;
 }
 
 function frame(scans) {
   const bottom = HEIGHT - BOTTOM;
-  return `<path class="frame" d="M${LEFT} ${TOP}V${bottom}H${WIDTH - RIGHT}"/>` + (scans > 0 ? text(LEFT + 4, HEIGHT - 4, "scan 1", "start") : "") +
-    (scans > 1 ? text(WIDTH - RIGHT, HEIGHT - 4, String(scans), "end") : "");
+  const first = scans > 0 ? text(LEFT + 4, HEIGHT - 4, "scan 1", "start") : "";
+  const last = scans > 1 ? text(WIDTH - RIGHT, HEIGHT - 4, String(scans), "end") : "";
+  return `<path class="frame" d="M${LEFT} ${TOP}V${bottom}H${WIDTH - RIGHT}"/>${first}${last}`;
 }
 
 // A stretch without the card, from one scan to another.
 function gapAt([first, last], wide) {
-  const left = LEFT + wide * (first - 1), width = wide * (last - first + 1), words = width > 44 ? text(left + width / 2, HEIGHT / 2 - 2, "no card", "middle") : "";
+  const left = LEFT + wide * (first - 1), width = wide * (last - first + 1);
+  const words = width > WORDS ? text(left + width / 2, HEIGHT / 2 - 2, "no card", "middle") : "";
   return `<rect class="gap" x="${left.toFixed(1)}" y="${TOP}" width="${width.toFixed(1)}" height="${HEIGHT - TOP - BOTTOM}"/>${words}`;
 }
 

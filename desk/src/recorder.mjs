@@ -9,14 +9,16 @@ export function nextScan(desk) {
   if (desk.scansMade === 0) desk.runOwn();
   const why = library.scan(lines, channels);
   desk.scansMade = number;
-  if (why !== 0) return { words: `Scan ${number} is refused and counts nothing: ${desk.words.refusal(why)} (line ${line} of the job).`, bad: true };
+  if (why !== 0)
+    return { words: `Scan ${number} is refused and counts nothing: ${desk.words.refusal(why)} (line ${line} of the job).`, bad: true };
   desk.rows.push(channels);
   desk.steps += lines.length;
   const missing = channels.flatMap((value, n) => (value === null ? [n] : [])), blanks = wordAt(library.tally, TALLY.blanks);
   const first = wordAt(library.tally, TALLY.address);
   desk.hit = blanks > 0 ? pageOf(first) : null;
   const cards = missing.length === 0 ? "all cards in" : `no card in ${missing.length === 1 ? "channel" : "channels"} ${missing.join(", ")}`;
-  return { words: `Scan ${number}: ${cards}${blanks > 0 ? `; ${counted(blanks, "step")} met a blank, the first at ${hex(first)}` : ""}.`, bad: missing.length > 0 };
+  const met = blanks > 0 ? `; ${counted(blanks, "step")} met a blank, the first at ${hex(first)}` : "";
+  return { words: `Scan ${number}: ${cards}${met}.`, bad: missing.length > 0 };
 }
 
 export function reports(library) {
@@ -28,8 +30,9 @@ export function tableOf(all) {
   const rows = ["channel  readings  blanks  lowest  highest     average"];
   all.forEach((one, n) => {
     const none = one.readings === 0, cell = (value, width) => String(value).padStart(width);
-    rows.push(cell(n, 7) + cell(one.readings, 10) + cell(one.blanks, 8) + cell(none ? "--" : one.lowest, 8) + cell(none ? "--" : one.highest, 9) +
-      (none ? cell("--", 12) : `${cell(one.sum, 12)}/${one.readings}`));
+    const told = (value, width) => cell(none ? "--" : value, width);
+    rows.push(cell(n, 7) + cell(one.readings, 10) + cell(one.blanks, 8) + told(one.lowest, 8) + told(one.highest, 9) +
+      told(one.sum, 12) + (none ? "" : `/${one.readings}`));
   });
   return rows.join("\n") + "\n";
 }
@@ -54,7 +57,8 @@ export function limitOf(text) {
 
 // What is over a limit of tenths: how many readings, and whether the average is, exactly.
 export function over(report, rows, channel, limit) {
-  return { readings: rows.filter((row) => row[channel] !== null && row[channel] > limit).length, average: report.readings > 0 && report.sum > limit * report.readings };
+  const readings = rows.filter((row) => row[channel] !== null && row[channel] > limit).length;
+  return { readings, average: report.readings > 0 && report.sum > limit * report.readings };
 }
 
 // Stretches of scans, from 1, in which a channel had no card.
@@ -72,11 +76,13 @@ export function gaps(rows, channel) {
 export function inWords(report, rows, channel, limit) {
   const missing = gaps(rows, channel).map(([first, last]) => (first === last ? `${first}` : `${first} to ${last}`)).join(", ");
   const parts = [`Channel ${channel}: ${counted(report.readings, "reading")}`];
-  if (report.readings > 0) parts.push(`from ${degrees(report.lowest)} to ${degrees(report.highest)} degrees, average ${averageDegrees(report)}`);
+  if (report.readings > 0)
+    parts.push(`from ${degrees(report.lowest)} to ${degrees(report.highest)} degrees, average ${averageDegrees(report)}`);
   if (missing !== "") parts.push(`no card in scan ${missing}`);
   if (limit !== null) {
     const high = over(report, rows, channel, limit);
-    parts.push(`limit ${degrees(limit)}: ${high.readings === 0 ? "no reading" : counted(high.readings, "reading")} over it${high.average ? ", the average is over it" : ""}`);
+    const readings = high.readings === 0 ? "no reading" : counted(high.readings, "reading");
+    parts.push(`limit ${degrees(limit)}: ${readings} over it${high.average ? ", the average is over it" : ""}`);
   }
   return parts.join("; ") + ".";
 }

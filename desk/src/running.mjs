@@ -98,8 +98,9 @@ export class Runner {
     this.made(lines, end, blank, 0, desk.told ?? 0);
     const wrote = watches ? writtenBy(library, before, lines[0], stops.writes) : null;
     end.how = this.ended(stops);
+    const here = desk.mode === MODE.running && stops.addresses.has(even(desk.pc));
     if (wrote !== null) end.how = "write", end.at = wrote;
-    else if (end.how === null && stops.addresses.has(even(desk.pc)) && desk.mode === MODE.running) end.how = "address", end.at = even(desk.pc);
+    else if (end.how === null && here) end.how = "address", end.at = even(desk.pc);
   }
 
   // Why a run that may stop stops after the last step, or null.

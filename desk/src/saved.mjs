@@ -12,9 +12,11 @@ export function savedText(desk, stops, limits, given) {
   return JSON.stringify({
     kind: KIND, format: FORMAT, layout: given.layout, version: given.version,
     name: desk.name, text: desk.text, patch: desk.patch, lines: lineRuns(desk.lines), taken: desk.taken, steps: desk.steps,
-    state: bytes("state"), map: Array.from(library.map).join(""), settings: bytes("settings"), recorder: bytes("recorder"), image: bytes("image"),
+    state: bytes("state"), map: Array.from(library.map).join(""), settings: bytes("settings"), recorder: bytes("recorder"),
+    image: bytes("image"),
     plugged: Array.from(desk.plugged).join(""), switches: desk.switches, useOwn: desk.useOwn,
-    scans: desk.scans.map(({ channels, lines, line }) => ({ channels, lines: lineRuns(lines), line })), scansMade: desk.scansMade, rows: desk.rows,
+    scans: desk.scans.map(({ channels, lines, line }) => ({ channels, lines: lineRuns(lines), line })),
+    scansMade: desk.scansMade, rows: desk.rows,
     labels: [...desk.labels], starts: [...desk.starts], stops, limits,
   }, null, 1) + "\n";
 }
@@ -29,8 +31,8 @@ export function bringBack(desk, text, given) {
     name: word(file.name, "name"), text: word(file.text, "text"), patch: word(file.patch, "patch"), lines: lineWords(file.lines),
     taken: whole(file.taken, "taken"), steps: whole(file.steps, "steps"), plugged: digits(file.plugged, "plugged"),
     switches: whole(file.switches, "switches"), useOwn: file.useOwn === true, scans: list(file.scans, "scans").map(scanFrom),
-    scansMade: whole(file.scansMade, "scansMade"), rows: list(file.rows, "rows").map(channels), labels: new Map(list(file.labels, "labels")),
-    starts: new Set(list(file.starts, "starts")),
+    scansMade: whole(file.scansMade, "scansMade"), rows: list(file.rows, "rows").map(channels),
+    labels: new Map(list(file.labels, "labels")), starts: new Set(list(file.starts, "starts")),
   };
   if (next.taken > next.lines.length || next.scansMade > next.scans.length) throw wrong("taken or scansMade");
   const job = desk.reread(next.text, next.patch);
@@ -50,14 +52,17 @@ function parsed(text, given) {
   }
   if (file === null || file.kind !== KIND) throw new TextError("no saved desk: it does not say that it is one");
   if (file.format !== FORMAT || file.layout !== given.layout)
-    throw new TextError(`a saved desk of another layout: format ${file.format}, layout ${file.layout}; this page has format ${FORMAT}, layout ${given.layout}`);
+    throw new TextError(`a saved desk of another layout: format ${file.format}, layout ${file.layout}; ` +
+      `this page has format ${FORMAT}, layout ${given.layout}`);
   return file;
 }
 
 // A run over no line words, on buffers beside the desk's, tells whether the library takes what the file has.
 function refuse(library, lent, words) {
-  library.trialState.set(lent.state), library.trialImage.set(lent.image), library.trialMap.set(lent.map), library.trialSettings.set(lent.settings);
-  const why = library.calls.wd16_run(...library.lent("trialState", "tally", "trialImage", "trialMap", "trialSettings"), library.at.lines, 0);
+  library.trialState.set(lent.state), library.trialImage.set(lent.image);
+  library.trialMap.set(lent.map), library.trialSettings.set(lent.settings);
+  const beside = library.lent("trialState", "tally", "trialImage", "trialMap", "trialSettings");
+  const why = library.calls.wd16_run(...beside, library.at.lines, 0);
   if (why !== 0) throw new TextError(`the saved desk is refused: ${words.refusal(why)}`);
 }
 

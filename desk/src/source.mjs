@@ -2,6 +2,7 @@
 // A line may be indented, and its blanks may be tabs or many. ; begins a comment, and so does # at the line's beginning or between
 // blanks. A label may stand for the word of .WORD: it is put into digits from the assembler's own table of labels.
 import { MOST_SOURCE_LINES, SOURCE_LINE, hex } from "./layout.mjs";
+import { grouped } from "./words.mjs";
 import { LABEL, TextError, isHex, isLabel, placed } from "./text.mjs";
 
 const WORD_OF_LABEL = new RegExp(`^(?:${LABEL}: )?\\.WORD (${LABEL})$`);
@@ -53,7 +54,8 @@ function sourceLine({ text: whole, line }) {
   const made = new SourceLine(text, columns, line), strange = /[^ -~]/.exec(text);
   if (strange) throw new TextError("a source has letters, digits and signs of ASCII alone", made.place(strange.index));
   if (text.length > SOURCE_LINE)
-    throw new TextError(`a line has ${SOURCE_LINE} characters at most without its comment; here are ${text.length}`, made.place(SOURCE_LINE, text.length - SOURCE_LINE));
+    throw new TextError(`a line has ${SOURCE_LINE} characters at most without its comment; here are ${text.length}`,
+      made.place(SOURCE_LINE, text.length - SOURCE_LINE));
   return made;
 }
 
@@ -62,7 +64,8 @@ export class Source {
   constructor(lines, library, words) {
     this.library = library, this.words = words;
     this.lines = lines.map(sourceLine).filter((line) => line !== null);
-    if (this.lines.length > MOST_SOURCE_LINES) throw new TextError(`36: a source has ${MOST_SOURCE_LINES} lines at most`, this.lines[MOST_SOURCE_LINES].place(0));
+    if (this.lines.length > MOST_SOURCE_LINES)
+      throw new TextError(`36: a source has ${grouped(MOST_SOURCE_LINES)} lines at most`, this.lines[MOST_SOURCE_LINES].place(0));
   }
 
   // The lines with digits for the labels of .WORD; before they are known, 0000.
@@ -107,7 +110,8 @@ export class Source {
     const head = line.text.slice(0, line.said).trimEnd(), text = line.text.slice(line.said);
     if (head !== "" && (head === ":" || !isLabel(head.slice(0, -1)) || ["SP", "PC"].includes(head.slice(0, -1))))
       return new TextError("24: a label is one to six capitals, no hex number, not SP or PC", line.place(0, head.length));
-    if (head !== "" && text !== "" && !line.text.slice(0, line.said).endsWith(" ")) return new TextError("24: a blank stands after a label's colon", line.place(line.said));
+    if (head !== "" && text !== "" && line.text[line.said - 1] !== " ")
+      return new TextError("24: a blank stands after a label's colon", line.place(line.said));
     if (text[0] === ".") return directive(line, text);
     const { why, column } = this.furthest(text);
     return new TextError(`24 (${why}): ${needed(why, text, column)}`, line.place(line.said + column));
@@ -118,7 +122,8 @@ export class Source {
   furthest(text) {
     const tries = ["00", "0000(PC)"].map((stands) => {
       const { plain, columns } = plainText(text, stands), { why, column } = this.library.readText(plain);
-      return why === 0 ? { why: 30, column: Math.min(text.length, text.indexOf(" ") + 1) } : { why, column: columns[column] ?? text.length };
+      if (why === 0) return { why: 30, column: Math.min(text.length, text.indexOf(" ") + 1) };
+      return { why, column: columns[column] ?? text.length };
     });
     return tries[1].column > tries[0].column ? tries[1] : tries[0];
   }
@@ -160,9 +165,11 @@ function plainText(text, stands) {
 
 function directive(line, text) {
   const name = text.split(" ")[0], value = text.slice(name.length + 1);
-  if (name !== ".WORD" && name !== ".ORG") return new TextError("24: .WORD and .ORG begin with a dot, and nothing else", line.place(line.said, name.length));
+  if (name !== ".WORD" && name !== ".ORG")
+    return new TextError("24: .WORD and .ORG begin with a dot, and nothing else", line.place(line.said, name.length));
   const example = isHex(value) && value.length <= 4 ? value.toUpperCase().padStart(4, "0") : "0080";
-  return new TextError(`24: four hex digits are needed: ${name} ${example}`, line.place(Math.min(line.said + name.length + 1, line.text.length), value.length));
+  const at = Math.min(line.said + name.length + 1, line.text.length);
+  return new TextError(`24: four hex digits are needed: ${name} ${example}`, line.place(at, value.length));
 }
 
 // What is needed at the column of an op code's text.

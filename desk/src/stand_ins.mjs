@@ -47,13 +47,15 @@ function listLine(calls, scratch) {
     if ((first | last) & 1 || last < first) return 23;
     const memory = bytes(calls);
     let count = 0;
-    for (let at = first; at <= last && count < 3 && memory[map + (at >> 8)] !== 0; at += 2, count++) memory.copyWithin(scratch + 2 * count, image + at, image + at + 2);
+    for (let at = first; at <= last && count < 3 && memory[map + (at >> 8)] !== 0; at += 2, count++)
+      memory.copyWithin(scratch + 2 * count, image + at, image + at + 2);
     let taken = 1, line = `${four(first)} ----`;
     if (count > 0) {
       const cut = calls.wd16_write_text(scratch, 2 * count, scratch + 16, 32, scratch + 64, 6) !== 0;
       taken = cut ? 1 : word(memory, scratch + 66);
       const words = Array.from({ length: taken }, (_, n) => four(word(memory, scratch + 2 * n)));
-      const said = cut ? `.WORD ${words[0]}` : String.fromCharCode(...memory.subarray(scratch + 16, scratch + 16 + word(memory, scratch + 64)));
+      const text = String.fromCharCode(...memory.subarray(scratch + 16, scratch + 16 + word(memory, scratch + 64)));
+      const said = cut ? `.WORD ${words[0]}` : text;
       line = [four(first), ...words, said].join(" ");
     }
     const next = first + 2 * taken;
@@ -91,12 +93,15 @@ function labelsOf(calls, scratch) {
     lines.forEach((line, n) => letters(memory, scratch + 32 * n, line));
     const why = calls.wd16_assemble(scratch, 32 * lines.length, scratch + 32768, 12290, scratch + 49152, 6);
     const pairs = new Map();
-    if (why === 0) for (let at = 2; at < word(memory, scratch + 49152); at += 4) pairs.set(word(memory, scratch + 32768 + at), word(memory, scratch + 32770 + at));
+    if (why === 0)
+      for (let at = scratch + 32770; at < scratch + 32768 + word(memory, scratch + 49152); at += 4)
+        pairs.set(word(memory, at), word(memory, at + 2));
     return { why, line: word(memory, scratch + 49156), pairs };
   };
   return (source, length, labels, labelsLength, answer) => {
     const memory = bytes(calls), count = length / 32;
-    const lines = Array.from({ length: count }, (_, n) => String.fromCharCode(...memory.subarray(source + 32 * n, source + 32 * n + 32)).trimEnd());
+    const line = (_, n) => String.fromCharCode(...memory.subarray(source + 32 * n, source + 32 * n + 32)).trimEnd();
+    const lines = Array.from({ length: count }, line);
     const whole = assembled(lines), many = Math.max(1, Math.min(256, 1022 - count >> 1));
     if (whole.why !== 0) return [0, 0, whole.line].forEach((value, n) => put(memory, answer + 2 * n, value)), whole.why;
     let free = 0;

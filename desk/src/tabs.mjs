@@ -15,10 +15,12 @@ export function makeTabs() {
   const sections = [...document.querySelectorAll("[data-tab]")], names = sections.map((section) => section.id.slice(4));
   document.querySelector(".tabs").append(...sections.map((section, n) => {
     section.setAttribute("role", "tabpanel"), section.setAttribute("aria-labelledby", `to-${names[n]}`);
-    const tab = made("button", { id: `to-${names[n]}`, role: "tab", "aria-controls": section.id, textContent: section.dataset.tab, onclick: () => openTab(names[n]) });
+    const tab = made("button", { id: `to-${names[n]}`, role: "tab", "aria-controls": section.id, textContent: section.dataset.tab });
+    tab.onclick = () => openTab(names[n]);
     tab.onkeydown = (event) => {
       const move = { ArrowRight: 1, ArrowLeft: -1 }[event.key];
-      if (move) openTab(names[(n + move + names.length) % names.length]), at(`to-${names[(n + move + names.length) % names.length]}`).focus();
+      const next = names[(n + (move ?? 0) + names.length) % names.length];
+      if (move) openTab(next), at(`to-${next}`).focus();
     };
     return tab;
   }));

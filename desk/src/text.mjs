@@ -22,7 +22,8 @@ export function linesIn(text) {
 
 // The words of a line, with = alone.
 export function wordsIn(text, line) {
-  return Array.from(text.matchAll(/=|[^ \t\f\v=]+/g), (found) => ({ text: found[0], place: placed(line, found.index + 1, found[0].length) }));
+  const word = (found) => ({ text: found[0], place: placed(line, found.index + 1, found[0].length) });
+  return Array.from(text.matchAll(/=|[^ \t\f\v=]+/g), word);
 }
 
 export function isHex(text) {

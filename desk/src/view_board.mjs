@@ -118,7 +118,10 @@ export class BoardView {
     };
     at("up").onchange = () => set(SETTINGS.up, Number(at("up").value), `power-up jumpers set to ${at("up").value}`);
     at("halt").onchange = () => set(SETTINGS.halt, Number(at("halt").value), `halt jumpers set to ${at("halt").value}`);
-    at("microm").onchange = () => set(SETTINGS.microm, at("microm").checked ? 1 : 0, `third microm ${at("microm").checked ? "fitted" : "taken out"}`);
+    at("microm").onchange = () => {
+      const fitted = at("microm").checked;
+      set(SETTINGS.microm, fitted ? 1 : 0, `third microm ${fitted ? "fitted" : "taken out"}`);
+    };
     at("external").onchange = () => {
       const value = hexFrom(at("external"), 0x3F, "an External Address Register");
       if (value !== null) set(SETTINGS.external, value, `External Address Register set to ${hex(value, 2)}`);
@@ -151,8 +154,10 @@ export class BoardView {
   }
 
   showStops() {
-    const { stops } = this, one = (set, address, words) => made("li", {}, `${words} ${hex(address)}`,
-      made("button", { textContent: "✕", "aria-label": `remove ${words} ${hex(address)}`, onclick: () => (set.delete(address), this.refresh()) }));
+    const { stops } = this, one = (set, address, words) => {
+      const remove = () => (set.delete(address), this.refresh()), text = `${words} ${hex(address)}`;
+      return made("li", {}, text, made("button", { textContent: "✕", "aria-label": `remove ${text}`, onclick: remove }));
+    };
     at("stops").replaceChildren(...[...stops.addresses].map((address) => one(stops.addresses, address, "at")),
       ...[...stops.writes].map((address) => one(stops.writes, address, "at a write to")));
     for (const name of Object.keys(UNTIL)) at(`at-${name}`).checked = stops.causes.has(name);

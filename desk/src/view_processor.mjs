@@ -5,7 +5,7 @@ import { rowsAround, wayOf } from "./listing.mjs";
 import { statusWord } from "./library.mjs";
 import { grouped } from "./words.mjs";
 
-const ROWS = 14;
+const ROWS = 14, LOGGED = 200;
 const SWITCHES = [["i0", LINE.i0], ["i1", LINE.i1], ["i3", LINE.i3], ["fail", LINE.powerFail]];
 
 export class ProcessorView {
@@ -58,7 +58,8 @@ export class ProcessorView {
       const changed = (before.state[STATE.indicators] ^ state[STATE.indicators]) & bit;
       return made("span", { textContent: `${name} ${state[STATE.indicators] & bit ? 1 : 0}`, className: changed ? "changed" : "" });
     });
-    const enable = made("span", { textContent: `I2 ${state[STATE.i2]}${state[STATE.mark] ? ", held for one op code" : ""}`, title: "the interrupt enable" });
+    const held = state[STATE.mark] ? ", held for one op code" : "";
+    const enable = made("span", { textContent: `I2 ${state[STATE.i2]}${held}`, title: "the interrupt enable" });
     at("status").replaceChildren(made("span", { textContent: `PS ${hex(statusWord(state, settings))}` }), ...flags, enable);
     at("mode").textContent = `After ${grouped(desk.steps)} steps: ${desk.words.mode(desk.mode)}.`;
     at("mode").className = desk.mode === MODE.locked ? "over" : "";
@@ -75,20 +76,26 @@ export class ProcessorView {
   }
 
   listLine(row) {
-    const { desk, stops } = this, now = row.address === even(desk.pc), stop = stops.addresses.has(row.address), way = wayOf(desk, row);
-    const part = (className, textContent) => made("span", { className, textContent });
-    const words = row.text === "----" ? "---- nothing is fitted" : row.text;
-    const line = made("button", { className: `line${now ? " now" : ""}${row.text === "----" ? " none" : ""}`, "data-address": hex(row.address), "aria-pressed": String(stop),
-      "aria-label": `${now ? "PC, " : ""}${stop ? "stop, " : ""}${hex(row.address)} ${row.label} ${words} ${way?.words ?? ""}` },
-    part("mark", `${now ? "▸" : ""}${stop ? "●" : ""}`), part("label", row.label), part("", hex(row.address)), part("", row.words.join(" ")),
-    made("span", {}, words, part("way", way === null ? "" : `  ${way.words}`)));
-    line.onclick = () => (stops.addresses.delete(row.address) || stops.addresses.add(row.address), this.refresh());
+    const { desk, stops } = this, { address, label } = row, at = hex(address);
+    const now = address === even(desk.pc), stop = stops.addresses.has(address), none = row.text === "----", way = wayOf(desk, row);
+    const words = none ? "---- nothing is fitted" : row.text, part = (className, textContent) => made("span", { className, textContent });
+    const said = `${now ? "PC, " : ""}${stop ? "stop, " : ""}${at} ${label} ${words} ${way?.words ?? ""}`;
+    const line = made("button", { className: `line${now ? " now" : ""}${none ? " none" : ""}`, "data-address": at });
+    line.setAttribute("aria-pressed", String(stop)), line.setAttribute("aria-label", said);
+    line.append(part("mark", `${now ? "▸" : ""}${stop ? "●" : ""}`), part("label", label), part("", at), part("", row.words.join(" ")),
+      made("span", {}, words, part("way", way === null ? "" : `  ${way.words}`)));
+    line.onclick = () => (stops.addresses.delete(address) || stops.addresses.add(address), this.refresh());
     return line;
   }
 
   showLog() {
-    at("log").replaceChildren(...this.desk.log.entries.slice(-200).reverse().map((entry) => made("li", { className: entry.bad ? "bad" : "" },
-      made("span", { textContent: entry.at === null ? "" : grouped(entry.step) }), made("span", { textContent: entry.at === null ? "" : hex(entry.at) }),
-      made("span", {}, entry.words, made("span", { className: "changes", textContent: entry.changes ? `   ${entry.changes}` : "" })))));
+    at("log").replaceChildren(...this.desk.log.entries.slice(-LOGGED).reverse().map(logLine));
   }
+}
+
+function logLine({ step, at: place, words, bad, changes }) {
+  const part = (textContent) => made("span", { textContent });
+  const changed = made("span", { className: "changes", textContent: changes && `   ${changes}` });
+  const [number, address] = place === null ? ["", ""] : [grouped(step), hex(place)];
+  return made("li", { className: bad ? "bad" : "" }, part(number), part(address), made("span", {}, words, changed));
 }

@@ -21,10 +21,11 @@ export class RecorderView {
   }
 
   figure(channel) {
-    const drawn = made("div"), caption = made("span"), limit = made("input", { id: `limit-${channel}`, "aria-label": `limit of channel ${channel} in degrees` });
+    const drawn = made("div"), caption = made("span"), name = made("b", { textContent: `Channel ${channel} ` });
+    const limit = made("input", { id: `limit-${channel}`, "aria-label": `limit of channel ${channel} in degrees` });
     limit.onchange = () => this.limit(limit, [channel]);
-    return { drawn, caption, limit, element: made("figure", { id: `channel-${channel}` },
-      made("figcaption", {}, made("label", { className: "no-print" }, "limit ", limit), made("b", { textContent: `Channel ${channel} ` }), caption), drawn) };
+    const head = made("figcaption", {}, made("label", { className: "no-print" }, "limit ", limit), name, caption);
+    return { drawn, caption, limit, element: made("figure", { id: `channel-${channel}` }, head, drawn) };
   }
 
   // Sets the limit of channels from what was written, in degrees.
@@ -54,7 +55,8 @@ export class RecorderView {
   }
 
   none() {
-    return this.desk.scans.length === 0 ? "The job has no scans: a line of its text, scan 205 -- .., is one." : "The job has no further scan.";
+    if (this.desk.scans.length > 0) return "The job has no further scan.";
+    return "The job has no scans: a line of its text, scan 205 -- .., is one.";
   }
 
   // Tells a scan in the log; answers whether one is left.
@@ -67,22 +69,27 @@ export class RecorderView {
   async all() {
     const { desk } = this, first = desk.scansMade + 1, rows = desk.rows.length;
     if (desk.scansMade === desk.scans.length) return tell(this.none());
-    await this.repeat(() => this.logged(nextScan(desk)), () => tell(`${grouped(desk.scansMade)} of ${counted(desk.scans.length, "scan")} …`));
+    const progress = () => tell(`${grouped(desk.scansMade)} of ${counted(desk.scans.length, "scan")} …`);
+    await this.repeat(() => this.logged(nextScan(desk)), progress);
     desk.done(`scans ${first} to ${desk.scansMade} made`);
     const asked = desk.scansMade - first + 1, refused = asked - (desk.rows.length - rows);
-    const missing = reports(desk.library).flatMap((report, channel) => (report.blanks > 0 ? [`channel ${channel} in ${counted(report.blanks, "scan")}`] : []));
-    const parts = [refused > 0 ? `${counted(refused, "scan")} refused: What happened tells why.` : "", missing.length > 0 ? `No card: ${missing.join(", ")}.` : "Every channel had its card in every scan."];
-    tell(`${counted(asked - refused, "scan")} made. ${parts.filter((part) => part !== "").join(" ")}`, missing.length > 0 || refused > 0);
+    const blanks = [...reports(desk.library).map((report) => report.blanks).entries()].filter(([, count]) => count > 0);
+    const missing = blanks.map(([channel, count]) => `channel ${channel} in ${counted(count, "scan")}`);
+    const why = refused > 0 ? ` ${counted(refused, "scan")} refused: What happened tells why.` : "";
+    const cards = missing.length > 0 ? `No card: ${missing.join(", ")}.` : "Every channel had its card in every scan.";
+    tell(`${counted(asked - refused, "scan")} made.${why} ${cards}`, missing.length > 0 || refused > 0);
     this.refresh();
   }
 
   show() {
     const { desk } = this, all = reports(desk.library), any = desk.scans.length > 0 || desk.rows.length > 0;
-    at("scans").textContent = desk.scans.length === 0 ? "no scans in this job" : `${grouped(desk.scansMade)} of ${counted(desk.scans.length, "scan")} made`;
+    const told = `${grouped(desk.scansMade)} of ${counted(desk.scans.length, "scan")} made`;
+    at("scans").textContent = desk.scans.length === 0 ? "no scans in this job" : told;
     at("scan").disabled = at("scans-all").disabled = desk.scansMade === desk.scans.length;
     at("channels").hidden = at("report").hidden = !any;
     all.forEach((report, channel) => this.showChannel(report, channel));
-    at("report").replaceChildren(made("tr", {}, ...HEADS.map((textContent, n) => made("th", { textContent, className: n > 0 && n < 8 ? "number" : "" }))), ...all.map((report, channel) => this.row(report, channel)));
+    const heads = HEADS.map((textContent) => made("th", { textContent, className: "number" }));
+    at("report").replaceChildren(made("tr", {}, ...heads), ...all.map((report, channel) => this.row(report, channel)));
     at("report-title").textContent = `Plug recorder: ${desk.name}, ${counted(desk.rows.length, "scan")}`;
     at("report-foot").textContent = `${this.about}. A missing card is a blank and counts to no average. Signed: ______________________`;
   }
@@ -90,17 +97,20 @@ export class RecorderView {
   showChannel(report, channel) {
     const { drawn, caption, limit, element } = this.figures[channel], set = this.limits[channel] ?? null;
     drawn.innerHTML = picture(report, this.desk.rows, channel, set);
-    caption.textContent = report.readings === 0 ? (report.blanks === 0 ? "no scan yet" : "no reading") : `${degrees(report.lowest)} to ${degrees(report.highest)} °C, average ${report.sum}/${report.readings} tenths, ${averageDegrees(report)} °C${report.blanks > 0 ? `, ${counted(report.blanks, "scan")} without card` : ""}`;
+    caption.textContent = captioned(report);
     caption.className = set !== null && over(report, this.desk.rows, channel, set).average ? "over" : "";
     element.className = caption.className;
     if (document.activeElement !== limit) limit.value = set === null ? "" : degrees(set);
   }
 
   row(report, channel) {
-    const none = report.readings === 0, set = this.limits[channel] ?? null, high = set === null ? null : over(report, this.desk.rows, channel, set);
-    const cells = [channel, report.readings, report.blanks, none ? "--" : degrees(report.lowest), none ? "--" : degrees(report.highest),
-      none ? "--" : `${report.sum}/${report.readings}`, none ? "--" : averageDegrees(report), set === null ? "" : degrees(set)];
-    return made("tr", { className: high && (high.average || high.readings > 0) ? "over" : report.blanks > 0 ? "missing" : "" }, ...cells.map((value) => made("td", { className: "number", textContent: value })), made("td", { textContent: judged(report, high) }));
+    const set = this.limits[channel] ?? null, high = set === null ? null : over(report, this.desk.rows, channel, set);
+    const told = report.readings === 0 ? ["--", "--", "--", "--"]
+      : [degrees(report.lowest), degrees(report.highest), `${report.sum}/${report.readings}`, averageDegrees(report)];
+    const cells = [channel, report.readings, report.blanks, ...told, set === null ? "" : degrees(set)];
+    const kind = high && (high.average || high.readings > 0) ? "over" : report.blanks > 0 ? "missing" : "";
+    const numbers = cells.map((textContent) => made("td", { className: "number", textContent }));
+    return made("tr", { className: kind }, ...numbers, made("td", { textContent: judged(report, high) }));
   }
 }
 
@@ -108,6 +118,15 @@ export class RecorderView {
 function judged(report, high) {
   const missing = report.blanks > 0 ? [`no card in ${counted(report.blanks, "scan")}`] : [];
   if (high === null) return missing.join("");
-  const told = report.readings === 0 ? "no reading" : high.average ? "average over the limit" : high.readings > 0 ? `${counted(high.readings, "reading")} over it` : "readings within it";
+  const some = high.readings > 0 ? `${counted(high.readings, "reading")} over it` : "readings within it";
+  const told = report.readings === 0 ? "no reading" : high.average ? "average over the limit" : some;
   return [told, ...missing].join("; ");
+}
+
+// A report in a picture's caption.
+function captioned(report) {
+  if (report.readings === 0) return report.blanks === 0 ? "no scan yet" : "no reading";
+  const missing = report.blanks > 0 ? `, ${counted(report.blanks, "scan")} without card` : "";
+  const average = `${report.sum}/${report.readings} tenths, ${averageDegrees(report)} °C`;
+  return `${degrees(report.lowest)} to ${degrees(report.highest)} °C, average ${average}${missing}`;
 }

@@ -23,13 +23,13 @@ export class TraceView {
 
   // Checks the bytes of a trace against the loaded job.
   check(name, bytes) {
-    if (bytes.length > SIZES.trace) return this.told(`${name} has ${grouped(bytes.length)} bytes; a trace has ${grouped(SIZES.trace)} at most.`, true);
+    if (bytes.length > SIZES.trace)
+      return this.told(`${name} has ${grouped(bytes.length)} bytes; a trace has ${grouped(SIZES.trace)} at most.`, true);
     const found = checkTrace(this.desk, bytes), job = this.desk.name;
     if (found.why !== 0) return this.told(`${name} is refused: ${this.desk.words.refusal(found.why)}.`, true);
-    if (found.found === 0) return this.told(`${name} is accepted: ${counted(found.count, "step")}, every field is the manual's (job ${job}, bench's board).`, false);
-    this.told(found.theirs === null ? `${name} ends before step ${found.step}; the job ${job} has more.`
-      : found.ours.after === null ? `${name} goes on with a step ${found.step}; the job ${job} has none.`
-        : `${name} is wrong at step ${found.step}: ${FIELDS[found.field]} is ${shown(found.theirs, found.field)}, right is ${shown(found.ours.after, found.field)}.`, true);
+    const accepted = `${name} is accepted: ${counted(found.count, "step")}, every field is the manual's (job ${job}, bench's board).`;
+    if (found.found === 0) return this.told(accepted, false);
+    this.told(`${name} ${firstWrong(found, job)}`, true);
     at("verdict").append(this.beside(found));
   }
 
@@ -40,11 +40,16 @@ export class TraceView {
 
   beside({ step, ours, theirs }) {
     const wrong = (n) => theirs !== null && ours.after !== null && theirs[n] !== ours.after[n];
-    const row = (name, values) => made("tr", {}, made("th", { textContent: name }), ...FIELDS.map((_, n) => made("td", { textContent: shown(values, n), className: name === "before" ? "mono" : wrong(n) ? "mono wrong" : "mono" })));
-    const table = made("table", { id: "beside", "aria-label": `step ${step}, theirs beside ours` }, made("tr", {}, made("th"), ...FIELDS.map((textContent, n) => made("th", { textContent, className: wrong(n) ? "wrong" : "" }))),
-      row("before", ours.from), row("theirs", theirs), row("ours", ours.after));
+    const kind = (name, n) => (name !== "before" && wrong(n) ? "mono wrong" : "mono");
+    const row = (name, values) => made("tr", {}, made("th", { textContent: name }),
+      ...FIELDS.map((_, n) => made("td", { textContent: shown(values, n), className: kind(name, n) })));
+    const heads = FIELDS.map((textContent, n) => made("th", { textContent, className: wrong(n) ? "wrong" : "" }));
+    const table = made("table", { id: "beside", "aria-label": `step ${step}, theirs beside ours` },
+      made("tr", {}, made("th"), ...heads), row("before", ours.from), row("theirs", theirs), row("ours", ours.after));
     const show = made("button", { id: "show-step", textContent: `Show step ${step} on the desk`, onclick: () => this.show(step) });
-    return made("div", {}, made("p", { className: "mono", textContent: `step ${step}, from 0: ${hex(ours.at)} ${ours.text}${ours.line === undefined ? "" : `, line word ${hex(ours.line)}`}` }), table, show);
+    const line = ours.line === undefined ? "" : `, line word ${hex(ours.line)}`;
+    const what = made("p", { className: "mono", textContent: `step ${step}, from 0: ${hex(ours.at)} ${ours.text}${line}` });
+    return made("div", {}, what, table, show);
   }
 
   // The desk before that step, from power-up on.
@@ -58,10 +63,17 @@ export class TraceView {
     }
     desk.mark();
     this.refresh();
-    tell(`The desk stands before step ${step}: Step makes it.${desk.isBench() ? "" : " The check is of bench's board, and this job has another."}`);
+    const other = desk.isBench() ? "" : " The check is of bench's board, and this job has another.";
+    tell(`The desk stands before step ${step}: Step makes it.${other}`);
   }
 }
 
 function shown(values, n) {
   return values === null ? "--" : n === FIELDS.length - 1 ? String(values[n]) : hex(values[n]);
+}
+
+function firstWrong({ step, field, ours, theirs }, job) {
+  if (theirs === null) return `ends before step ${step}; the job ${job} has more.`;
+  if (ours.after === null) return `goes on with a step ${step}; the job ${job} has none.`;
+  return `is wrong at step ${step}: ${FIELDS[field]} is ${shown(theirs, field)}, right is ${shown(ours.after, field)}.`;
 }

@@ -27,7 +27,8 @@ export class Words {
   // Why an address was a blank.
   blank(address, map) {
     const page = `page ${hex(pageOf(address), 2)}`;
-    return map[pageOf(address)] === PAGE.readOnly ? `${hex(address)} can't be written, ${page} is read-only` : `nothing is fitted at ${hex(address)}, ${page}`;
+    if (map[pageOf(address)] === PAGE.readOnly) return `${hex(address)} can't be written, ${page} is read-only`;
+    return `nothing is fitted at ${hex(address)}, ${page}`;
   }
 }
 

@@ -6,17 +6,34 @@ import path from "node:path";
 import { pathToFileURL } from "node:url";
 
 const SECONDS = 60;
+const FLAGS = ["--headless=new", "--no-sandbox", "--disable-gpu", "--disable-dev-shm-usage", "--no-first-run", "--remote-debugging-pipe"];
+const CODES = { Escape: 27, Enter: 13, ArrowRight: 39, ArrowLeft: 37, ArrowDown: 40, ArrowUp: 38, Tab: 9 };
+
+// Where the middle of an element is, once it is in sight, and whether nothing lies on it; null where there is none.
+const PLACE = `(selector) => {
+  const e = document.querySelector(selector);
+  if (!e) return null;
+  e.scrollIntoView({ block: "center" });
+  const r = e.getBoundingClientRect(), x = r.x + r.width / 2, y = r.y + r.height / 2, top = document.elementFromPoint(x, y);
+  return { x, y, top: r.width > 0 && (top === e || e.contains(top) || e.labels?.[0]?.contains(top)) };
+}`;
+const CHANGE = `(id, value) => {
+  const e = document.getElementById(id);
+  e.value = value;
+  e.dispatchEvent(new Event("change", { bubbles: true }));
+}`;
 
 export class Browser {
   constructor(command = "chromium") {
     this.folder = fs.mkdtempSync(path.join(os.tmpdir(), "desk-"));
-    this.process = spawn(command, ["--headless=new", "--no-sandbox", "--disable-gpu", "--disable-dev-shm-usage", "--no-first-run", `--user-data-dir=${this.folder}/profile`,
-      "--remote-debugging-pipe", "about:blank"], { stdio: ["ignore", "ignore", "ignore", "pipe", "pipe"] });
+    const stdio = ["ignore", "ignore", "ignore", "pipe", "pipe"];
+    this.process = spawn(command, [...FLAGS, `--user-data-dir=${this.folder}/profile`, "about:blank"], { stdio });
     this.next = 1, this.waiting = new Map(), this.events = [], this.errors = [], this.asked = [];
     let left = Buffer.alloc(0);
     this.process.stdio[4].on("data", (data) => {
       left = Buffer.concat([left, data]);
-      for (let end; (end = left.indexOf(0)) >= 0; left = left.subarray(end + 1)) this.received(JSON.parse(left.subarray(0, end).toString()));
+      for (let end; (end = left.indexOf(0)) >= 0; left = left.subarray(end + 1))
+        this.received(JSON.parse(left.subarray(0, end).toString()));
     });
   }
 
@@ -26,8 +43,10 @@ export class Browser {
       this.waiting.delete(message.id);
       if (message.error) reject(new Error(message.error.message));
       else resolve(message.result);
-    } else if (message.method === "Runtime.exceptionThrown") this.errors.push(message.params.exceptionDetails.exception?.description ?? message.params.exceptionDetails.text);
-    else if (message.method === "Network.requestWillBeSent") this.asked.push(message.params.request.url.slice(0, 80));
+    } else if (message.method === "Runtime.exceptionThrown") {
+      const { exception, text } = message.params.exceptionDetails;
+      this.errors.push(exception?.description ?? text);
+    } else if (message.method === "Network.requestWillBeSent") this.asked.push(message.params.request.url.slice(0, 80));
   }
 
   send(method, params = {}, session = this.session) {
@@ -77,11 +96,11 @@ export class Browser {
 
   // The mouse on the middle of an element, which must be there and on top.
   async click(selector) {
-    const place = await this.run(`(() => { const e = document.querySelector(${JSON.stringify(selector)}); if (!e) return null; e.scrollIntoView({ block: "center" });
-      const r = e.getBoundingClientRect(), x = r.x + r.width / 2, y = r.y + r.height / 2, top = document.elementFromPoint(x, y);
-      return { x, y, top: r.width > 0 && (top === e || e.contains(top) || e.labels?.[0]?.contains(top)) }; })()`);
-    if (place === null || !place.top) throw new Error(`${selector} can't be clicked: ${place === null ? "it is not there" : "something else is on top"}`);
-    for (const type of ["mousePressed", "mouseReleased"]) await this.send("Input.dispatchMouseEvent", { type, x: place.x, y: place.y, button: "left", clickCount: 1 });
+    const place = await this.run(`(${PLACE})(${JSON.stringify(selector)})`);
+    if (place === null) throw new Error(`${selector} can't be clicked: it is not there`);
+    if (!place.top) throw new Error(`${selector} can't be clicked: something else is on top, or it is not shown`);
+    const { x, y } = place;
+    for (const type of ["mousePressed", "mouseReleased"]) await this.send("Input.dispatchMouseEvent", { type, x, y, button: "left", clickCount: 1 });
   }
 
   // Writes over what an input or a text holds, as if typed.
@@ -93,24 +112,26 @@ export class Browser {
   }
 
   async choose(id, value) {
-    await this.run(`(() => { const e = document.getElementById(${JSON.stringify(id)}); e.value = ${JSON.stringify(value)}; e.dispatchEvent(new Event("change", { bubbles: true })); })()`);
+    await this.run(`(${CHANGE})(${JSON.stringify(id)}, ${JSON.stringify(value)})`);
   }
 
   async key(key, code = key) {
-    const windowsVirtualKeyCode = { Escape: 27, Enter: 13, ArrowRight: 39, ArrowLeft: 37, ArrowDown: 40, ArrowUp: 38, Tab: 9 }[key] ?? key.toUpperCase().charCodeAt(0);
-    await this.send("Input.dispatchKeyEvent", { type: key.length === 1 ? "keyDown" : "rawKeyDown", key, code, windowsVirtualKeyCode, ...(key.length === 1 ? { text: key } : {}) });
-    await this.send("Input.dispatchKeyEvent", { type: "keyUp", key, code, windowsVirtualKeyCode });
+    const letter = key.length === 1, pressed = { key, code, windowsVirtualKeyCode: CODES[key] ?? key.toUpperCase().charCodeAt(0) };
+    await this.send("Input.dispatchKeyEvent", { type: letter ? "keyDown" : "rawKeyDown", ...pressed, ...(letter ? { text: key } : {}) });
+    await this.send("Input.dispatchKeyEvent", { type: "keyUp", ...pressed });
   }
 
   // Chooses a file in a file input.
   async give(id, file) {
-    const { root } = await this.send("DOM.getDocument"), { nodeId } = await this.send("DOM.querySelector", { nodeId: root.nodeId, selector: `#${id}` });
+    const { root } = await this.send("DOM.getDocument");
+    const { nodeId } = await this.send("DOM.querySelector", { nodeId: root.nodeId, selector: `#${id}` });
     await this.send("DOM.setFileInputFiles", { nodeId, files: [path.resolve(file)] });
   }
 
   // Drops a file on the middle of the page.
   async drop(file) {
-    const data = { items: [], files: [path.resolve(file)], dragOperationsMask: 1 }, { x, y } = await this.run("({ x: innerWidth / 2, y: innerHeight / 2 })");
+    const data = { items: [], files: [path.resolve(file)], dragOperationsMask: 1 };
+    const { x, y } = await this.run("({ x: innerWidth / 2, y: innerHeight / 2 })");
     for (const type of ["dragEnter", "dragOver", "drop"]) await this.send("Input.dispatchDragEvent", { type, x, y, data });
   }
 

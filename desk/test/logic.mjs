@@ -14,7 +14,8 @@ import { Words } from "../src/words.mjs";
 import { more } from "./logic_runs.mjs";
 
 process.chdir(new URL("../..", import.meta.url).pathname);
-const given = JSON.parse(execFileSync("python3", ["desk/build.py", "--module", process.argv[2], "--given"], { maxBuffer: 1 << 24 }).toString());
+const asked = ["desk/build.py", "--module", process.argv[2], "--given"];
+const given = JSON.parse(execFileSync("python3", asked, { maxBuffer: 1 << 24 }).toString());
 const words = new Words(given.numbers), library = new Library(Buffer.from(given.module, "base64"));
 const newDesk = () => new Desk(new Library(Buffer.from(given.module, "base64")), words);
 const desk = new Desk(library, words);
@@ -39,7 +40,8 @@ function benchLine(tally) {
 // All that a desk has, in short.
 function snapshot(one = desk) {
   const { library: { state, image, map, settings, recorder } } = one;
-  return `${createHash("sha256").update(Buffer.concat([state, image, map, settings, recorder])).digest("hex")} ${[one.steps, one.taken, one.scansMade, one.rows.length]}`;
+  const digest = createHash("sha256").update(Buffer.concat([state, image, map, settings, recorder])).digest("hex");
+  return `${digest} ${[one.steps, one.taken, one.scansMade, one.rows.length]}`;
 }
 
 function refusal(text, patch = "") {
@@ -60,7 +62,8 @@ function lines() {
   for (const name of Object.keys(given.samples).filter((one) => one.endsWith(".txt"))) {
     const right = fs.readFileSync(`jobs/${name.slice(0, -4)}.line`, "utf8").trim(), refused = /^REFUSED (\d+)/.exec(right);
     if (refused) {
-      same(`${name} is refused`, `refused: ${words.refusal(Number(refused[1]))}`, refusal(...given.samples[name]).replace(/^\d+:\d+\+\d+ /, ""));
+      const told = refusal(...given.samples[name]).replace(/^\d+:\d+\+\d+ /, "");
+      same(`${name} is refused`, `refused: ${words.refusal(Number(refused[1]))}`, told);
       continue;
     }
     load(name);
@@ -136,7 +139,9 @@ function refusals() {
   ];
   for (const [text, right] of cases) same(JSON.stringify(text), right, refusal(text));
   same("of a patch", "patch 2:4+4 26: no line gives the label AWAY", refusal("pages 00", "NOP\nBR AWAY"));
-  same("one with all kinds of lines", "taken", refusal("\uFEFFpages 00 10-12\r\nread-only 12\r0016 = START # up\nmicrom no\njumpers halt 2\n.ORG 0080\n START:\tBR  START ; ever\nT: .WORD START\nlines 0000 x3"));
+  const all = ["\uFEFFpages 00 10-12\r", "read-only 12\r0016 = START # up", "microm no", "jumpers halt 2", ".ORG 0080", " START:\tBR  START ; ever",
+    "T: .WORD START", "lines 0000 x3"].join("\n");
+  same("one with all kinds of lines", "taken", refusal(all));
   same("its labels", [["START", 0x80], ["T", 0x82]], [...desk.labels]);
   same("its words", ["0080", "01FF", "0080"], [0x16, 0x80, 0x82].map((at) => hex(wordAt(library.image, at))));
   same("its board", [0, 3, 2, 0], [...library.settings]);
@@ -159,7 +164,8 @@ function listingAround() {
   same("a branch's way while the processor waits", 0x80, wayOf(desk, rowsAround(desk, 0x82, 1)[0]).target);
   desk.load("w", "pages 00\n0016 = 0080\n.ORG 0080\nMOV #1234,R2");
   desk.setRegister(7, 0x82);
-  same("PC in the midst of an op code", [[0x80, ".WORD B5C2"], [0x82, 0x82]], [[0x80, rowsAround(desk, null, 9)[0].text], [0x82, rowsAround(desk, null, 9)[1].address]]);
+  const [cut, here] = rowsAround(desk, null, 9);
+  same("PC in the midst of an op code", [".WORD B5C2", 0x82], [cut.text, here.address]);
   load("sob.txt");
   rowsAround(desk, null, 9).forEach((row) => wayOf(desk, row));
   same("nothing is changed by looking", true, desk.history.parts.at(-1).steps === 0 && desk.steps === 0);

@@ -88,10 +88,10 @@ export async function more({ given, words, newDesk, snapshot: of }) {
   // Steps taken back: each state on the way is as it was, across a pulled card, a change by hand, a patch, and a power-up.
   async function backwards() {
     load("card-pulled.txt");
-    const seen = [snapshot()], acts = [() => desk.step(), () => desk.step(), () => desk.step(), () => desk.pull(0xC0), () => desk.step(), () => desk.step(),
-      () => desk.poke(0x40, 0x1234), () => desk.protect(0), () => desk.protect(0), () => desk.assemble(".ORG 0040\nNOP"), () => desk.step(), () => desk.setRegister(3, 7),
-      () => desk.setBoard(1, 2, "jumpers"), () => desk.powerUp(), () => desk.step()];
-    for (const act of acts) act(), seen.push(snapshot());
+    const seen = [snapshot()], step = ["step"];
+    const acts = [step, step, step, ["pull", 0xC0], step, step, ["poke", 0x40, 0x1234], ["protect", 0], ["protect", 0], ["assemble", ".ORG 0040\nNOP"],
+      step, ["setRegister", 3, 7], ["setBoard", 1, 2, "jumpers"], ["powerUp"], step];
+    for (const [act, ...how] of acts) desk[act](...how), seen.push(snapshot());
     while (seen.length > 1) {
       seen.pop();
       assert.notStrictEqual(desk.back(), null);
@@ -121,7 +121,8 @@ export async function more({ given, words, newDesk, snapshot: of }) {
     const drawn = picture(report, desk.rows, 4, 50);
     same("a dot for each reading", 8, drawn.split("h.01").length - 1);
     same("a gap for the missing cards", 1, drawn.split('class="gap"').length - 1);
-    same("in words", true, drawn.includes("8 readings; from 5.9 to 6.1 degrees, average 6.01; no card in scan 5 to 8; limit 5.0: 8 readings over it, the average is over it."));
+    const told = "8 readings; from 5.9 to 6.1 degrees, average 6.01; no card in scan 5 to 8; limit 5.0: 8 readings over it, the average is over it.";
+    same("in words", true, drawn.includes(told));
     load("no-card.scans");
     while (nextScan(desk) !== null);
     const never = picture(desk.library.reportOf(15), desk.rows, 15, null);
@@ -138,7 +139,8 @@ export async function more({ given, words, newDesk, snapshot: of }) {
     same("the trace that is made", good.toString("hex"), Buffer.from(makeTrace(desk)).toString("hex"));
     same("accepted", [0, 0, 3], Object.values((({ why, found, count }) => ({ why, found, count }))(checkTrace(desk, good))));
     const found = checkTrace(desk, wrong);
-    same("the first wrong step", [1, 1, 8, "8F00", "0F00"], [found.found, found.step, found.field, hex(found.theirs[8]), hex(found.ours.after[8])]);
+    same("the first wrong step", [1, 1, 8], [found.found, found.step, found.field]);
+    same("theirs and ours", ["8F00", "0F00"], [hex(found.theirs[8]), hex(found.ours.after[8])]);
     desk.setBoard(1, 2, "other jumpers");
     same("on bench's board", "0F00", hex(checkTrace(desk, wrong).ours.after[8]));
     desk.back();
@@ -169,8 +171,10 @@ export async function more({ given, words, newDesk, snapshot: of }) {
     }
     same("after lunch", snapshot(other), snapshot(fresh));
     same("and the pictures' readings", other.rows, fresh.rows);
-    const was = snapshot(fresh), lost = (change) => thrown(() => bringBack(fresh, JSON.stringify({ ...JSON.parse(file), ...change }), given));
-    same("another layout", "a saved desk of another layout: format 1, layout 99; this page has format 1, layout " + given.layout, lost({ layout: 99 }));
+    const was = snapshot(fresh), changed = (change) => JSON.stringify({ ...JSON.parse(file), ...change });
+    const lost = (change) => thrown(() => bringBack(fresh, changed(change), given));
+    const other99 = `a saved desk of another layout: format 1, layout 99; this page has format 1, layout ${given.layout}`;
+    same("another layout", other99, lost({ layout: 99 }));
     same("another kind", "no saved desk: it does not say that it is one", lost({ kind: "shopping list" }));
     same("a bad map", `the saved desk is refused: ${words.refusal(3)}`, lost({ map: "9".repeat(256) }));
     same("a short image", "the saved desk's image can't be read", lost({ image: "00" }));
@@ -181,22 +185,24 @@ export async function more({ given, words, newDesk, snapshot: of }) {
 
   // A job with its patch and its board is one text, and reads to the same job; a job's bytes give a text that reads to them.
   function texts() {
-    const text = "pages 00\n0012 = 0090 0080 0080 # vectors\n.ORG 0080\nSTART: MOV #0005,R1\nAGAIN: ADD R1,R0\nINC R2\nSOB R1,AGAIN\nDONE: BR DONE\nlines 0000 x17\n";
+    const text = ["pages 00", "0012 = 0090 0080 0080 # vectors", ".ORG 0080", "START: MOV #0005,R1", "AGAIN: ADD R1,R0", "INC R2", "SOB R1,AGAIN",
+      "DONE: BR DONE", "lines 0000 x17", ""].join("\n");
     const patch = "ST: .ORG 0014\n.WORD 1234\n.ORG 0082\n.WORD 0009\n.ORG 0088\nNOP", board = [0, 1, 2, 0x2F];
-    const one = joinedText(text, patch, board, desk.library, words), again = jobOf(one, "", desk.library, words), both = jobOf(text, patch, desk.library, words);
-    same("one text", Buffer.from(both.bytes).toString("hex"), Buffer.from(again.bytes).toString("hex"));
+    const joined = (job, beside, on) => joinedText(job, beside, on, desk.library, words), read = (job, beside = "") => jobOf(job, beside, desk.library, words);
+    const inHex = ({ bytes }) => Buffer.from(bytes).toString("hex"), again = read(joined(text, patch, board));
+    same("one text", inHex(read(text, patch)), inHex(again));
     same("its board", board, again.board);
     same("its labels", 0x84, again.labels.get("AGAIN"));
-    same("a label given twice", "25: the label DONE is already given in line 8", thrown(() => joinedText(text, "DONE: NOP", [1, 3, 3, 0], desk.library, words)));
+    same("a label given twice", "25: the label DONE is already given in line 8", thrown(() => joined(text, "DONE: NOP", [1, 3, 3, 0])));
     for (const name of Object.keys(given.samples).filter((one) => !one.startsWith("refused"))) {
       load(name);
       const made = textOf(desk.library.image, desk.library.map, desk.lines);
       const kept = { image: desk.library.image.slice(), map: desk.library.map.slice(), lines: desk.lines };
       desk.load("again", made);
-      same(`${name} from its bytes`, [true, true, kept.lines], [desk.library.image.every((byte, n) => byte === kept.image[n] || desk.library.map[n >> 8] === PAGE.unfitted),
-        desk.library.map.every((byte, n) => byte === kept.map[n]), desk.lines]);
-      const whole = joinedText(given.samples[name][0], given.samples[name][1], [...jobOf(...given.samples[name], desk.library, words).board], desk.library, words);
-      same(`${name} saved`, Buffer.from(jobOf(...given.samples[name], desk.library, words).bytes).toString("hex"), Buffer.from(jobOf(whole, "", desk.library, words).bytes).toString("hex"));
+      same(`${name}: image from its bytes`, kept.image, desk.library.image.slice());
+      same(`${name}: map and lines from its bytes`, [kept.map, kept.lines], [desk.library.map.slice(), desk.lines]);
+      const right = read(...given.samples[name]), [job, beside] = given.samples[name];
+      same(`${name} saved`, inHex(right), inHex(read(joined(job, beside, right.board))));
     }
   }
 

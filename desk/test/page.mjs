@@ -183,7 +183,8 @@ async function long() {
 // Nothing is wider than the window; nothing asked of a network; every control has a name and was used.
 async function wholePage(width) {
   assert.strictEqual(await browser.run("document.documentElement.scrollWidth <= innerWidth"), true, `wider than ${width}`);
-  const nameless = await browser.run(`[...document.querySelectorAll("button, input, select, textarea")].filter((e) => !(e.textContent.trim() || e.getAttribute("aria-label") || e.labels?.length)).map((e) => e.id || e.outerHTML)`);
+  const nameless = await browser.run(`[...document.querySelectorAll("button, input, select, textarea")]
+    .filter((e) => !(e.textContent.trim() || e.getAttribute("aria-label") || e.labels?.length)).map((e) => e.id || e.outerHTML)`);
   assert.deepStrictEqual(nameless, [], "controls without a name");
   checks += 2;
 }
@@ -194,10 +195,12 @@ try {
   for (const part of [stepping, keys, cards, memory, stops, lines, ...fileParts(tools), long])
     await part().catch((why) => { throw new Error(`${part.name}: ${why.message}`, { cause: why }); });
   const all = await browser.run(`[...document.querySelectorAll("button[id], input[id], select[id]")].map((e) => e.id)`);
-  assert.deepStrictEqual(all.filter((id) => !used.has(id) && !/^(page|word|limit|reg)-|^at-lock$/.test(id)), [], "controls that were not used");
+  const unused = all.filter((id) => !used.has(id) && !/^(page|word|limit|reg)-|^at-lock$/.test(id));
+  assert.deepStrictEqual(unused, [], "controls that were not used");
   for (const [width, height, mobile, name] of [[1024, 700, false, "small"], [390, 844, true, "phone"]]) {
     await browser.open(page, width, height, mobile);
-    for (const one of await browser.run(`[...document.querySelectorAll("[role=tab]")].map((e) => e.id.slice(3))`)) await tab(one), await wholePage(width);
+    const tabs = await browser.run(`[...document.querySelectorAll("[role=tab]")].map((e) => e.id.slice(3))`);
+    for (const one of tabs) await tab(one), await wholePage(width);
     await tab("cards"), await runs("until"), await shot(name, mobile);
   }
   assert.deepStrictEqual(browser.errors, []);

@@ -9,10 +9,11 @@ export function fileParts({ browser, reads, holds, click, fill, choose, tab, idl
     await fill("job-editor textarea", "pages 00\n0016 = 0080\n0080 = zz\n"), await click("load");
     await reads("told", /^card-pulled\.txt: line 3, column 8: 'zz' is not a hex number, 0 to FFFF\. Nothing was changed\.$/);
     assert.match(await browser.run("document.querySelector('#job-editor .wrong').textContent"), /^line 3, column 8: 'zz'/);
-    assert.strictEqual(await browser.run("(() => { const a = document.querySelector('#job-editor textarea'); return a.value.slice(a.selectionStart, a.selectionEnd); })()"), "zz");
+    assert.strictEqual(await browser.run("getSelection().toString()"), "zz");
     await shot("wrong-line");
     await holds("reg-PC", "0080");
-    await fill("job-editor textarea", "pages 00\n0016 = START\n.ORG 0080\nSTART: MOV #0003,R1\nLOOP: SOB R1,LOOP\nDONE: BR DONE\n"), await click("load");
+    const loop = ["pages 00", "0016 = START", ".ORG 0080", "START: MOV #0003,R1", "LOOP: SOB R1,LOOP", "DONE: BR DONE", ""].join("\n");
+    await fill("job-editor textarea", loop), await click("load");
     await reads("list", /LOOP.*SOB R1,01 {2}→ 0084 LOOP/);
     await tab("patch");
     await fill("patch-editor textarea", ".ORG 0084\nSOB R1,AWAY"), await click("assemble");
@@ -80,7 +81,8 @@ export function fileParts({ browser, reads, holds, click, fill, choose, tab, idl
     await tab("recorder"), await click("scan"), await reads("told", /^Scan 1: all cards in/);
     await click("scans-all"), await idle(), await reads("told", /^11 scans made\. No card: channel 4 in 4 scans\.$/);
     await fill("limit-4", "5.0"), await reads("told", /^The limit is 5\.0 °C\.$/);
-    assert.match(await browser.run("document.querySelector('#channel-4 svg').getAttribute('aria-label')"), /8 readings; from 5\.9 to 6\.1 degrees, average 6\.01; no card in scan 5 to 8; limit 5\.0: 8 readings over it/);
+    const said = await browser.run("document.querySelector('#channel-4 svg').getAttribute('aria-label')");
+    assert.match(said, /8 readings; from 5\.9 to 6\.1 degrees, average 6\.01; no card in scan 5 to 8; limit 5\.0: 8 readings over it/);
     await reads("report", /4845\.96\.1481\/86\.015\.0average over the limit; no card in 4 scans/);
     await fill("limit-all", "warm"), await reads("told", /^'warm' is no limit/);
     await shot("recorder", true);
@@ -88,18 +90,20 @@ export function fileParts({ browser, reads, holds, click, fill, choose, tab, idl
     await browser.run("window.print = () => { window.printed = true; }"), await click("print");
     assert.strictEqual(await browser.run("window.printed"), true);
     await browser.send("Emulation.setEmulatedMedia", { media: "print" });
-    assert.strictEqual(await browser.run("getComputedStyle(document.querySelector('.controls')).display + getComputedStyle(document.querySelector('#report-title')).display"), "noneblock");
+    const shown = (selector) => browser.run(`getComputedStyle(document.querySelector("${selector}")).display`);
+    assert.deepStrictEqual([await shown(".controls"), await shown("#report-title")], ["none", "block"]);
     await shot("print", true);
     await browser.send("Emulation.setEmulatedMedia", { media: "" });
   }
 
   async function lunch() {
     await click("step"), await click("lunch");
-    const file = await browser.given("pulled-card.desk.json"), registers = await browser.run("[...document.querySelectorAll('#registers input')].map((e) => e.value).join()");
+    const all = () => browser.run("[...document.querySelectorAll('#registers input')].map((e) => e.value).join()");
+    const file = await browser.given("pulled-card.desk.json"), registers = await all();
     await choose("sample", "example.txt");
     await give("file", "lunch.json", fs.readFileSync(file));
     await reads("told", /^lunch\.json: the desk is as it was saved, after 147 steps\.$/);
-    assert.strictEqual(await browser.run("[...document.querySelectorAll('#registers input')].map((e) => e.value).join()"), registers);
+    assert.strictEqual(await all(), registers);
     await reads("report", /481\/86\.0114\.0/);
     await give("file", "torn.json", fs.readFileSync(file, "utf8").slice(0, 500));
     await reads("told", /^torn\.json: no saved desk: .* Nothing was changed\.$/);
