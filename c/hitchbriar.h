@@ -1,6 +1,6 @@
 /* The WD16 for C, on buffers that the caller lends: the processor, with power-up, one step, and runs over line words; the
-   text of one op code, written and read; the assembler for patches; the check of another shop's trace; and the plug
-   recorder: one scan, and the report of a channel.
+   text of one op code, written and read; the assembler for patches, and a source's labels; the listing; the job reader; the check
+   of another shop's trace; and the plug recorder: one scan, and the report of a channel.
 
    All of it is one library, libhitchbriar.a: `rt staticlib hitchbriar` proves it and writes it for x86-64, chips/library.sh
    makes it for other chips, and a release has it for each (docs/CHIPS.md). words.c beside this header is plain C: the words of
@@ -344,37 +344,43 @@ uint8_t wd16_assemble(const uint8_t *source, size_t source_length, uint8_t *sect
                       uint8_t *answer, size_t answer_length);
 
 enum {
-    WD16_LABELS = 4096,    /* bytes of the labels, at least */
-    WD16_LABEL = 4,        /* bytes of a line's label: */
-    WD16_LABEL_LENGTH = 0, /* the length of its label, two bytes, low byte first; 0 where it has none */
+    WD16_LABELS = 4096, /* bytes of the labels, at least */
+    WD16_LABEL = 4,     /* bytes of a line's label */
+};
+
+/* The bytes of a line's label, two each, low byte first. */
+enum {
+    WD16_LABEL_LENGTH = 0, /* the length of its label, which is the first bytes of the line; 0 where it has none */
     WD16_LABEL_VALUE = 2,  /* the address that the line begins at, which is the label's value */
 };
 
-/* Tells each line's label and its value, four bytes a line, in front of the labels. The label is the first bytes of the line. A line that
-   is no text and a label that is given again are refused, since they make values doubtful; a label that is missing, and words that are out
-   of place or out of reach, are not. The bytes after the last line's stay. The answer is the number of bytes written, 0, and the line of
-   a refusal. Refusals: 21 for the answer's length, 10 (the labels are under 4,096 bytes), 36, 24, 25. */
+/* Tells each line's label and its value, four bytes a line, in front of the labels. A line that is no text and a label that is
+   given again are refused, since they make values doubtful; a label that is missing, and words that are out of place or out of
+   reach, are not. The bytes after the last line's stay. The answer is the number of bytes written, 0, and the line of a refusal.
+   Refusals: 21 for the answer's length, 10, 36, 24, 25. */
 uint8_t wd16_labels(const uint8_t *source, size_t source_length, uint8_t *labels, size_t labels_length, uint8_t *answer,
                     size_t answer_length);
 
 /* ---- the listing and the job reader */
 
 enum {
-    WD16_LIST_TEXT = 52, /* bytes of the text, at least */
-    WD16_NEXT = 2,       /* the answer's: the address of the next line, 0 where there is none */
-    WD16_LAST = 4,       /* 1 where this is the last line, else 0 */
+    WD16_LIST_TEXT = 52, /* bytes of a listing line's buffer, at least */
 };
 
-/* Writes the listing's line at the address `first` of a stretch that ends at `last`, both even, in front of the text: address, words,
-   text, a space apart, one op code, and no line end. The bytes after it stay. The answer is the line's length, the address of the next
-   line, and whether this is the last. Nothing is run. Refusals: 21 for the answer's length, 1, 2, 3, 23 (an odd address, or a last below
-   the first), 8 (the text is under 52 bytes). */
+/* The bytes of a listing line's answer, after its length. */
+enum {
+    WD16_NEXT = 2, /* the address of the next line, 0 where there is none */
+    WD16_LAST = 4, /* 1 where this is the last line, else 0 */
+};
+
+/* Writes the listing's line at the address `first` of a stretch that ends at `last`, both even, in front of the text: address,
+   words, text, a space apart, one op code, and no line end. The bytes after it stay. The answer is the line's length, the address
+   of the next line, and whether this is the last. Nothing is run. Refusals: 21 for the answer's length, 1, 2, 3, 23, 8. */
 uint8_t wd16_list_line(const uint8_t *image, size_t image_length, const uint8_t *map, size_t map_length, uint16_t first,
                        uint16_t last, uint8_t *text, size_t text_length, uint8_t *answer, size_t answer_length);
 
-/* Reads a job into the image, the map and the line words, which are 4,096: what the job names, and 0 for all else. The answer is the number
-   of line words, 0 and 0. Refusals: 21 for the answer's length, 1, 2, 4 (the line words are not 4,096), then the job's own as of the check
-   of a trace. */
+/* Reads a job into the image, the map and the line words, which are 4,096: what the job names, and 0 for all else. The answer is
+   the number of line words, 0 and 0. Refusals: 21 for the answer's length, 1, 2, 4, then the job's own as of wd16_check_trace. */
 uint8_t wd16_read_job(const uint8_t *job, size_t job_length, uint8_t *image, size_t image_length, uint8_t *map,
                       size_t map_length, uint16_t *lines, size_t lines_length, uint8_t *answer, size_t answer_length);
 

@@ -24,6 +24,9 @@ static void nothing_lent(void)
     show("write_text", wd16_write_text(NULL, 0, NULL, 0, NULL, 0));
     show("read_text", wd16_read_text(NULL, 0, NULL, 0, NULL, 0));
     show("assemble", wd16_assemble(NULL, 0, NULL, 0, NULL, 0));
+    show("labels", wd16_labels(NULL, 0, NULL, 0, NULL, 0));
+    show("list_line", wd16_list_line(NULL, 0, NULL, 0, 0, 0, NULL, 0, NULL, 0));
+    show("read_job", wd16_read_job(NULL, 0, NULL, 0, NULL, 0, NULL, 0, NULL, 0));
     show("check_trace", wd16_check_trace(NULL, 0, NULL, 0, NULL, 0));
     show("scan", wd16_scan(NULL, 0, NULL, 0, NULL, 0, NULL, 0, NULL, 0, NULL, 0, NULL, 0, NULL, 0, NULL, 0));
     show("report", wd16_report(NULL, 0, NULL, 0, NULL, 0));
@@ -40,6 +43,8 @@ static void one_missing(void)
     show("no text", wd16_read_text(NULL, 0, words, sizeof words, answer, sizeof answer));
     show("no words' buffer", wd16_read_text((const uint8_t *)"NOP", 3, NULL, 0, answer, sizeof answer));
     show("no section", wd16_assemble(NULL, 0, NULL, 0, answer, sizeof answer));
+    show("no listing's buffer", wd16_list_line(image, sizeof image, map, sizeof map, 0, 0, NULL, 0, answer, sizeof answer));
+    show("no line buffer", wd16_read_job(NULL, 0, image, sizeof image, map, sizeof map, NULL, 0, answer, sizeof answer));
     show("no job", wd16_check_trace(NULL, 0, NULL, 0, verdict, sizeof verdict));
 }
 

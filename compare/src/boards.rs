@@ -11,10 +11,14 @@ use crate::machine::MOST_LINES;
 use crate::state::Mode;
 
 /// The calls that are made, and what they must answer.
-pub const BOARD_ANSWERS: [(Call, &[u8]); 2] = [
+pub const BOARD_ANSWERS: [(Call, &[u8]); 5] = [
     (Call::RunSame, &[0, 21, 1, 2, 3, 35, 5]),
     (Call::RunUntil, &[0, 21, 1, 2, 3, 35, 4, 5]),
+    (Call::ListLine, &[0, 21, 1, 2, 3, 23, 8]),
+    (Call::ReadJob, &READ_JOB),
+    (Call::Labels, &[0, 21, 10, 36, 24, 25]),
 ];
+const READ_JOB: [u8; 16] = [0, 21, 1, 2, 4, 11, 12, 13, 14, 15, 16, 17, 18, 19, 20, 22];
 
 /// A call, and the buffers that are lent to it.
 pub fn board_call(random: &mut Random, level: Level) -> (Call, Vec<Vec<u8>>) {
