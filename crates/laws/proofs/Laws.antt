@@ -1,6 +1,7 @@
 -- The laws of the crate's definitions.
 pub mod Always
 pub mod Append
+pub mod Boards
 pub mod Branches
 pub mod Calls
 pub mod Cards

@@ -5,3 +5,4 @@ pub mod Mark
 pub mod Recorded
 pub mod Branches
 pub mod Traces
+pub mod Boards

@@ -29,7 +29,7 @@ use Rattle.laws.proofs.Laws.One.{step-as-run, calls-one}
 use Rattle.laws.specs.Halves.{firstPlace, firstTold, Halves, stateAfter, still, RunJoined, RunNone, NoneBefore, NoneAfter, RunOne, Wd16RunJoined, Wd16RunOne}
 use Rattle.laws.proofs.Laws.Calls.{bytesFor, Within, call-answered, settings-taken, step-taken, buffers-taken, blanks-word, place-word, told-word, place-after, told-after, run-low}
 
-halves-of : (n : ℕ) (a b c : Ran) → c ≡ followed n a b → Halves n a b c
+pub halves-of : (n : ℕ) (a b c : Ran) → c ≡ followed n a b → Halves n a b c
 unfolding joined
 halves-of n a b c e = record { state = ap (λ z. z .state) e; blanks = ap (λ z. z .tally .blanks) e; firstBlank = ap (λ z. z .tally .first) e }
 
