@@ -47,10 +47,13 @@ def layout():
 
 
 def samples():
-    """The sample jobs, each with the patch that stands beside it, if there is one."""
+    """The sample jobs; one that has no words of its own with the patch that stands beside it, if there is one."""
     names = sorted(path for path in (ROOT / "jobs").iterdir() if path.suffix in (".txt", ".scans"))
-    texts = lambda path: path.read_text(encoding="utf-8") if path.exists() else ""
-    return {path.name: [texts(path), texts(path.with_suffix(".asm"))] for path in names}
+    made = {}
+    for path in names:
+        text, patch = path.read_text(encoding="utf-8"), path.with_suffix(".asm")
+        made[path.name] = [text, patch.read_text(encoding="utf-8") if "=" not in text and patch.exists() else ""]
+    return made
 
 
 def given(module, proved):

@@ -1,5 +1,5 @@
 // The library in WebAssembly: its calls, over buffers in its memory. Every call answers its number: 0, or that of its refusal.
-import { CHANNELS, LAST_WORD, MOST_LINES, REPORT, SETTINGS, SIZES, SOURCE_LINE, STATE, putWord, wordAt } from "./layout.mjs";
+import { CHANNELS, LAST_WORD, MODE, MOST_LINES, PAGE, REPORT, SIZES, SOURCE_LINE, STATE, putWord, wordAt } from "./layout.mjs";
 import { withStandIns } from "./stand_ins.mjs";
 
 export class Library {
@@ -47,6 +47,19 @@ export class Library {
   // A step of a state and an image beside the desk's, over the desk's map or a map beside it.
   trialStep(line, image = "trialImage", map = "trialMap") {
     return this.calls.wd16_step(...this.lent("trialState", image, map, "settings"), line);
+  }
+
+  // PS with bits 15 and 14 clear, as the processor itself stores it: SSTS R0 is executed beside the desk, on quiet lines.
+  statusWord() {
+    this.readText("SSTS R0");
+    const opCode = wordAt(this.words, 0);
+    this.trialState.set(this.state);
+    this.trialState[STATE.mode] = MODE.running;
+    putWord(this.trialState, STATE.pc, 0);
+    this.trialMap.fill(PAGE.fitted);
+    putWord(this.trialImage, 0, opCode);
+    this.trialStep(0);
+    return wordAt(this.trialState, 0);
   }
 
   putLines(lines) {
@@ -141,11 +154,6 @@ export class Library {
     return { why, readings: view.getUint16(REPORT.readings, true), blanks: view.getUint16(REPORT.blanks, true),
       lowest: view.getInt16(REPORT.lowest, true), highest: view.getInt16(REPORT.highest, true), sum: view.getInt32(REPORT.sum, true) };
   }
-}
-
-// PS as a trace has it, bits 15 and 14 clear: where the header says that each of its bits stands.
-export function statusWord(state, settings) {
-  return settings[SETTINGS.up] << 10 | settings[SETTINGS.halt] << 8 | state[STATE.i2] << 12 | state[STATE.indicators];
 }
 
 function latin(bytes, length) {

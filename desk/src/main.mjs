@@ -111,7 +111,7 @@ function back({ name, text }) {
   let kept;
   if (!trying(null, name, () => { kept = bringBack(desk, text, GIVEN); })) return;
   job.text = desk.text, patch.text = desk.patch;
-  stops.set(kept.stops), recorder.limits = kept.limits ?? {};
+  stops.set(kept.stops), recorder.limits = kept.limits;
   processor.from = null;
   tell(`${name}: the desk is as it was saved, after ${counted(desk.steps, "step")}.`);
   show();

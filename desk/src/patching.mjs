@@ -1,9 +1,11 @@
 // A job and its patch as one text, which reads to the same words: what the patch writes over is taken out of the job's own lines.
 import { SETTINGS, hex } from "./layout.mjs";
-import { jobOf } from "./job.mjs";
+import { jobOf, patchOf } from "./job.mjs";
 import { readLines } from "./jobtext.mjs";
 import { Source } from "./source.mjs";
-import { TextError, linesIn } from "./text.mjs";
+import { TextError, isLabel, linesIn } from "./text.mjs";
+
+const LETTERS = [..."QXZJKVWYUHGLMNOPRSTABCDEFI"];
 
 // The one text of a text, a patch, and a board; or a TextError where that can't be.
 export function joinedText(text, patch, board, library, words) {
@@ -12,11 +14,34 @@ export function joinedText(text, patch, board, library, words) {
   const taken = new Set(job.patch.map(([address]) => address));
   if (taken.size > 0) withoutWords(lines, text, taken), withoutSource(lines, text, taken, job, library, words);
   withBoard(lines, text, board);
-  if (patch.trim() !== "") lines.push("; the patch", ".ORG 0000", ...linesIn(patch.trimEnd()));
-  const whole = lines.flat().join("\n") + "\n", again = jobOf(whole, "", library, words);
-  if (again.bytes.length !== job.bytes.length || again.bytes.some((byte, n) => byte !== job.bytes[n]))
+  if (patch.trim() !== "") lines.push("; the patch", ".ORG 0000", ...linesIn(renamed(text, patch, library, words).trimEnd()));
+  const whole = lines.flat().join("\n") + "\n";
+  if (!readsTo(whole, job.bytes, library, words))
     throw new TextError("the job and its patch don't go into one text: save the desk for later, or put the patch into the job by hand");
   return whole;
+}
+
+function readsTo(text, bytes, library, words) {
+  try {
+    const again = jobOf(text, "", library, words);
+    return again.bytes.length === bytes.length && again.bytes.every((byte, n) => byte === bytes[n]);
+  } catch (why) {
+    if (why instanceof TextError) return false;
+    throw why;
+  }
+}
+
+// The patch with other names for labels that the job gives as well.
+function renamed(text, patch, library, words) {
+  const own = new Source(readLines(text).source, library, words).lines.map((line) => line.label);
+  const given = patchOf(patch, library, words).lines.map((line) => line.label), used = new Set([...own, ...given]);
+  let made = patch;
+  for (const label of given.filter((one) => one !== null && own.includes(one))) {
+    const free = LETTERS.map((letter) => label.slice(0, 5) + letter).find((name) => !used.has(name) && isLabel(name)) ?? label;
+    used.add(free);
+    made = made.replace(new RegExp(`\\b${label}\\b`, "g"), free);
+  }
+  return made;
 }
 
 const said = (one) => `${hex(one.address)} = ${one.label ?? hex(one.value)}`;

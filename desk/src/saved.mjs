@@ -32,15 +32,16 @@ export function bringBack(desk, text, given) {
     taken: whole(file.taken, "taken"), steps: whole(file.steps, "steps"), plugged: digits(file.plugged, "plugged"),
     switches: whole(file.switches, "switches"), useOwn: file.useOwn === true, scans: list(file.scans, "scans").map(scanFrom),
     scansMade: whole(file.scansMade, "scansMade"), rows: list(file.rows, "rows").map(channels),
-    labels: new Map(list(file.labels, "labels")), starts: new Set(list(file.starts, "starts")),
+    labels: new Map(list(file.labels, "labels").map(labelled)), starts: new Set(addresses(file.starts, "starts")),
   };
+  const stops = stopsFrom(file.stops), limits = limitsFrom(file.limits);
   if (next.taken > next.lines.length || next.scansMade > next.scans.length) throw wrong("taken or scansMade");
   const job = desk.reread(next.text, next.patch);
   for (const [name, bytes] of Object.entries(lent)) library[name].set(bytes);
   Object.assign(desk, next, { job, history: new History(), hit: null });
   desk.log.clear();
   desk.done("brought back from a file");
-  return { stops: file.stops, limits: file.limits };
+  return { stops, limits };
 }
 
 function parsed(text, given) {
@@ -97,6 +98,27 @@ function whole(value, what) {
 function list(value, what) {
   if (!Array.isArray(value)) throw wrong(what);
   return value;
+}
+
+function addresses(values, what) {
+  if (!list(values, what).every((value) => Number.isInteger(value) && value >= 0 && value <= 0xFFFF)) throw wrong(what);
+  return values;
+}
+
+function labelled(pair) {
+  if (!Array.isArray(pair) || pair.length !== 2) throw wrong("labels");
+  return [word(pair[0], "labels"), addresses([pair[1]], "labels")[0]];
+}
+
+function stopsFrom(stops) {
+  return { causes: list(stops?.causes, "stops"), addresses: addresses(stops.addresses, "stops"), writes: addresses(stops.writes, "stops") };
+}
+
+// Limits by channel, in tenths.
+function limitsFrom(limits) {
+  const good = ([channel, limit]) => Number(channel) < CHANNELS && Number.isInteger(limit);
+  if (typeof limits !== "object" || limits === null || !Object.entries(limits).every(good)) throw wrong("limits");
+  return limits;
 }
 
 function lineWords(text) {

@@ -1,6 +1,5 @@
 // Another shop's trace of a job, held by the library against the processor; its first wrong step beside ours.
 import { BENCH_BOARD, REGISTERS, STATE, even, putWord, wordAt } from "./layout.mjs";
-import { statusWord } from "./library.mjs";
 
 export const FIELDS = [...REGISTERS, "PS", "mode"], ENTRY = 2 * FIELDS.length;
 
@@ -18,7 +17,7 @@ function onBench(desk, bytes, work) {
 }
 
 function fieldsNow(library) {
-  return [...REGISTERS.map((_, n) => wordAt(library.state, 2 * n)), statusWord(library.state, library.settings), library.state[STATE.mode]];
+  return [...REGISTERS.map((_, n) => wordAt(library.state, 2 * n)), library.statusWord(), library.state[STATE.mode]];
 }
 
 // The trace of the desk's job as the processor makes it: bytes, which the library's own check accepts, or null if it does not.

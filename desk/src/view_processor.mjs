@@ -2,7 +2,6 @@
 import { INDICATORS, LINE, MODE, REGISTERS, STATE, even, hex, wordAt } from "./layout.mjs";
 import { at, hexFrom, made, pressed, tell } from "./elements.mjs";
 import { rowsAround, wayOf } from "./listing.mjs";
-import { statusWord } from "./library.mjs";
 import { grouped } from "./words.mjs";
 
 const ROWS = 14, LOGGED = 200;
@@ -48,7 +47,7 @@ export class ProcessorView {
   }
 
   showRegisters() {
-    const { desk, desk: { library: { state, settings }, before } } = this;
+    const { desk, desk: { library: { state }, before } } = this;
     this.cells.forEach((cell, n) => {
       cell.value = hex(desk.register(n));
       cell.classList.remove("wrong");
@@ -60,7 +59,7 @@ export class ProcessorView {
     });
     const held = state[STATE.mark] ? ", held for one op code" : "";
     const enable = made("span", { textContent: `I2 ${state[STATE.i2]}${held}`, title: "the interrupt enable" });
-    at("status").replaceChildren(made("span", { textContent: `PS ${hex(statusWord(state, settings))}` }), ...flags, enable);
+    at("status").replaceChildren(made("span", { textContent: `PS ${hex(desk.library.statusWord())}` }), ...flags, enable);
     at("mode").textContent = `After ${grouped(desk.steps)} steps: ${desk.words.mode(desk.mode)}.`;
     at("mode").className = desk.mode === MODE.locked ? "over" : "";
     for (const [id, bit] of SWITCHES) pressed(at(id), (desk.switches & bit) !== 0);

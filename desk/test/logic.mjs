@@ -6,7 +6,7 @@ import { createHash } from "node:crypto";
 import fs from "node:fs";
 import { Desk } from "../src/desk.mjs";
 import { NONE, TALLY, even, hex, wordAt } from "../src/layout.mjs";
-import { Library, statusWord } from "../src/library.mjs";
+import { Library } from "../src/library.mjs";
 import { rowsAround, wayOf } from "../src/listing.mjs";
 import { nextScan, reports, tableOf } from "../src/recorder.mjs";
 import { TextError } from "../src/text.mjs";
@@ -33,7 +33,7 @@ function load(name) {
 // bench's line: R0 to R5, SP, PC, PS, the mode, the blanks, the first one's place and its address.
 function benchLine(tally) {
   const first = wordAt(tally, TALLY.first), none = first === NONE;
-  return [...Array.from({ length: 8 }, (_, n) => hex(desk.register(n))), hex(statusWord(library.state, library.settings)), desk.mode,
+  return [...Array.from({ length: 8 }, (_, n) => hex(desk.register(n))), hex(library.statusWord()), desk.mode,
     hex(wordAt(tally, TALLY.blanks)), none ? "----" : hex(first), none ? "----" : hex(wordAt(tally, TALLY.address))].join(" ");
 }
 
@@ -145,6 +145,7 @@ function refusals() {
   same("its labels", [["START", 0x80], ["T", 0x82]], [...desk.labels]);
   same("its words", ["0080", "01FF", "0080"], [0x16, 0x80, 0x82].map((at) => hex(wordAt(library.image, at))));
   same("its board", [0, 3, 2, 0], [...library.settings]);
+  same("its PS", "0B00", hex(library.statusWord()));
 }
 
 // ---- the listing around PC, and where a branch goes

@@ -179,6 +179,9 @@ export async function more({ given, words, newDesk, snapshot: of }) {
     same("a bad map", `the saved desk is refused: ${words.refusal(3)}`, lost({ map: "9".repeat(256) }));
     same("a short image", "the saved desk's image can't be read", lost({ image: "00" }));
     same("no list", "the saved desk's rows can't be read", lost({ rows: [[1, 2]] }));
+    for (const [name, value] of [["stops", 3], ["stops", { causes: [], addresses: ["x"], writes: [] }], ["limits", { 99: 5 }], ["labels", [[1]]], ["starts", [-1]],
+      ["scans", [{}]], ["steps", -1], ["text", 5], ["lines", "zz"]])
+      same(`a bad ${name}`, true, /can't be read|not a hex number/.test(lost({ [name]: value })));
     same("a cut file", "no saved desk", thrown(() => bringBack(fresh, file.slice(0, 900), given)).slice(0, 13));
     same("nothing is changed by those", was, snapshot(fresh));
   }
@@ -193,7 +196,10 @@ export async function more({ given, words, newDesk, snapshot: of }) {
     same("one text", inHex(read(text, patch)), inHex(again));
     same("its board", board, again.board);
     same("its labels", 0x84, again.labels.get("AGAIN"));
-    same("a label given twice", "25: the label DONE is already given in line 8", thrown(() => joined(text, "DONE: NOP", [1, 3, 3, 0])));
+    const twice = ".ORG 00A0\nDONE: BR DONE\nAGAIN: BR AGAIN";
+    same("labels that both give", inHex(read(text, twice)), inHex(read(joined(text, twice, [1, 3, 3, 0]))));
+    const never = thrown(() => joined("pages 00\nMOV: BR MOV", ".ORG 00A0\nMOV: MOV R0,R1", [1, 3, 3, 0]));
+    same("what doesn't go into one", "the job and its patch don't go into one text", never.slice(0, 44));
     for (const name of Object.keys(given.samples).filter((one) => !one.startsWith("refused"))) {
       load(name);
       const made = textOf(desk.library.image, desk.library.map, desk.lines);

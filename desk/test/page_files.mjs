@@ -31,7 +31,7 @@ export function fileParts({ browser, reads, holds, click, fill, choose, tab, idl
     await choose("halt", "2"), await click("microm"), await fill("external", "40");
     await reads("told", /^'40' is not an External Address Register/);
     await fill("external", "2F"), await reads("told", /^External Address Register set to 2F/);
-    await reads("status", /PS 06/);
+    await reads("status", /PS 09/);
     await click("save-job");
     const text = fs.readFileSync(await browser.given("card-pulled.txt"), "utf8");
     assert.match(text, /microm no\njumpers up 1 halt 2\nexternal 2F\n; the patch\n\.ORG 0000\n\.ORG 0080\nMOV #0007,R1\n$/);
