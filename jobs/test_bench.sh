@@ -19,11 +19,13 @@ same() { # NAME GOT WANT
     fi
 }
 for text in jobs/*.txt; do
+    # A job with a board of its own is none for bench.
+    ! grep -Eq '^(microm|jumpers|external) ' "$text" || continue
     name=$(basename "$text" .txt)
-    jobs/sample_job.sh "$name" >"$made/job"
+    ./hitch job --unproved "$text" >"$made/job" 2>"$made/said" || { cat "$made/said"; exit 1; }
     same "$name" "$($bench <"$made/job")" "$(cat "jobs/$name.line")"
 done
-python3 jobs/make_job.py jobs/example.txt >"$made/job"
+./hitch job --unproved jobs/example.txt >"$made/job" 2>/dev/null
 half=$(($(wc -c <"$made/job") / 2))
 slow() { head -c "$half" "$made/job"; sleep 0.3; tail -c "+$((half + 1))" "$made/job"; }
 same pipe "$(slow | $bench)" "$(cat jobs/example.line)"

@@ -1,4 +1,4 @@
-// Reads the source of a patch on standard input, a line of up to 32 bytes each, and writes the word section of a job on standard output. A source that is refused writes nothing there; standard error has the line, the reason in words and its number.
+// Reads the source of a patch on standard input, a line of up to 32 bytes each, and writes the word section of a job on standard output. A source that is refused writes nothing there; standard error has the line, the reason in words and its number, and says so where the section could not be written.
 ghost use mathlib.Core.Path.{_≡_};
 ghost use Prim.Native.Nat.{_≤_, _<_};
 ghost use lib.ListN.{length};
@@ -171,17 +171,24 @@ fn say_long(line: usize) {
     say(b", from 0, is longer than 32 bytes\n");
 }
 
-// Writes the first bytes of a section.
-fn put(section: &[u8], n: usize) {
+// Writes the first bytes of a section; answers whether all were written.
+fn put(section: &[u8], n: usize) -> bool {
     if n <= section.len() {
-        io::write_all(STDOUT_FILENO, &section[..n]);
+        return io::write_all(STDOUT_FILENO, &section[..n]);
+    }
+    false
+}
+
+fn say_unless(written: bool) {
+    if !written {
+        say(b"assemble: the answer could not be written\n");
     }
 }
 
 fn answer(source: &[u8]) {
     let mut section = [0u8; 12290];
     match assembler::assemble(source, &mut section) {
-        Assembled::Section(n) => put(&section, n as usize),
+        Assembled::Section(n) => say_unless(put(&section, n as usize)),
         Assembled::Refused(why) => say_refused(why),
         Assembled::RefusedAt(why, line) => say_refused_at(source, why, line),
     }

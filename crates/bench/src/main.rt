@@ -1,11 +1,21 @@
-// Reads a job on standard input, powers up, runs, and prints one line.
+// Reads a job on standard input, powers up, runs, and prints one line. Where it could not be written standard error says so.
+use libc::STDERR_FILENO;
 use libc::STDIN_FILENO;
 use libc::STDOUT_FILENO;
 
-// Prints the first bytes of a text.
-fn print(text: &[u8], n: usize) {
+// Prints the first bytes of a text and ends the line; answers whether all was written.
+fn print(text: &[u8], n: usize) -> bool {
     if n <= text.len() {
-        io::write_all(STDOUT_FILENO, &text[..n]);
+        if io::write_all(STDOUT_FILENO, &text[..n]) {
+            return io::write_all(STDOUT_FILENO, b"\n");
+        }
+    }
+    false
+}
+
+fn say_unless(written: bool) {
+    if !written {
+        io::write_all(STDERR_FILENO, b"bench: the answer could not be written\n");
     }
 }
 
@@ -18,6 +28,5 @@ fn main() {
     let mut lines = [0u16; 4096];
     let mut text = [0u8; 64];
     let n = runjob::run_job(&mut text, &input[..got], &mut image, &mut map, &mut lines);
-    print(&text, n);
-    io::write_all(STDOUT_FILENO, b"\n");
+    say_unless(print(&text, n));
 }

@@ -1,4 +1,5 @@
-// Checks another shop's trace of a job and says in words what it is found to be: check_trace JOB TRACE, two files by name.
+// Checks another shop's trace of a job and says in words what it is found to be: check_trace JOB TRACE, two files by name. Where the
+// answer could not be written standard error says so. Each function that prints answers whether all was written.
 use letters::hex;
 ghost use mathlib.Core.Path.{_≡_};
 ghost use lib.ListN.{length};
@@ -8,26 +9,26 @@ use trace::Checked;
 use trace::Verdict;
 use words::word_at;
 
-fn put(text: &[u8]) {
-    io::write_all(STDOUT_FILENO, text);
+fn put(text: &[u8]) -> bool {
+    io::write_all(STDOUT_FILENO, text)
 }
 
-fn put_decimal(n: u16) {
-    io::print_decimal(STDOUT_FILENO, n as u64);
+fn put_decimal(n: u16) -> bool {
+    io::print_decimal(STDOUT_FILENO, n as u64)
 }
 
-fn put_word(w: u16) {
+fn put_word(w: u16) -> bool {
     let digits = [
         hex(w / 4096),
         hex(w / 256 % 16),
         hex(w / 16 % 16),
         hex(w % 16),
     ];
-    put(&digits);
+    put(&digits)
 }
 
 // A field's name in the bench line's order.
-fn put_name(field: u16) {
+fn put_name(field: u16) -> bool {
     match field {
         0 => put(b"R0"),
         1 => put(b"R1"),
@@ -42,10 +43,8 @@ fn put_name(field: u16) {
     }
 }
 
-fn put_step(step: u16) {
-    put(b"wrong at step ");
-    put_decimal(step);
-    put(b": ");
+fn put_step(step: u16) -> bool {
+    put(b"wrong at step ") && put_decimal(step) && put(b": ")
 }
 
 // What stands in a field of the trace.
@@ -53,54 +52,61 @@ fn told(trace: &[u8], step: u16, field: u16) -> u16 {
     word_at(trace, 2 + step as usize * 20 + field as usize * 2)
 }
 
-fn put_field(trace: &[u8], step: u16, field: u16, right: u16) {
-    put_step(step);
-    put_name(field);
-    put(b" is ");
-    put_word(told(trace, step, field));
-    put(b", right is ");
-    put_word(right);
-    put(b"\n");
+fn put_told(told: u16) -> bool {
+    put(b" is ") && put_word(told)
 }
 
-fn put_accepted(steps: u16) {
-    put(b"accepted: ");
-    put_decimal(steps);
-    put(b" steps\n");
+fn put_right(right: u16) -> bool {
+    put(b", right is ") && put_word(right) && put(b"\n")
 }
 
-fn put_missing(step: u16) {
-    put_step(step);
-    put(b"the trace ends before it\n");
+fn put_field(step: u16, field: u16, told: u16, right: u16) -> bool {
+    put_step(step) && put_name(field) && put_told(told) && put_right(right)
 }
 
-fn put_extra(step: u16) {
-    put_step(step);
-    put(b"the job ends before it\n");
+fn put_accepted(steps: u16) -> bool {
+    put(b"accepted: ") && put_decimal(steps) && put(b" steps\n")
 }
 
-fn put_verdict(found: Verdict, trace: &[u8]) {
+fn put_missing(step: u16) -> bool {
+    put_step(step) && put(b"the trace ends before it\n")
+}
+
+fn put_extra(step: u16) -> bool {
+    put_step(step) && put(b"the job ends before it\n")
+}
+
+fn put_verdict(found: Verdict, trace: &[u8]) -> bool {
     match found {
         Verdict::Accepted => put_accepted(word_at(trace, 0)),
-        Verdict::Wrong(step, field, right) => put_field(trace, step, field, right),
+        Verdict::Wrong(step, field, right) => {
+            put_field(step, field, told(trace, step, field), right)
+        }
         Verdict::Missing(step) => put_missing(step),
         Verdict::Extra(step) => put_extra(step),
     }
 }
 
-fn put_refused(why: u8) {
-    put(b"REFUSED ");
-    put_decimal(why as u16);
-    put(b"\n");
+fn put_refused(why: u8) -> bool {
+    put(b"REFUSED ") && put_decimal(why as u16) && put(b"\n")
 }
 
-fn answer(job: &[u8], trace: &[u8]) {
+fn answer(job: &[u8], trace: &[u8]) -> bool {
     let mut image = io::large_buffer();
     let mut map = [0u8; 256];
     let mut lines = [0u16; 4096];
     match trace::check(job, trace, &mut image, &mut map, &mut lines) {
         Checked::Done(found) => put_verdict(found, trace),
         Checked::Refused(why) => put_refused(why),
+    }
+}
+
+fn say_unless(written: bool) {
+    if !written {
+        io::write_all(
+            STDERR_FILENO,
+            b"check_trace: the answer could not be written\n",
+        );
     }
 }
 
@@ -137,5 +143,5 @@ fn main() {
     let job_length = io::read_full(job_file, &mut job);
     let mut trace = trace_buffer();
     let trace_length = io::read_full(trace_file, &mut trace);
-    answer(&job[..job_length], &trace[..trace_length]);
+    say_unless(answer(&job[..job_length], &trace[..trace_length]));
 }

@@ -1,28 +1,33 @@
 // Reads two addresses and a job on standard input, and lists the stretch of the job's image from the first to the last; a refusal
-// is printed as bench's.
+// is printed as bench's. Where the answer could not be written standard error says so.
 use job::Answer;
+use libc::STDERR_FILENO;
 use libc::STDIN_FILENO;
 use libc::STDOUT_FILENO;
 use listing::Listed;
 use refusal::number::JOB_ENDS;
-ghost use Prim.Native.Nat.{_+_, _≤_};
+ghost use Prim.Native.Nat.{_≤_};
+ghost use mathlib.Core.Path.{_≡_};
 ghost use lib.ListN.{length};
 
-// Prints the first bytes of a text.
-fn print(text: &[u8], n: usize) {
+// Prints the first bytes of a text; answers whether all were written.
+fn print(text: &[u8], n: usize) -> bool {
     if n <= text.len() {
-        io::write_all(STDOUT_FILENO, &text[..n]);
+        return io::write_all(STDOUT_FILENO, &text[..n]);
     }
+    false
 }
 
-fn print_refused(why: u8) {
+fn print_refused(why: u8) -> bool {
     let mut text = [0u8; 16];
     let n = line::write_refused(&mut text, why);
-    print(&text, n);
-    io::write_all(STDOUT_FILENO, b"\n");
+    if print(&text, n) {
+        return io::write_all(STDOUT_FILENO, b"\n");
+    }
+    false
 }
 
-// Ends the line of n characters that begins at a place of the block; answers the place after it.
+// Ends the line of n characters that begins at a place of the text; answers the place after it.
 fn end_line(block: &mut [u8], at: usize, n: usize) -> usize
     requires { ⌜ at ≤ length (now block) ⌝ }
     ensures { λ r. ⌜ r ≤ length (now (block .entry)) ⌝ }
@@ -34,7 +39,7 @@ fn end_line(block: &mut [u8], at: usize, n: usize) -> usize
     at
 }
 
-// Adds the line at the address a to the block, from a place on; answers the place after it.
+// Adds the line at the address a to the text, from a place on; answers the place after it.
 fn add_line(image: &[u8], map: &[u8], a: u16, last: u16, block: &mut [u8], at: usize) -> Listed
     requires { ⌜ at ≤ length (now block) ⌝ }
 {
@@ -45,22 +50,18 @@ fn add_line(image: &[u8], map: &[u8], a: u16, last: u16, block: &mut [u8], at: u
     }
 }
 
-// Prints the block where there is no room for another line in it; answers the place where the next line begins.
-fn with_room(block: &[u8], at: usize) -> usize
+// A place in the text.
+fn within(block: &[u8], at: usize) -> usize
     ensures { λ r. ⌜ r ≤ length (now (block .entry)) ⌝ }
 {
-    if block.len() < 64 {
-        return 0;
-    }
-    if at <= block.len() - 64 {
+    if at <= block.len() {
         return at;
     }
-    print(block, at);
     0
 }
 
-// Prints what is left in the block after the last line, or a refusal.
-fn finish(block: &[u8], listed: Listed) {
+// Prints the text after its last line, or a refusal; answers whether all was written.
+fn finish(block: &[u8], listed: Listed) -> bool {
     match listed {
         Listed::Line(end, _) => print(block, end),
         Listed::Last(end) => print(block, end),
@@ -68,30 +69,36 @@ fn finish(block: &[u8], listed: Listed) {
     }
 }
 
-// Lists the stretch block by block. An image has 32,768 words, and no listing more lines.
-fn list_all(image: &[u8], map: &[u8], first: u16, last: u16, block: &mut [u8]) {
+// Lists the stretch into the text and prints it whole. An image has 32,768 words, and no listing more lines.
+fn list_all(image: &[u8], map: &[u8], first: u16, last: u16, block: &mut [u8]) -> bool {
     let mut a = first;
     let mut at: usize = 0;
     let mut left: usize = 32768;
     while 0 < left {
-        at = with_room(block, at);
         let listed = add_line(image, map, a, last, block, at);
         let Listed::Line(end, next) = listed else {
-            finish(block, listed);
-            return;
+            return finish(block, listed);
         };
-        at = end;
+        at = within(block, end);
         a = next;
         left -= 1;
     }
+    false
+}
+
+// Room for the longest listing and one line more: a line has at most 35 characters for each of its words, its end among them.
+fn whole_listing() -> [u8; 1146944]
+    ensures { λ r. ⌜ 1146944 ≡ length r ⌝ }
+{
+    [0; 1146944]
 }
 
 // Reads the job and lists the stretch.
-fn list_job(first: u16, last: u16, input: &[u8]) {
+fn list_job(first: u16, last: u16, input: &[u8]) -> bool {
     let mut image = io::large_buffer();
     let mut map = [0u8; 256];
     let mut lines = [0u16; 4096];
-    let mut block = io::large_buffer();
+    let mut block = whole_listing();
     match job::read_job(input, &mut image, &mut map, &mut lines) {
         Answer::Refused(why) => print_refused(why),
         Answer::Lines(_) => list_all(&image, &map, first, last, &mut block),
@@ -99,15 +106,20 @@ fn list_job(first: u16, last: u16, input: &[u8]) {
 }
 
 // The two addresses are in front of the job.
-fn list_input(input: &[u8]) {
+fn list_input(input: &[u8]) -> bool {
     if input.len() < 4 {
-        print_refused(JOB_ENDS);
-    } else {
-        list_job(
-            words::word_at(input, 0),
-            words::word_at(input, 2),
-            &input[4..],
-        );
+        return print_refused(JOB_ENDS);
+    }
+    list_job(
+        words::word_at(input, 0),
+        words::word_at(input, 2),
+        &input[4..],
+    )
+}
+
+fn say_unless(written: bool) {
+    if !written {
+        io::write_all(STDERR_FILENO, b"list: the answer could not be written\n");
     }
 }
 
@@ -115,5 +127,5 @@ fn list_input(input: &[u8]) {
 fn main() {
     let mut input = [0u8; 25101];
     let got = io::read_full(STDIN_FILENO, &mut input);
-    list_input(&input[..got]);
+    say_unless(list_input(&input[..got]));
 }

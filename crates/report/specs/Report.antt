@@ -1,4 +1,4 @@
--- The line of a run's end on bench's board: R0-R5, SP, PC, PS, mode digit, blanks, the first one's place and address, or ---- ----.
+-- The line of a run's end: R0-R5, SP, PC, PS, mode digit, blanks, the first one's place and address, or ---- ----.
 use Prim.Native.Nat.{ℕ}
 use mathlib.Core.Bool.{true, false}
 use mathlib.Core.List.{List}
@@ -25,6 +25,10 @@ addressOf (First.At place address) = Place.At address
 addressOf First.Never = Place.Nowhere
 
 -- PS as it is formed on a quiet line
+unfoldable pub endOn : Settings → Ran → List ℕ
+endOn board r =
+    lineText (registers (r .state)) (psOf (heard board 0) false (r .state)) (modeNumber (r .state .mode)) (r .tally .blanks) (placeOf (r .tally .first)) (addressOf (r .tally .first))
+
+-- on bench's board
 unfoldable pub endText : Ran → List ℕ
-endText r =
-    lineText (registers (r .state)) (psOf (heard benchBoard 0) false (r .state)) (modeNumber (r .state .mode)) (r .tally .blanks) (placeOf (r .tally .first)) (addressOf (r .tally .first))
+endText r = endOn benchBoard r

@@ -1,4 +1,4 @@
-// The line of a run's end on bench's board: the machine's answer in the line's own fields.
+// The line of a run's end, on bench's board and on others: the machine's answer in the line's own fields.
 use line::Place;
 use machine::First;
 use machine::Ran;
@@ -57,18 +57,25 @@ fn address(first: First) -> Place
     }
 }
 
-// Writes the line of a run's end and answers its length; a buffer that is too short is left as it is, and the answer is 0.
-pub fn write_end(text: &mut [u8], ran: Ran) -> usize
-    ensures { λ r. ⌜ left r (now (text .exit)) ≡ written (Spec.endText ran) (now (text .entry)) ⌝ }
+// Writes the line of a run's end on a board and answers its length; a buffer that is too short is left as it is, and the answer is 0.
+pub fn write_end_on(text: &mut [u8], ran: Ran, board: Settings) -> usize
+    ensures { λ r. ⌜ left r (now (text .exit)) ≡ written (Spec.endOn board ran) (now (text .entry)) ⌝ }
 {
     let s = ran.state;
     let tally = ran.tally;
     let mode = s.mode;
     let first = tally.first;
     let regs = registers(s);
-    let ps = s.ps(state::hear(bench_board(), 0), false);
+    let ps = s.ps(state::hear(board, 0), false);
     let number = state::mode_number(mode);
     let at = place(first);
     let told = address(first);
     line::write_line(text, regs, ps, number, tally.blanks, at, told)
+}
+
+// The same on bench's board.
+pub fn write_end(text: &mut [u8], ran: Ran) -> usize
+    ensures { λ r. ⌜ left r (now (text .exit)) ≡ written (Spec.endText ran) (now (text .entry)) ⌝ }
+{
+    write_end_on(text, ran, bench_board())
 }

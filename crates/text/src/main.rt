@@ -1,4 +1,4 @@
-// Reads the text of an op code, a line of standard input, and prints its words; a line of words in hex is written as text. A line that is refused is printed with a mark under its column and the reason in words. An input of over 65,536 bytes is not answered: standard error says so.
+// Reads the text of an op code, a line of standard input, and prints its words; a line of the op code's words in hex is written as text. A line that is refused is printed with a mark under its column and the reason in words. An input of over 65,536 bytes is not answered: standard error says so, and where the answer could not be written. Each function that prints answers whether all was written.
 ghost use Prim.Native.Nat.{_≤_, _<_};
 ghost use lib.ListN.{length};
 use letters::put_hex4;
@@ -10,16 +10,20 @@ use optext::Written;
 use optext::reading::after;
 use optext::reading::un_hex4;
 
-fn put(text: &[u8]) {
-    io::write_all(STDOUT_FILENO, text);
+fn put(text: &[u8]) -> bool {
+    io::write_all(STDOUT_FILENO, text)
+}
+
+fn put_end() -> bool {
+    put(b"\n")
 }
 
 // Prints the first n bytes of a text and ends the line.
-fn put_line(text: &[u8], n: usize) {
+fn put_line(text: &[u8], n: usize) -> bool {
     if n <= text.len() {
-        put(&text[..n]);
+        return put(&text[..n]) && put_end();
     }
-    put(b"\n");
+    false
 }
 
 // The byte at a place, or 0.
@@ -86,101 +90,112 @@ fn word_at(line: &[u8], at: usize) -> u16 {
     un_hex4(after(line, at))
 }
 
-// Prints the text of the op code that begins at a place, and answers the place after its words.
-fn put_op(words: &[u16], at: usize) -> usize
-    requires { ⌜ at < length (now words) ⌝ }
-    ensures { λ r. ⌜ at < r ⌝ }
-{
-    let mut text = [0u8; 32];
-    let n = words.len();
-    let Written::Line(len, taken) = optext::write(&words[at..], &mut text) else {
-        put(b"a next word is missing (refusal 7)\n");
-        return n;
-    };
-    put_line(&text, len);
-    if 0 < taken {
-        if taken <= n - at {
-            return at + taken;
-        }
+// Prints the line's text, whose op code has so many words; words after them are marked.
+fn put_op(line: &[u8], text: &[u8], length: usize, taken: usize) -> bool {
+    if taken == words_in(line) {
+        return put_line(text, length);
     }
-    n
+    put_marked(line, 5 * less(taken), b"the op code has no more words") && put_end()
 }
 
-// Prints the op codes of the words, a line each.
-fn put_ops(words: &[u16]) {
-    let mut at = 0;
-    while at < words.len() {
-        at = put_op(words, at);
+// Prints the text of the op code that the words of a line are.
+fn put_text(line: &[u8], words: &[u16]) -> bool {
+    let mut text = [0u8; 32];
+    match optext::write(words, &mut text) {
+        Written::Line(length, taken) => put_op(line, &text, length, taken),
+        Written::TextShort => put_end(),
+        Written::NoWords => put_end(),
+        Written::WordMissing => put_refused(line, line.len(), b"a next word is missing", 7),
     }
 }
 
 // The same of the first n words.
-fn put_first(words: &[u16], n: usize) {
+fn put_first(line: &[u8], words: &[u16], n: usize) -> bool {
     if n <= words.len() {
-        put_ops(&words[..n]);
+        return put_text(line, &words[..n]);
     }
+    false
+}
+
+// A number of words, three at most.
+fn less(n: usize) -> usize
+    ensures { λ r. ⌜ r ≤ 3 ⌝ }
+{
+    if n < 3 {
+        return n;
+    }
+    3
+}
+
+// How many words a line of words has.
+fn words_in(line: &[u8]) -> usize {
+    line.len() / 5 + 1
 }
 
 // Prints the text of a line of words.
-fn write_words(line: &[u8]) {
+fn write_words(line: &[u8]) -> bool {
     let words = [word_at(line, 0), word_at(line, 5), word_at(line, 10)];
-    put_first(&words, line.len() / 5 + 1);
+    put_first(line, &words, words_in(line))
 }
 
-fn put_word(w: u16) {
+fn put_word(w: u16) -> bool {
     let mut digits = [0u8; 4];
     put_hex4(&mut digits, w);
-    put(&digits);
+    put(&digits)
 }
 
 // Prints the word at a place after a space, if it is one of the first n.
-fn put_next(words: &[u16], at: usize, n: usize) {
+fn put_next(words: &[u16], at: usize, n: usize) -> bool {
     if at < n {
-        put_space();
-        put_word(word(words, at));
+        return put_space() && put_word(word(words, at));
     }
+    true
 }
 
 // Prints the first n of up to three words.
-fn put_words(words: &[u16], n: usize) {
-    put_word(word(words, 0));
-    put_next(words, 1, n);
-    put_next(words, 2, n);
-    put(b"\n");
+fn put_words(words: &[u16], n: usize) -> bool {
+    put_word(word(words, 0)) && put_next(words, 1, n) && put_next(words, 2, n) && put_end()
 }
 
-fn put_space() {
-    put(b" ");
+fn put_space() -> bool {
+    put(b" ")
 }
 
-fn put_spaces(n: usize) {
+fn put_spaces(n: usize) -> bool {
     let mut i = 0;
     while i < n {
-        put_space();
+        if !put_space() {
+            return false;
+        }
         i += 1;
     }
+    true
 }
 
-// Prints the line, a mark under its column, the reason and the number of the refusal.
-fn put_refused(line: &[u8], column: usize, why: &[u8], number: u64) {
-    put(line);
-    put(b"\n");
-    put_spaces(column);
-    put(b"^ ");
-    put(why);
-    put(b" (refusal ");
-    io::print_decimal(STDOUT_FILENO, number);
-    put(b" at column ");
-    io::print_decimal(STDOUT_FILENO, column as u64);
-    put(b")\n");
+// Prints the line, a mark under its column, and the reason.
+fn put_marked(line: &[u8], column: usize, why: &[u8]) -> bool {
+    put(line) && put_end() && put_spaces(column) && put(b"^ ") && put(why)
+}
+
+// Prints a number after its name.
+fn put_number(name: &[u8], number: u64) -> bool {
+    put(name) && io::print_decimal(STDOUT_FILENO, number)
+}
+
+// The same and the number of the refusal.
+fn put_refused(line: &[u8], column: usize, why: &[u8], number: u64) -> bool {
+    put_marked(line, column, why)
+        && put_number(b" (refusal ", number)
+        && put_number(b" at column ", column as u64)
+        && put(b")\n")
 }
 
 // Prints the words of a text.
-fn read_text(line: &[u8]) {
+fn read_text(line: &[u8]) -> bool {
     let mut words = [0u16; 3];
     match optext::read(line, &mut words) {
         ReadBack::Words(n) => put_words(&words, n),
-        ReadBack::WordsShort => put(b"\n"),
+        ReadBack::WordsShort => put_end(),
         ReadBack::EarlyEnd(c) => put_refused(line, c, b"the line ends too early", 32),
         ReadBack::AfterText(c) => put_refused(line, c, b"the text is whole before this", 31),
         ReadBack::UnknownName(c) => put_refused(line, c, b"unknown mnemonic", 9),
@@ -188,31 +203,39 @@ fn read_text(line: &[u8]) {
     }
 }
 
-fn answer(line: &[u8]) {
+fn answer(line: &[u8]) -> bool {
     if is_words(line) {
-        write_words(line);
-    } else {
-        read_text(line);
+        return write_words(line);
     }
+    read_text(line)
 }
 
 // Answers each line.
-fn answer_all(input: &[u8]) {
+fn answer_all(input: &[u8]) -> bool {
     let mut at = 0;
     while at < input.len() {
         let end = line_end(input, at);
-        answer(&input[at..end]);
+        if !answer(&input[at..end]) {
+            return false;
+        }
         if input.len() <= end {
-            return;
+            return true;
         }
         at = end + 1;
     }
+    true
 }
 
 // Is there a byte after those that were read?
 fn more() -> bool {
     let mut next = [0u8; 1];
     0 < io::read_full(STDIN_FILENO, &mut next)
+}
+
+fn say_unless(written: bool) {
+    if !written {
+        io::write_all(STDERR_FILENO, b"text: the answer could not be written\n");
+    }
 }
 
 fn say_long() {
@@ -228,5 +251,5 @@ fn main() {
             return;
         }
     }
-    answer_all(&input[..got]);
+    say_unless(answer_all(&input[..got]));
 }

@@ -1,5 +1,5 @@
-use mathlib.Core.Path.{sym}
 use lib.Seq.{length-take-le}
+use mathlib.Core.Path.{sym}
 use borrow.Author.Needs.{needs}
 use Rattle.assemble.proofs.put.Statement.{statement}
 use Rattle.assemble.proofs.put.Tie as tie

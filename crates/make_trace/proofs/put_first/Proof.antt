@@ -1,5 +1,5 @@
-use mathlib.Core.Path.{sym}
 use lib.Seq.{length-take-le}
+use mathlib.Core.Path.{sym}
 use borrow.Author.Needs.{needs}
 use Rattle.make_trace.proofs.put_first.Statement.{statement}
 use Rattle.make_trace.proofs.put_first.Tie as tie
@@ -8,4 +8,5 @@ slice-aggregate-write-all : tie.Need-slice-aggregate-write-all
 slice-aggregate-write-all c = sym (length-take-le _ _ (c .before .if1 .taken))
 
 pub put-first-spec : {M : Type 1} → statement M
-put-first-spec = tie.close (tie.spec slice-aggregate-write-all (λ c κs. search needs) (λ c. search needs) (λ c. search needs))
+put-first-spec =
+    tie.close (tie.spec slice-aggregate-write-all (λ c κs. search needs) (λ c. search needs) (λ c. search needs))

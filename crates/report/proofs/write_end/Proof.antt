@@ -1,22 +1,10 @@
-use Rattle.report.proofs.Laws.{end-is}
+use Rattle.report.proofs.Laws.{bench-is}
 use borrow.Author.Needs.{needs}
 use Rattle.report.proofs.write_end.Statement.{statement}
 use Rattle.report.proofs.write_end.Tie as tie
 
 returns : tie.Need-returns
-returns c = end-is (c .before .before .before .before .before .before .before .before .before .before .before .before .before .before .args .ran) _ _ _ _ _ _ _ _ _ (c .before .before .write-line .ensures) (c .before .before .before .before .before .before .before .before .before .before .registers .ensures) (c .before .before .before .before .before .before .before .before .before .bench-board .ensures) (c .before .before .before .before .before .before .before .before .hear .ensures) (c .before .before .before .before .before .before .before .ps .ensures) (c .before .before .before .before .before .before .mode-number .ensures) (c .before .before .before .before .before .place .ensures) (c .before .before .before .before .address .ensures)
+returns c = bench-is _ _ _ _ (c .before .before .write-end-on .ensures) (c .before .before .before .bench-board .ensures)
 
 pub write-end-spec : {M : Type 1} → statement M
-write-end-spec =
-    tie.close
-    (tie.spec
-    (λ c κs. search needs)
-    (λ c κs. search needs)
-    (λ c κs. search needs)
-    (λ c κs. search needs)
-    (λ c κs. search needs)
-    (λ c κs. search needs)
-    (λ c κs. search needs)
-    (λ c κs. search needs)
-    (λ c. search needs)
-    returns)
+write-end-spec = tie.close (tie.spec (λ c κs. search needs) (λ c κs. search needs) (λ c. search needs) returns)

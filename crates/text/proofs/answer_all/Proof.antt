@@ -1,6 +1,7 @@
-use Prim.Native.Nat.{_-_}
-use native.Mathlib.Omega.{arith}
+use borrow.Author.Needs.{needs}
 use lib.ListN.{length}
+use native.Mathlib.Omega.{arith}
+use Prim.Native.Nat.{_-_}
 use Rattle.text.proofs.answer_all.Statement.{statement}
 use Rattle.text.proofs.answer_all.Tie as tie
 
@@ -26,10 +27,13 @@ part-answer-end : tie.Need-part-answer-end Inv-loop μ-loop
 part-answer-end c = omega arith
 
 answer-requires : tie.Need-answer-requires Inv-loop μ-loop
-answer-requires c κs = tt
+answer-requires c κs = search needs
 
 returns : tie.Need-returns Inv-loop μ-loop
 returns c = tt
+
+returns-2 : tie.Need-returns-2 Inv-loop μ-loop
+returns-2 c = tt
 
 add-at : tie.Need-add-at Inv-loop μ-loop
 add-at c = omega arith
@@ -40,8 +44,8 @@ loop-less c = omega arith
 loop-again : tie.Need-loop-again Inv-loop μ-loop
 loop-again c = tt
 
-returns-2 : tie.Need-returns-2 Inv-loop μ-loop
-returns-2 c = tt
+returns-3 : tie.Need-returns-3 Inv-loop μ-loop
+returns-3 c = tt
 
 pub answer-all-spec : {M : Type 1} → statement M
 answer-all-spec =
@@ -56,7 +60,8 @@ answer-all-spec =
     part-answer-end
     answer-requires
     returns
+    returns-2
     add-at
     loop-less
     loop-again
-    returns-2)
+    returns-3)

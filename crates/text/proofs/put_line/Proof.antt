@@ -1,5 +1,5 @@
-use mathlib.Core.Path.{sym}
 use lib.Seq.{length-take-le}
+use mathlib.Core.Path.{sym}
 use borrow.Author.Needs.{needs}
 use Rattle.text.proofs.put_line.Statement.{statement}
 use Rattle.text.proofs.put_line.Tie as tie
@@ -8,4 +8,6 @@ slice-aggregate-put : tie.Need-slice-aggregate-put
 slice-aggregate-put c = sym (length-take-le _ _ (c .before .if1 .taken))
 
 pub put-line-spec : {M : Type 1} → statement M
-put-line-spec = tie.close (tie.spec slice-aggregate-put (λ c κs. search needs) (λ c. search needs) (λ c κs. search needs) (λ c. search needs))
+put-line-spec =
+    tie.close
+    (tie.spec slice-aggregate-put (λ c κs. search needs) (λ c κs. search needs) (λ c. search needs) (λ c. search needs) (λ c. search needs))

@@ -1,0 +1,142 @@
+// Reads a board and a job on standard input, powers up, runs, and writes bench's line of that board, then the map's 256 bytes and the
+// 256 of each fitted page as the run leaves them; a refused job is its line alone. The board is its four settings as for C, a byte
+// each. Where the answer could not be written standard error says so.
+ghost use Prim.Native.Nat.{_<_};
+use job::Answer;
+use libc::STDERR_FILENO;
+use libc::STDIN_FILENO;
+use libc::STDOUT_FILENO;
+use machine::Finished;
+use machine::Powered;
+use machine::Ran;
+use refusal::number::LINES_LENGTH;
+use state::Settings;
+use state::State;
+
+fn put(bytes: &[u8]) -> bool {
+    io::write_all(STDOUT_FILENO, bytes)
+}
+
+// Writes the first bytes of a text and ends the line; answers whether all was written.
+fn put_line(text: &[u8], n: usize) -> bool {
+    if n <= text.len() {
+        return put(&text[..n]) && put(b"\n");
+    }
+    false
+}
+
+fn put_refused(why: u8) -> bool {
+    let mut text = [0u8; 16];
+    let n = line::write_refused(&mut text, why);
+    put_line(&text, n)
+}
+
+fn put_end(ran: Ran, board: Settings) -> bool {
+    let mut text = [0u8; 64];
+    let n = report::write_end_on(&mut text, ran, board);
+    put_line(&text, n)
+}
+
+// The byte at a place, or 0.
+fn byte(t: &[u8], i: usize) -> u8 {
+    if i < t.len() {
+        return t[i];
+    }
+    0
+}
+
+// Writes a page of the image.
+fn put_page(image: &[u8], page: usize) -> bool
+    requires { ⌜ page < 256 ⌝ }
+{
+    let at = page * 256;
+    let end = at + 256;
+    if end <= image.len() {
+        return put(&image[at..end]);
+    }
+    false
+}
+
+// Writes a page if it is fitted.
+fn put_fitted(image: &[u8], map: &[u8], page: usize) -> bool
+    requires { ⌜ page < 256 ⌝ }
+{
+    if byte(map, page) == 0 {
+        return true;
+    }
+    put_page(image, page)
+}
+
+// Writes the fitted pages.
+fn put_pages(image: &[u8], map: &[u8]) -> bool {
+    let mut page: usize = 0;
+    while page < 256 {
+        if !put_fitted(image, map, page) {
+            return false;
+        }
+        page += 1;
+    }
+    true
+}
+
+// Runs over line words from a state, and tells the end.
+fn run_from(s: State, image: &mut [u8], map: &[u8], board: Settings, lines: &[u16]) -> bool {
+    match machine::run(s, image, map, board, lines) {
+        Finished::Done(ran) => put_end(ran, board) && put(map) && put_pages(image, map),
+        Finished::Refused(why) => put_refused(why),
+    }
+}
+
+fn run_up(image: &mut [u8], map: &[u8], board: Settings, lines: &[u16]) -> bool {
+    match machine::power_up(image, map, board) {
+        Powered::Up(s) => run_from(s, image, map, board, lines),
+        Powered::Refused(why) => put_refused(why),
+    }
+}
+
+fn run_first(image: &mut [u8], map: &[u8], board: Settings, lines: &[u16], count: u16) -> bool {
+    let n = count as usize;
+    if n <= lines.len() {
+        return run_up(image, map, board, &lines[..n]);
+    }
+    put_refused(LINES_LENGTH)
+}
+
+// Reads the job, powers up, runs and tells the end.
+fn run_job(input: &[u8], board: Settings) -> bool {
+    let mut image = io::large_buffer();
+    let mut map = [0u8; 256];
+    let mut lines = [0u16; 4096];
+    match job::read_job(input, &mut image, &mut map, &mut lines) {
+        Answer::Refused(why) => put_refused(why),
+        Answer::Lines(count) => run_first(&mut image, &map, board, &lines, count),
+    }
+}
+
+fn read_board() -> Settings {
+    let mut bytes = [0u8; 4];
+    io::read_full(STDIN_FILENO, &mut bytes);
+    Settings {
+        blocks: bytes[0] != 0,
+        powerup: bytes[1],
+        halt: bytes[2],
+        register: bytes[3],
+    }
+}
+
+fn say_unless(written: bool) {
+    if !written {
+        io::write_all(
+            STDERR_FILENO,
+            b"afterrun: the answer could not be written\n",
+        );
+    }
+}
+
+// The longest job has 25,096 bytes; one byte more shows that there are bytes left over.
+fn main() {
+    let board = read_board();
+    let mut input = [0u8; 25097];
+    let got = io::read_full(STDIN_FILENO, &mut input);
+    say_unless(run_job(&input[..got], board));
+}
