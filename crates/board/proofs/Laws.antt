@@ -3,6 +3,7 @@ pub mod Alike
 pub mod Bounded
 pub mod Ended
 pub mod Follows
+pub mod Once
 pub mod Undo
 pub mod Exec
 use Prim.Native.Nat.{ℕ, _+_, _*_, _/_, _%_, _<_}

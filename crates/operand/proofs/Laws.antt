@@ -2,4 +2,5 @@
 pub mod Bounds
 pub mod Destination
 pub mod Modes
+pub mod Once
 pub mod Operand
