@@ -1,6 +1,7 @@
 -- The laws of the crate's definitions.
 pub mod AsOp
 pub mod Back
+pub mod Calls
 pub mod Choose
 pub mod Columns
 pub mod Forms

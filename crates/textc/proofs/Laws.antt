@@ -1,5 +1,6 @@
 -- From the code's facts to what the exported calls leave.
 pub mod Once
+pub mod Trip
 use Prim.Native.Nat.{ℕ, _/_, _%_, _≤_, _<_}
 use mathlib.Core.Bool.{Bool, true, false, cond}
 use mathlib.Core.List.{List, [], _∷_}

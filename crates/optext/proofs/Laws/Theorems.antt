@@ -110,6 +110,9 @@ written-back TextShort = refl
 written-back NoWords = refl
 written-back WordMissing = refl
 
+pub written-one : (r q : Written) → writtenAs r ≡ writtenAs q → r ≡ q
+written-one r q e = sym (written-back r) ∙ ap writtenOf e ∙ written-back q
+
 abbrev readOf : Answer → ReadBack
 readOf (found []) = WordsShort
 readOf (found (n ∷ l)) = Words n
@@ -124,16 +127,19 @@ read-back (AfterText c) = refl
 read-back (UnknownName c) = refl
 read-back (BadOperand c) = refl
 
+pub read-one : (r q : ReadBack) → readAs r ≡ readAs q → r ≡ q
+read-one r q e = sym (read-back r) ∙ ap readOf e ∙ read-back q
+
 pub one-line : OneLine
-one-line ws b e e' r r' p q = (sym (written-back r) ∙ ap writtenOf (p .answer ∙ sym (q .answer)) ∙ written-back r', p .bytes ∙ sym (q .bytes))
+one-line ws b e e' r r' p q = (written-one r r' (p .answer ∙ sym (q .answer)), p .bytes ∙ sym (q .bytes))
 
 pub one-word : OneWord
-one-word w b e e' r r' p q = (sym (written-back r) ∙ ap writtenOf (p .answer ∙ sym (q .answer)) ∙ written-back r', p .bytes ∙ sym (q .bytes))
+one-word w b e e' r r' p q = (written-one r r' (p .answer ∙ sym (q .answer)), p .bytes ∙ sym (q .bytes))
 
 pub one-answer : OneAnswer
 one-answer t ws e e' r r' p q =
     let z = reads-one t ws e e' (readAs r) (readAs r') p q in
-    (sym (read-back r) ∙ ap readOf (z .0) ∙ read-back r', z .1)
+    (read-one r r' (z .0), z .1)
 
 pub refused-lines : RefusedLines
 refused-lines t ws e (Words n) h p = (λ q. absurd (no (sym q)), λ q. record { words = take n e; whole = p .whole; text = p .text })
