@@ -6,6 +6,7 @@ pub mod Causes
 pub mod Ends
 pub mod Jumpers
 pub mod Late
+pub mod Locks
 pub mod Places
 pub mod Restart
 pub mod Saved

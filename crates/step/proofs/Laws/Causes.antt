@@ -55,7 +55,7 @@ cause-not-7 Cause.Locked e = omega arith
 
 -- ---- the count of blanks is the count that the manual's steps give
 
-no-blank : (k : Kind) → isBlank (causeOf k) ≡ false
+pub no-blank : (k : Kind) → isBlank (causeOf k) ≡ false
 no-blank OpCode = refl
 no-blank HaltEnd = refl
 no-blank Boots = refl

@@ -62,7 +62,7 @@ module _ (settings : Settings) (map m : List ℕ) {s t : State} {out : Outside} 
 
 -- ---- a step is an op code, or it is not
 
-unlike : true ≡ false → ⊥
+pub unlike : true ≡ false → ⊥
 unlike e = let z : _≡_ {A = ℕ} 0 1 = cc in absurd (omega arith)
 
 pub no-code : {k : Kind} → k ≡ OpCode → isCode k ≡ false → ⊥

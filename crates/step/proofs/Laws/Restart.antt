@@ -50,7 +50,7 @@ restore-low s =
     gives _
 
 -- 12 lies on page 0
-same-page : (map : List ℕ) (a : ℕ) → a / 256 ≡ 0 → fitted map a ≡ fitted map 0x12
+pub same-page : (map : List ℕ) (a : ℕ) → a / 256 ≡ 0 → fitted map a ≡ fitted map 0x12
 unfolding fitted
 same-page map a e = rw e
 
@@ -59,7 +59,7 @@ found-blank : {A : Type 0} (b : Bool) (x : ℕ) {c : Came A} {a : ℕ} → found
 found-blank true x h g = g h
 found-blank false x h g = refl
 
-low-unfitted : {A : Type 0} (map : List ℕ) {w : Work A} (m : List ℕ) {a : ℕ} → Low w → run map w m ≡ blank a → fitted map 0x12 ≡ false
+pub low-unfitted : {A : Type 0} (map : List ℕ) {w : Work A} (m : List ℕ) {a : ℕ} → Low w → run map w m ≡ blank a → fitted map 0x12 ≡ false
 unfolding run
 low-unfitted map m (gives x) h = let z : _≡_ {A = ℕ} 0 1 = cc in absurd (omega arith)
 low-unfitted map m (reads z x e g) h =
