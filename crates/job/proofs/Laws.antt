@@ -1,4 +1,5 @@
 -- Laws of the job's definitions, in the order in which the proofs use them.
+pub mod Longest
 pub mod Sound
 use Prim.Native.Nat.{ℕ, zero, suc, _+_, _-_, _*_, _<_, _≤_}
 use mathlib.Core.Bool.{true, false, cond}

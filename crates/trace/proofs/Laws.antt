@@ -1,6 +1,7 @@
 -- From the callees' promises to the verdict, and to the trace that is made.
 pub mod Bytes
 pub mod First
+pub mod Longest
 pub mod Right
 use Prim.Native.Nat.{ℕ, zero, suc, _+_, _*_, _-_, _<_, _≤_}
 use mathlib.Core.Bool.{Bool, true, false, cond}
