@@ -6,6 +6,8 @@ pub mod Demand1
 pub mod Demand2
 pub mod Demand3
 pub mod Pages
+pub mod Programs
 pub mod Scans
 pub mod Sources
 pub mod Texts
+pub mod Took

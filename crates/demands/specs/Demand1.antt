@@ -111,35 +111,39 @@ MakeAnswers = (input out image map lines : List ℕ) (r : Made) (out′ image′
     → put out′ (Trace.left (madePage r) image′ map′ lines′) ≡ makeOf input out image map lines
     → Answers (whyMake input (length out) (length image) (length map) (length lines)) (madePage r) ((out′ ≡ out) × (image′ ≡ image) × (map′ ≡ map) × (lines′ ≡ lines))
 
--- THE SAME FOR C, whose answer is the number: 21 before the others. w are the settings' bytes
+-- THE SAME FOR C, whose answer is the number, with 21 before the others. w are the settings' bytes
+
+-- power-up: 21, 1, 2, 3, 35
 abbrev pub Wd16PowerUpAnswers : Type 0
 Wd16PowerUpAnswers = (b m map w : List ℕ) (number : ℕ) (b′ m′ : List ℕ) → told number (b′, m′) ≡ powerUpCall b m map w
     → Numbered (first (cond (refusedUp b w) noState 0) (powerWhy (settingsFrom w) m map)) number ((b′ ≡ b) × (m′ ≡ m))
 
+-- a step: 21, 1, 2, 3, 35, 5
 abbrev pub Wd16StepAnswers : Type 0
 Wd16StepAnswers = (b m map w : List ℕ) (line number : ℕ) (b′ m′ : List ℕ) → told number (b′, m′) ≡ stepCall b m map w line
     → Numbered (first (cond (refusedStep b w) noState 0) (stepWhy (settingsFrom w) m map line)) number ((b′ ≡ b) × (m′ ≡ m))
 
+-- a run: 21, 1, 2, 3, 35, 4, 5
 abbrev pub Wd16RunAnswers : Type 0
 Wd16RunAnswers = (b t m map w lines : List ℕ) (number : ℕ) (b′ t′ m′ : List ℕ) → told number (b′, t′, m′) ≡ runCall b t m map w lines
     → Numbered (first (cond (refusedRun b t w) noState 0) (runWhy (settingsFrom w) m map lines)) number ((b′ ≡ b) × (t′ ≡ t) × (m′ ≡ m))
 
--- the text written: 38, 8, 6, 7. a is the answer's buffer
+-- the text written: 21, 38, 8, 6, 7. a is the answer's buffer
 abbrev pub Wd16WriteTextAnswers : Type 0
 Wd16WriteTextAnswers = (b t a : List ℕ) (number : ℕ) (t′ a′ : List ℕ) → Textc.left number t′ a′ ≡ writeCall b t a
     → Numbered (first (cond (notAnswer a) noState 0) (first (cond (odd b) wordsOdd 0) (writeWhy (wordsIn b) t))) number ((t′ ≡ t) × (a′ ≡ a))
 
--- and read: 38, 10, then 32, 31, 9 or 30, which tell their column in the answer
+-- and read: 21, 38, 10, then 32, 31, 9 or 30, which tell their column in the answer
 abbrev pub Wd16ReadTextAnswers : Type 0
 Wd16ReadTextAnswers = (t b a : List ℕ) (number : ℕ) (b′ a′ : List ℕ) → ReadCall t b a (Textc.left number b′ a′)
     → Reading (first (cond (notAnswer a) noState 0) (first (cond (odd b) wordsOdd 0) (roomWhy (wordsIn b)))) t number ((b′ ≡ b) × OrPlace (tellsColumn number) (Column t) a a′)
 
--- the assembler: 10, 36, then 24, 25, 26, 28, 27, which tell their line in the answer
+-- the assembler: 21, 10, 36, then 24, 25, 26, 28, 27, which tell their line in the answer
 abbrev pub Wd16AssembleAnswers : Type 0
 Wd16AssembleAnswers = (s out b : List ℕ) (number : ℕ) (out′ b′ : List ℕ) → AssemblerC.went number out′ b′ ≡ assembleCall s out b
     → Numbered (first (cond (eqb (length b) 6) 0 noState) (assembleWhy s out)) number ((out′ ≡ out) × OrPlace (tellsLine number) (FaultLine s number) b b′)
 
--- a trace checked: the job's own but for 1, 2 and 4, as its buffers are the call's own; 29
+-- a trace checked: 21, the job's own but for 1, 2 and 4, as its buffers are the call's own, 29
 abbrev pub Wd16CheckTraceAnswers : Type 0
 Wd16CheckTraceAnswers = (job t b : List ℕ) (number : ℕ) (b′ : List ℕ) → Tracecall.went number b′ ≡ checkCall job t b
     → Numbered (first (cond (eqb (length b) 6) 0 noState) (first (whyJob job) (whyTrace t))) number (b′ ≡ b)

@@ -1,31 +1,46 @@
--- DEMAND 2. THE MANUAL, STEP BY STEP: each step does what the manual says, with the board's rules.
--- `stepOf` (step Step) is one step: its kind, its work op code by op code, the bus error. Here: whatever a call answers and leaves, as
--- its contract promises, where it is not refused it is what that definition says, in the page's numbers. The text of an op code, read
--- again, is optext's theorem.
-use Prim.Native.Nat.{ℕ, _<_}
-use mathlib.Core.List.{List}
+-- DEMAND 2. THE MANUAL, STEP BY STEP. Whatever calls answer and leave, as their contracts promise, where they are not refused.
+use Prim.Native.Nat.{ℕ, _*_, _≤_, _<_}
+use mathlib.Core.Bool.{false}
+use mathlib.Core.List.{List, [], _∷_}
 use mathlib.Core.Path.{_≡_}
 use lib.ListN.{length, getD, take}
+use Rattle.letters.specs.Over.{over}
+use Rattle.words.specs.Words.{wordAt, bytesIn}
 use Rattle.state.specs.declared.State.{State}
 use Rattle.state.specs.declared.Settings.{Settings}
 use Rattle.state.specs.State.{heard}
 use Rattle.step.specs.declared.Cause.the-variants as Cause
-use Rattle.step.specs.Step.{After, after, stepOf, powerUpOf}
-use Rattle.refusal.specs.Page.{answered, left}
+use Rattle.step.specs.Step.{After, after, stepOf, powerUpOf, causeNumber, addressOf}
+use Rattle.refusal.specs.Page.{answered, left, told}
 use Rattle.machine.specs.declared.Powered.{Powered}
 use Rattle.machine.specs.declared.Stepped.{Stepped}
 use Rattle.machine.specs.declared.Finished.{Finished}
-use Rattle.machine.specs.Numbers.{StatePage, TurnPage, RanPage}
+use Rattle.machine.specs.Numbers.{StatePage, statePage, nowhere, toldOf, TurnPage, placeOf, RanPage}
 use Rattle.machine.specs.Entry.{poweredPage, powered, powerUpPage, steppedPage, turned, stepPage, finishedPage, runPage}
-use Rattle.machine.specs.Trail.{trailOf, lastOf}
+use Rattle.machine.specs.Trail.{trailOf, lastOf, blanksIn, firstIn}
 use Rattle.machine.specs.Answered.{shown}
+use Rattle.firmware.specs.Layout.{bytesOf, tallyBytes, stateFrom, settingsFrom}
+use Rattle.firmware.specs.Calls.{powerUpCall, stepCall, runCall}
+use Rattle.optext.specs.declared.Written.{Written}
+use Rattle.optext.specs.declared.Written.the-variants.{Line}
+use Rattle.optext.specs.declared.ReadBack.{ReadBack}
+use Rattle.optext.specs.declared.ReadBack.the-variants.{Words}
+use Rattle.optext.specs.Answer.{readAs, Writes}
+use Rattle.optext.specs.Words.{Reads}
+use Rattle.textc.specs.Calls.{odd, writeCall, ReadCall}
+use Rattle.textc.specs.Calls as Textc
+use Rattle.demands.specs.Terms.{AllWords, AllBytes, beforeAt}
+
+-- ---- "Each step does what the WD16 Programmer's Reference Manual says, odd corners included, with the board's rules of document 01."
+-- `stepOf` (step Step) is one step: its kind, its work op code by op code, the bus error; `powerUpOf` is the power-up. Here: a call is what the
+-- definition says, in the page's numbers
 
 -- POWER-UP: the state and the image after it
 abbrev pub PowerUpIs : Type 0
 PowerUpIs = (settings : Settings) (m map : List ℕ) (r : Powered) (m′ : List ℕ) (p : StatePage) → left (poweredPage r) m′ ≡ powerUpPage settings m map → poweredPage r ≡ answered p
     → left (answered p) m′ ≡ powered (powerUpOf settings map m)
 
--- A STEP: the state, the cause and the image after it
+-- A STEP: the state, the cause, the address that it tells, and the image after it
 abbrev pub StepIs : Type 0
 StepIs = (settings : Settings) (m map : List ℕ) (line : ℕ) (s : State) (r : Stepped) (m′ : List ℕ) (p : TurnPage) → left (steppedPage r) m′ ≡ stepPage settings m map line s → steppedPage r ≡ answered p
     → left (answered p) m′ ≡ turned (stepOf map (heard settings line) s m)
@@ -39,5 +54,59 @@ RunIs = (settings : Settings) (m map lines : List ℕ) (s : State) (r : Finished
 abbrev pub TrailIs : Type 0
 TrailIs = (settings : Settings) (map lines : List ℕ) (s : State) (m : List ℕ)
     → (length (trailOf settings map lines s m) ≡ length lines)
-    × ((k : ℕ) → k < length lines → (let b = lastOf (after s m Cause.Nothing) (take k (trailOf settings map lines s m)) in
+    × ((k : ℕ) → k < length lines → (let b = beforeAt settings map lines s m k in
     (d : After) → getD (trailOf settings map lines s m) k d ≡ stepOf map (heard settings (getD lines k 0)) (b .state) (b .image)))
+
+-- THE SAME FOR C, byte by byte: b are the state's bytes, t the tally's, w the settings'. 0 is no refusal
+abbrev pub Wd16PowerUpIs : Type 0
+Wd16PowerUpIs = (b m map w b′ m′ : List ℕ) → told 0 (b′, m′) ≡ powerUpCall b m map w
+    → (let u = powerUpOf (settingsFrom w) map m in
+    (b′ ≡ bytesOf (statePage (u .state)) 0 nowhere) × (m′ ≡ u .image))
+
+abbrev pub Wd16StepIs : Type 0
+Wd16StepIs = (b m map w : List ℕ) (line : ℕ) (b′ m′ : List ℕ) → told 0 (b′, m′) ≡ stepCall b m map w line
+    → (let x = stepOf map (heard (settingsFrom w) line) (stateFrom b) m in
+    (b′ ≡ bytesOf (statePage (x .state)) (causeNumber (x .cause)) (toldOf (addressOf (x .cause)))) × (m′ ≡ x .image))
+
+abbrev pub Wd16RunIs : Type 0
+Wd16RunIs = (b t m map w lines b′ t′ m′ : List ℕ) → told 0 (b′, t′, m′) ≡ runCall b t m map w lines
+    → (let rs = trailOf (settingsFrom w) map lines (stateFrom b) m in
+    let x = lastOf (after (stateFrom b) m Cause.Nothing) rs in
+    (b′ ≡ bytesOf (statePage (x .state)) 0 nowhere) × (t′ ≡ tallyBytes (blanksIn rs) (placeOf (firstIn rs))) × (m′ ≡ x .image))
+
+-- ---- "The text of an op code, read again, gives the same words,"
+
+-- what a call of the writer left, given to a call of the reader with room for three words: the words that were taken, in front, and no other
+abbrev pub TextAgain : Type 0
+TextAgain = (words text : List ℕ) (n m : ℕ) (text′ room room′ : List ℕ) (r : ReadBack) → AllWords words
+    → Writes words text (Line n m) text′ → 3 ≤ length room → Reads (readAs r) (take n text′) room room′
+    → (r ≡ Words m) × (room′ ≡ over (take m words) room)
+
+-- for C: b are the words' bytes, a the writer's answer; c and d are lent to the reader for the words and for its answer
+abbrev pub Wd16TextAgain : Type 0
+Wd16TextAgain = (b t a t′ a′ c d : List ℕ) (number : ℕ) (c′ d′ : List ℕ) → AllBytes b → Textc.left 0 t′ a′ ≡ writeCall b t a
+    → length d ≡ 6 → odd c ≡ false → 6 ≤ length c → ReadCall (take (wordAt a′ 0) t′) c d (Textc.left number c′ d′)
+    → (number ≡ 0) × (c′ ≡ over (take (wordAt a′ 2 * 2) b) c) × (d′ ≡ bytesIn (wordAt a′ 2 ∷ 0 ∷ 0 ∷ []))
+
+-- ---- "and the reader takes only the texts that the writer makes."
+
+-- what a call of the writer with room for a line makes of the words that were read is the text that was read
+abbrev pub TextMade : Type 0
+TextMade = (t room room′ : List ℕ) (n : ℕ) (text text′ : List ℕ) (r : Written)
+    → Reads (readAs (Words n)) t room room′ → 32 ≤ length text → Writes (take n room′) text r text′ → (r ≡ Line (length t) n) × (text′ ≡ over t text)
+
+abbrev pub Wd16TextMade : Type 0
+Wd16TextMade = (t c d c′ d′ u a : List ℕ) (number : ℕ) (u′ a′ : List ℕ) → ReadCall t c d (Textc.left 0 c′ d′)
+    → length a ≡ 6 → 32 ≤ length u → Textc.left number u′ a′ ≡ writeCall (take (wordAt d′ 0 * 2) c′) u a
+    → (number ≡ 0) × (u′ ≡ over t u) × (a′ ≡ bytesIn (length t ∷ wordAt d′ 0 ∷ 0 ∷ []))
+
+-- ---- document 01: "words lent past these are ignored."
+
+-- other words with the same ones in front that were taken: the same answer, and the same text
+abbrev pub TextIgnores : Type 0
+TextIgnores = (words others text : List ℕ) (n m : ℕ) (text′ text″ : List ℕ) (r : Written)
+    → Writes words text (Line n m) text′ → take m others ≡ take m words → Writes others text r text″ → (r ≡ Line n m) × (text″ ≡ text′)
+
+abbrev pub Wd16TextIgnores : Type 0
+Wd16TextIgnores = (b v t a t′ a′ : List ℕ) (number : ℕ) (t″ a″ : List ℕ) → Textc.left 0 t′ a′ ≡ writeCall b t a → odd v ≡ false → take (wordAt a′ 2 * 2) v ≡ take (wordAt a′ 2 * 2) b
+    → Textc.left number t″ a″ ≡ writeCall v t a → (number ≡ 0) × (t″ ≡ t′) × (a″ ≡ a′)

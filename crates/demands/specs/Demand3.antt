@@ -1,16 +1,14 @@
--- DEMAND 3. A BLANK IS NOT A ZERO: what stands at unfitted addresses can influence nothing.
--- Whatever calls answer and leave, as their contracts promise.
+-- DEMAND 3. A BLANK IS NOT A ZERO. Whatever calls answer and leave, as their contracts promise.
 use Prim.Native.Nat.{ℕ}
-use mathlib.Core.Bool.{false}
+use mathlib.Core.Bool.{true, false}
 use mathlib.Core.List.{List}
 use mathlib.Core.Path.{_≡_}
 use lib.ListN.{length}
-use Rattle.board.specs.Work.{blank, value, Agree}
+use Rattle.board.specs.Work.{Agree}
 use Rattle.state.specs.declared.State.{State}
 use Rattle.state.specs.declared.Settings.{Settings}
 use Rattle.state.specs.State.{heard}
-use Rattle.step.specs.Step.{stepOf, causeNumber, isBlank}
-use Rattle.step.specs.Told.{accesses, StopsAt}
+use Rattle.step.specs.Told.{workAnswered}
 use Rattle.refusal.specs.Page.{answered, left, told}
 use Rattle.machine.specs.declared.Powered.{Powered}
 use Rattle.machine.specs.declared.Stepped.{Stepped}
@@ -18,7 +16,7 @@ use Rattle.machine.specs.declared.Finished.{Finished}
 use Rattle.machine.specs.Numbers.{TurnPage, RanPage}
 use Rattle.machine.specs.Entry.{poweredPage, powerUpPage, steppedPage, stepPage, finishedPage, runPage}
 use Rattle.machine.specs.Blind.{Blind}
-use Rattle.machine.specs.Trail.{trailOf, blanksIn, Least}
+use Rattle.firmware.specs.Layout.{stateFrom, settingsFrom}
 use Rattle.firmware.specs.Calls.{powerUpCall, stepCall, runCall}
 use Rattle.listing.specs.declared.Listed.{Listed}
 use Rattle.listing.specs.Calls.{listedPage, lineCall}
@@ -27,10 +25,10 @@ use Rattle.trace.specs.declared.Checked.{Checked}
 use Rattle.trace.specs.declared.Made.{Made}
 use Rattle.trace.specs.Trace.{checkedPage, whyCheck, checkOf, madePage, whyMake, put, makeOf}
 use Rattle.trace.specs.Trace as Trace
-use Rattle.demands.specs.Terms.{workAt, cameAt, Blanked}
+use Rattle.demands.specs.Terms.{Blanked, Fitted, Counted, StepBytes, TallyBytes}
 
--- ---- TWO CALLS OVER IMAGES THAT AGREE ON FITTED BYTES: the same answer, fitted bytes that agree again, and every byte that
--- can't be written, of an unfitted or a read-only page, as lent
+-- ---- "What stands at unfitted addresses can influence nothing: two images that agree on fitted bytes give equal answers, and unfitted bytes come
+-- back as lent." The same answer, fitted bytes that agree again, and every byte that can't be written, of an unfitted or a read-only page, as lent
 
 module _ (settings : Settings) (map m n : List ℕ) (l : length m ≡ length n) (g : Agree map m n) where
   abbrev pub PowerUpBlind : Type 0
@@ -77,20 +75,37 @@ module _ (input i₁ i₂ m₁ m₂ l₁ l₂ : List ℕ) (hi : length i₁ ≡ 
       → put out₁ (Trace.left (madePage r) i₁′ m₁′ l₁′) ≡ makeOf input out i₁ m₁ l₁ → put out₂ (Trace.left (madePage q) i₂′ m₂′ l₂′) ≡ makeOf input out i₂ m₂ l₂
       → (r ≡ q) × (out₁ ≡ out₂) × (whyMake input (length out) (length i₁) (length m₁) (length l₁) ≡ 0 → (i₁′ ≡ i₂′) × (m₁′ ≡ m₂′) × (l₁′ ≡ l₂′))
 
--- ---- A STEP WHOSE WORK REACHES A BLANK, where nothing is fitted or a read-only page was to be written, is a bus error, told by its
--- cause, or ends locked, and it tells the first such address that it reached; one whose work reaches none is no blank
+-- ---- "A step that reaches one is a bus error or a lock-up, never a value," from the accesses that the step's work makes, in order, on the map and
+-- the image (`accesses`): a read is answered where its page is fitted, a write where its page is fitted and not read-only
 
-module _ (settings : Settings) (m map : List ℕ) (line : ℕ) (s : State) (r : Stepped) (m′ : List ℕ) (p : TurnPage)
-    (e : left (steppedPage r) m′ ≡ stepPage settings m map line s) (d : steppedPage r ≡ answered p) where
-  abbrev pub StepBlanked : Type 0
-  StepBlanked = (a : ℕ) → cameAt settings map line s m ≡ blank a → StopsAt map a (accesses map (workAt settings line s) m) × Blanked settings line s m a p m′
+-- A STEP OF WHICH AN ACCESS IS NOT ANSWERED
+abbrev pub StepBlanked : Type 0
+StepBlanked = (settings : Settings) (m map : List ℕ) (line : ℕ) (s : State) (r : Stepped) (m′ : List ℕ) (p : TurnPage) → left (steppedPage r) m′ ≡ stepPage settings m map line s → steppedPage r ≡ answered p
+    → workAnswered map (heard settings line) s m ≡ false → Blanked map (heard settings line) s m p m′
 
-  abbrev pub StepFitted : Type 0
-  StepFitted = (t : State) (n : List ℕ) → cameAt settings map line s m ≡ value t n → (isBlank (stepOf map (heard settings line) s m .cause) ≡ false) × (p .cause ≡ causeNumber (stepOf map (heard settings line) s m .cause))
+-- and one of which every access is
+abbrev pub StepFitted : Type 0
+StepFitted = (settings : Settings) (m map : List ℕ) (line : ℕ) (s : State) (r : Stepped) (m′ : List ℕ) (p : TurnPage) → left (steppedPage r) m′ ≡ stepPage settings m map line s → steppedPage r ≡ answered p
+    → workAnswered map (heard settings line) s m ≡ true → Fitted map (heard settings line) s m p m′
 
--- ---- A RUN'S COUNT OF BLANKS is the number of its steps with cause 5, 6 or 9, its first place the least of theirs, with the address told there
+-- for C: b are the state's bytes, w the settings'
+abbrev pub Wd16StepBlanked : Type 0
+Wd16StepBlanked = (b m map w : List ℕ) (line : ℕ) (b′ m′ : List ℕ) → told 0 (b′, m′) ≡ stepCall b m map w line
+    → workAnswered map (heard (settingsFrom w) line) (stateFrom b) m ≡ false → StepBytes b′ (λ p. Blanked map (heard (settingsFrom w) line) (stateFrom b) m p m′)
 
+abbrev pub Wd16StepFitted : Type 0
+Wd16StepFitted = (b m map w : List ℕ) (line : ℕ) (b′ m′ : List ℕ) → told 0 (b′, m′) ≡ stepCall b m map w line
+    → workAnswered map (heard (settingsFrom w) line) (stateFrom b) m ≡ true → StepBytes b′ (λ p. Fitted map (heard (settingsFrom w) line) (stateFrom b) m p m′)
+
+-- ---- "and is counted."
+
+-- A RUN'S COUNT OF BLANKS, and the first of them
 abbrev pub RunCounted : Type 0
 RunCounted = (settings : Settings) (m map lines : List ℕ) (s : State) (r : Finished) (m′ : List ℕ) (p : RanPage)
     → left (finishedPage r) m′ ≡ runPage settings m map lines s → finishedPage r ≡ answered p
-    → (p .blanks ≡ blanksIn (trailOf settings map lines s m)) × Least (trailOf settings map lines s m) (p .first)
+    → Counted settings map lines s m (p .blanks) (p .first)
+
+-- for C: t′ are the tally's bytes
+abbrev pub Wd16RunCounted : Type 0
+Wd16RunCounted = (b t m map w lines b′ t′ m′ : List ℕ) → told 0 (b′, t′, m′) ≡ runCall b t m map w lines
+    → TallyBytes t′ (λ blanks place. Counted (settingsFrom w) map lines (stateFrom b) m blanks place)

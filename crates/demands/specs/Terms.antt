@@ -1,19 +1,22 @@
 -- The terms in which the demands are stated.
-use Prim.Native.Nat.{ℕ}
+use Prim.Native.Nat.{ℕ, _<_}
 use mathlib.Core.Bool.{Bool, true, false, _&&_, _||_, cond}
 use mathlib.Core.List.{List, [], _∷_}
 use mathlib.Core.Path.{_≡_}
 use lib.Dec.{eqb, leb, ltb}
-use lib.ListN.{length, getD}
+use lib.ListN.{length, take, getD}
 use Rattle.words.specs.Words.{bytesIn}
-use Rattle.board.specs.Work.{Work, Came, run}
+use Rattle.board.specs.Work.{value, run}
 use Rattle.state.specs.declared.State.{State}
 use Rattle.state.specs.declared.Settings.{Settings}
+use Rattle.state.specs.declared.Outside.{Outside}
 use Rattle.state.specs.declared.Mode.the-variants.{Locked}
 use Rattle.state.specs.State.{heard, withMode}
-use Rattle.step.specs.declared.Cause.{Cause}
-use Rattle.step.specs.declared.Cause.the-variants.{LockedAt}
-use Rattle.step.specs.Step.{kindOf, workOf, errorCauseOf, causeNumber, isBlank}
+use Rattle.step.specs.declared.Cause.the-variants as Cause
+use Rattle.step.specs.Step.{After, after, kindOf, workOf, errorCauseOf, causeNumber, isBlank}
+use Rattle.step.specs.Step as Step
+use Rattle.step.specs.Told.{accesses, StopsAt, trapAnswered, isBlankStep}
+use Rattle.step.specs.Locks.{LocksUp}
 use Rattle.refusal.specs.Numbers.{textShort, outputShort}
 use Rattle.refusal.specs.Page.{Page, refused, answered, first}
 use Rattle.optext.specs.Answer.{Answer, found, refusal, refusalAt}
@@ -21,7 +24,9 @@ use Rattle.optext.specs.Line.{taken}
 use Rattle.optext.specs.Column.{IsText, Column, Why}
 use Rattle.assembler.specs.Answer.{section, refusedAt}
 use Rattle.assembler.specs.Answer as Patch
-use Rattle.machine.specs.Numbers.{statePage, address, TurnPage}
+use Rattle.machine.specs.Numbers.{statePage, address, nowhere, TurnPage, Place}
+use Rattle.machine.specs.Trail.{trailOf, lastOf, blanksIn, causeAt, Least}
+use Rattle.firmware.specs.Layout.{bytesOf, tallyBytes}
 
 -- ---- demand 1. `why` is the number of the first refusal that applies, 0 where there is none; `AsLent` says that every buffer
 -- lent for writing is as it was lent
@@ -79,21 +84,66 @@ lineless (section n) = answered n
 lineless (Patch.refused why) = refused why
 lineless (refusedAt why line) = refused why
 
--- ---- demand 3
+-- ---- demand 2
 
--- the work of the step that a line word makes of a state, and what it comes to: a value, or a blank at the address that it reached
-abbrev pub workAt : Settings → ℕ → State → Work State
-workAt settings line s = workOf (kindOf s (heard settings line)) (heard settings line) s
+-- a list of words, and a list of bytes, as every lent one is
+abbrev pub AllWords : List ℕ → Type 0
+AllWords ws = (i : ℕ) → getD ws i 0 < 65536
 
-abbrev pub cameAt : Settings → List ℕ → ℕ → State → List ℕ → Came State
-cameAt settings map line s m = run map (workAt settings line s) m
+abbrev pub AllBytes : List ℕ → Type 0
+AllBytes b = (i : ℕ) → getD b i 0 < 256
 
--- the cause of its bus error at an address: 5 in an op code, 6 in an interrupt, 9 in a save
-abbrev pub errorCauseAt : Settings → ℕ → State → ℕ → Cause
-errorCauseAt settings line s a = errorCauseOf (kindOf s (heard settings line)) a
+-- where the steps of a run before the place k end, from a state and an image
+abbrev pub beforeAt : Settings → List ℕ → List ℕ → State → List ℕ → ℕ → After
+beforeAt settings map lines s m k = lastOf (after s m Cause.Nothing) (take k (trailOf settings map lines s m))
 
--- a step whose work reached a blank at the address a, which it tells: a bus error, told by its cause; or, where the bus error reached
--- one too, all is as before but the mode, which is locked
-pub data Blanked (settings : Settings) (line : ℕ) (s : State) (m : List ℕ) (a : ℕ) (p : TurnPage) (m′ : List ℕ) : Type 0 where
-  busError : p .cause ≡ causeNumber (errorCauseAt settings line s a) → isBlank (errorCauseAt settings line s a) ≡ true → p .told ≡ address a → Blanked settings line s m a p m′
-  locked : p .cause ≡ causeNumber (LockedAt a) → p .told ≡ address a → p .state ≡ statePage (withMode s Locked) → m′ ≡ m → Blanked settings line s m a p m′
+-- ---- demand 3. `out` is what a step hears: the board's settings and its line word. p is what the step answers, m′ the image that it leaves
+
+-- a cause that is a blank: 5 in an op code, 6 in an interrupt, 9 in a save
+abbrev pub blankCause : ℕ → Bool
+blankCause cause = eqb cause 5 || (eqb cause 6 || eqb cause 9)
+
+-- what becomes of a step whose work is dropped since the address `at` did not answer
+pub data BusErrorOrLock (map : List ℕ) (out : Outside) (s : State) (m : List ℕ) (at : ℕ) (p : TurnPage) (m′ : List ℕ) : Type 0 where
+  -- a bus error, told by its cause: the state t and the image n are those of the bus error's trap, from the state and the image before
+  busError : (t : State) (n : List ℕ) → run map (Step.busError (kindOf s out) out s) m ≡ value t n → p .state ≡ statePage t → m′ ≡ n
+      → p .cause ≡ causeNumber (errorCauseOf (kindOf s out) at) → blankCause (p .cause) ≡ true → BusErrorOrLock map out s m at p m′
+  -- where the trap is not answered either, a lock-up: all is as before but the mode
+  lockUp : trapAnswered map out s m ≡ false → p .state ≡ statePage (withMode s Locked) → m′ ≡ m → p .cause ≡ 8 → BusErrorOrLock map out s m at p m′
+
+-- a step that reaches an address which does not answer: it tells the first one, and is a bus error or a lock-up
+pub record Blanked (map : List ℕ) (out : Outside) (s : State) (m : List ℕ) (p : TurnPage) (m′ : List ℕ) : Type 0 where
+  pub at : ℕ
+  pub firstReached : StopsAt map at (accesses map (workOf (kindOf s out) out s) m)
+  pub told : p .told ≡ address at
+  pub ends : BusErrorOrLock map out s m at p m′
+
+-- a step that reaches none: the state and the image are those of its work, it tells no address, and its cause is no blank; 8 only where it was locked before, or by the halt option
+pub record Fitted (map : List ℕ) (out : Outside) (s : State) (m : List ℕ) (p : TurnPage) (m′ : List ℕ) : Type 0 where
+  pub next : State
+  pub came : run map (workOf (kindOf s out) out s) m ≡ value next m′
+  pub state : p .state ≡ statePage next
+  pub told : p .told ≡ nowhere
+  pub noBlank : blankCause (p .cause) ≡ false
+  pub lock : p .cause ≡ 8 → LocksUp out (s .mode)
+
+-- the count of a run's blanks and the first of them: as many as steps with cause 5, 6 or 9, the least of their places with the address told
+-- there; and the step at a place is one exactly where an access of its work is not answered, and the trap of its bus error is
+pub record Counted (settings : Settings) (map lines : List ℕ) (s : State) (m : List ℕ) (blanks : ℕ) (place : Place) : Type 0 where
+  pub number : blanks ≡ blanksIn (trailOf settings map lines s m)
+  pub least : Least (trailOf settings map lines s m) place
+  pub each : (k : ℕ) → k < length lines
+      → (let b = beforeAt settings map lines s m k in
+      isBlank (causeAt (trailOf settings map lines s m) k) ≡ isBlankStep map (heard settings (getD lines k 0)) (b .state) (b .image))
+
+-- the bytes that a call for C leaves are those of a step's answer, or of a run's tally, of which P holds
+pub record StepBytes (b : List ℕ) (P : TurnPage → Type 0) : Type 0 where
+  pub page : TurnPage
+  pub bytes : b ≡ bytesOf (page .state) (page .cause) (page .told)
+  pub holds : P page
+
+pub record TallyBytes (t : List ℕ) (P : ℕ → Place → Type 0) : Type 0 where
+  pub blanks : ℕ
+  pub place : Place
+  pub bytes : t ≡ tallyBytes blanks place
+  pub holds : P blanks place

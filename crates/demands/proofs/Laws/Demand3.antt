@@ -8,20 +8,14 @@ use Rattle.board.specs.Work.{Agree}
 use Rattle.state.specs.declared.State.{State}
 use Rattle.state.specs.declared.Settings.{Settings}
 use Rattle.state.specs.State.{heard}
-use Rattle.step.specs.Step.{stepOf}
-use Rattle.step.proofs.Laws.Causes.{value-no-blank}
-use Rattle.step.proofs.Laws.Told.{stops}
+use Rattle.step.specs.Step.{After, stepOf}
 use Rattle.refusal.specs.Numbers.{noState}
 use Rattle.refusal.specs.Page.{refused, answered, left}
 use Rattle.refusal.proofs.Laws.Page.{answered-one}
-use Rattle.machine.specs.declared.Stepped.{Stepped}
-use Rattle.machine.specs.Numbers.{TurnPage}
+use Rattle.machine.specs.Numbers.{TurnPage, turnPage}
 use Rattle.machine.specs.Entry.{poweredPage, powerUpPage, steppedPage, stepPage, finishedPage, runPage}
 use Rattle.machine.proofs.Laws.Back.{powered-one, stepped-one, finished-one}
 use Rattle.machine.proofs.Laws.Blind.{blind, power-same, power-kept, step-same, step-kept, run-same, run-kept}
-use Rattle.machine.specs.Trail.{trailOf}
-use Rattle.machine.proofs.Laws.Counted.{first-least}
-use Rattle.machine.proofs.Laws.Answered.{step-answer, run-answer}
 use Rattle.firmware.specs.Layout.{stateFrom, settingsFrom, refusedUp, refusedStep, refusedRun}
 use Rattle.firmware.specs.Calls.{upIn, stepIn, runIn, powerUpCall, stepCall, runCall}
 use Rattle.listing.proofs.Laws.Calls.{one-listed}
@@ -30,10 +24,10 @@ use Rattle.trace.specs.Trace.{whyCheck, checkOf, whyMake, put, makeOf}
 use Rattle.trace.specs.Trace as Trace
 use Rattle.trace.proofs.Laws.Right.{one-check, one-make}
 use Rattle.demands.proofs.Laws.Pages.{same-unless}
-use Rattle.demands.specs.Terms.{workAt}
 use Rattle.demands.proofs.Laws.Calls.{call-blind}
-use Rattle.demands.proofs.Laws.Blanks.{blanked, cause-is}
-use Rattle.demands.specs.Demand3.{PowerUpBlind, StepBlind, RunBlind, Wd16PowerUpBlind, Wd16StepBlind, Wd16RunBlind, ListLineBlind, CheckBlind, MakeBlind, StepBlanked, StepFitted, RunCounted}
+use Rattle.demands.proofs.Laws.Blanks.{blanked, fitted, counted}
+use Rattle.demands.proofs.Laws.Demand2.{step-is, run-is, wd16-step-is, wd16-run-is}
+use Rattle.demands.specs.Demand3.{PowerUpBlind, StepBlind, RunBlind, Wd16PowerUpBlind, Wd16StepBlind, Wd16RunBlind, ListLineBlind, CheckBlind, MakeBlind, StepBlanked, StepFitted, Wd16StepBlanked, Wd16StepFitted, RunCounted, Wd16RunCounted}
 
 -- ---- TWO CALLS OVER IMAGES THAT AGREE ON FITTED BYTES: the same answer, fitted bytes that agree again, and every byte that
 -- can't be written, of an unfitted or a read-only page, as lent
@@ -90,23 +84,38 @@ module _ (input i₁ i₂ m₁ m₂ l₁ l₂ : List ℕ) (hi : length i₁ ≡ 
       let one = one-make r q out₁ [] [] [] out₂ [] [] [] (h .0) in
       (one .0, one .1, λ z. (ap (λ z. z .rest .image) (h .1 z), ap (λ z. z .rest .map) (h .1 z), ap (λ z. z .rest .lines) (h .1 z)))
 
--- ---- A STEP WHOSE WORK REACHES A BLANK, where nothing is fitted or a read-only page was to be written, is a bus error, told by its
--- cause, or ends locked, and it tells the first such address that it reached; one whose work reaches none is no blank
+-- ---- a step by its accesses, and a run's count
 
-module _ (settings : Settings) (m map : List ℕ) (line : ℕ) (s : State) (r : Stepped) (m′ : List ℕ) (p : TurnPage)
-    (e : left (steppedPage r) m′ ≡ stepPage settings m map line s) (d : steppedPage r ≡ answered p) where
-  pub step-blanked : StepBlanked settings m map line s r m′ p e d
-  step-blanked a h = (
-    stops map (workAt settings line s) m h,
-    blanked settings line s m map h (step-answer settings m map line s (ap (λ z. left z m′) (sym d) ∙ e) .1),
-  )
+pub step-blanked : StepBlanked
+step-blanked settings m map line s r m′ p e d h = blanked map (heard settings line) s m (step-is settings m map line s r m′ p e d) h
 
-  pub step-fitted : StepFitted settings m map line s r m′ p e d
-  step-fitted t n h = (value-no-blank map (heard settings line) s m h, cause-is (stepOf map (heard settings line) s m) (step-answer settings m map line s (ap (λ z. left z m′) (sym d) ∙ e) .1))
+pub step-fitted : StepFitted
+step-fitted settings m map line s r m′ p e d h = fitted map (heard settings line) s m (step-is settings m map line s r m′ p e d) h
 
--- ---- A RUN'S COUNT OF BLANKS is the number of its steps with cause 5, 6 or 9, its first place the least of theirs, with the address told there
+-- the answer whose bytes a call for C leaves
+step-page : After → TurnPage
+step-page x = turnPage (record { state = x .state; cause = x .cause })
+
+pub wd16-step-blanked : Wd16StepBlanked
+unfolding step-page
+wd16-step-blanked b m map w line b′ m′ e h =
+    let x = stepOf map (heard (settingsFrom w) line) (stateFrom b) m in
+    let i = wd16-step-is b m map w line b′ m′ e in
+    record { page = step-page x; bytes = i .0; holds = blanked map (heard (settingsFrom w) line) (stateFrom b) m (ap (λ z. left (answered (step-page x)) z) (i .1)) h }
+
+pub wd16-step-fitted : Wd16StepFitted
+unfolding step-page
+wd16-step-fitted b m map w line b′ m′ e h =
+    let x = stepOf map (heard (settingsFrom w) line) (stateFrom b) m in
+    let i = wd16-step-is b m map w line b′ m′ e in
+    record { page = step-page x; bytes = i .0; holds = fitted map (heard (settingsFrom w) line) (stateFrom b) m (ap (λ z. left (answered (step-page x)) z) (i .1)) h }
 
 pub run-counted : RunCounted
 run-counted settings m map lines s r m′ p e d =
-    let h = answered-one (ap (λ z. z .page) (run-answer settings m map lines s (ap (λ z. left z m′) (sym d) ∙ e) .1)) in
-    (ap (λ z. z .blanks) h, rw (ap (λ z. z .first) h) (first-least (trailOf settings map lines s m)))
+    let h = answered-one (ap (λ z. z .page) (run-is settings m map lines s r m′ p e d)) in
+    rw (ap (λ z. z .blanks) h, ap (λ z. z .first) h) (counted settings map lines s m)
+
+pub wd16-run-counted : Wd16RunCounted
+wd16-run-counted b t m map w lines b′ t′ m′ e =
+    let i = wd16-run-is b t m map w lines b′ t′ m′ e in
+    record { blanks = _; place = _; bytes = i .1; holds = counted (settingsFrom w) map lines (stateFrom b) m }

@@ -7,26 +7,35 @@ use native.Mathlib.Omega.{arith}
 use lib.ListN.{length}
 use lib.Dec.{ltb}
 use Rattle.board.specs.Work.{Agree, Untouched}
+use Rattle.state.specs.declared.State.{State}
+use Rattle.state.specs.declared.Settings.{Settings}
+use Rattle.step.specs.declared.Cause.the-variants as Cause
 use Rattle.words.specs.Words.{byteAt}
 use Rattle.refusal.specs.Numbers.{noState, noChannel}
 use Rattle.refusal.specs.Page.{Page, refused, refusedAt, answered, first, unless}
-use Rattle.refusal.proofs.Laws.Page.{apart}
+use Rattle.refusal.proofs.Laws.Page.{apart, answered-one}
 use Rattle.machine.specs.declared.Tally.{Tally}
-use Rattle.machine.specs.Run.{End, end}
+use Rattle.machine.specs.Numbers.{placeOf}
+use Rattle.machine.specs.Run.{End, end, runOf}
+use Rattle.machine.specs.Trail.{trailOf, tallyIn}
+use Rattle.machine.proofs.Laws.Counted.{run-trail}
 use Rattle.machine.specs.Blind.{Blind}
-use Rattle.firmware.specs.Layout.{stateFrom, settingsFrom}
+use Rattle.firmware.specs.Layout.{tallyBytes, stateFrom, settingsFrom}
 use Rattle.plugs.specs.declared.Channel.{Channel}
 use Rattle.plugs.specs.declared.Plug.{Plug}
 use Rattle.recorder.specs.declared.Recorder.{Recorder}
-use Rattle.recorder.specs.Scan.{After, after, reportedPage, scanWhy, scanMap, ended, scanRun, scanDone, scanOf, reportPage}
+use Rattle.recorder.specs.declared.Scanned.{Scanned}
+use Rattle.recorder.specs.Scan.{After, after, answerPage, scannedPage, reportedPage, scanWhy, scanMap, scanImage, ended, scanRun, scanDone, scanOf, reportPage}
 use Rattle.recorder.proofs.Laws.Blind.{SameAfter, scan-same, scan-kept}
+use Rattle.recorder.proofs.Laws.Blind as Scan
 use Rattle.lentrecorder.specs.Layout.{channelsFrom, recorderFrom, refusedScan, refusedReport}
 use Rattle.lentrecorder.proofs.Laws.Sound.{sixteen}
 use Rattle.lentrecorder.specs.Calls.{scanned, scannedFrom, scanOn, scanCall, told, toldFrom, reportCall}
 use Rattle.lentrecorder.specs.Calls as Calls
 use Rattle.demands.specs.Terms.{Answers, Numbered}
 use Rattle.demands.proofs.Laws.Pages.{answers}
-use Rattle.demands.specs.Scans.{ScanAnswers, ReportAnswers, Wd16ScanAnswers, Wd16ReportAnswers, Wd16ScanBlind}
+use Rattle.demands.proofs.Laws.Blanks.{counted}
+use Rattle.demands.specs.Scans.{ScanAnswers, ReportAnswers, Wd16ScanAnswers, Wd16ReportAnswers, ScanBlind, Wd16ScanBlind, ScanCounted, Wd16ScanCounted}
 
 -- ---- demand 1
 
@@ -83,7 +92,12 @@ wd16-report-answers d channel b number b′ e = by (refusedReport d channel b) (
     by false true p e = record { numberIs = ap (λ z. z .number) e; unchanged = λ n. ap (λ z. z .report) e }
     by false false p e = record { numberIs = ap (λ z. z .number) e; unchanged = λ n. absurd (n (ap (λ z. z .number) e)) }
 
--- ---- demand 3: page FE is fitted by the cards, and both scans share the channels. recorder Blind has it for `scan`; for C:
+-- ---- demand 3
+
+pub scan-blind : ScanBlind
+scan-blind = Scan.scan-blind
+
+-- for C
 
 module _ (map m n b t d : List ℕ) (g : Agree map m n) where
   on-same : (r q : Recorder) (p o : Page Tally) (k l : List ℕ) → r ≡ q → p ≡ o → Agree map k l → Untouched map m k → Untouched map n l
@@ -125,3 +139,43 @@ module _ (w cards readings map lines m n : List ℕ) (l : length m ≡ length n)
       (λ h. scan-same r cs map (settingsFrom w) lines m n l g)
       (λ h. scan-kept r cs map (settingsFrom w) lines (sixteen b t w cards readings d h) m)
       (λ h. scan-kept r cs map (settingsFrom w) lines (sixteen b t w cards readings d h) n))
+
+-- ---- the count of a scan's blanks
+
+scan-tally : (settings : Settings) (map lines : List ℕ) (s : State) (m : List ℕ) → tallyOf (runOf settings map lines s m) ≡ tallyIn (trailOf settings map lines s m)
+unfolding tallyOf
+scan-tally settings map lines s m = ap tallyOf (run-trail settings map lines s m Cause.Nothing)
+
+-- what a scan counts that is not refused is its run's
+scan-took : (r : Recorder) (cs : List Channel) (m : List ℕ) (why : ℕ) (y : End) (x : Scanned) (m′ : List ℕ) (t : Tally)
+    → scannedPage x m′ ≡ unless why (ended r cs y) (after r (refused why) m) → answerPage (x .answer) ≡ answered t → t ≡ tallyOf y
+unfolding tallyOf
+scan-took r cs m zero (end s n u) x m′ t e d = answered-one (sym d ∙ ap (λ z. z .page) e)
+scan-took r cs m (suc why) y x m′ t e d = absurd (apart (sym d ∙ ap (λ z. z .page) e))
+
+pub scan-counted : ScanCounted
+unfolding scanOf scanDone
+scan-counted r cs m map settings lines x m′ t e d =
+    let h = scan-took r cs m (scanWhy r cs m map settings lines) (scanRun r cs m map settings lines) x m′ t e d ∙ scan-tally settings (scanMap cs map) lines (r .state) (scanImage cs m) in
+    rw (ap (λ z. z .blanks) h, ap (λ z. z .first) h) (counted settings (scanMap cs map) lines (r .state) (scanImage cs m))
+
+call-took : (bad : Bool) (b t m d : List ℕ) (r : Recorder) (cs : List Channel) (why : ℕ) (y : End) (b′ t′ m′ d′ : List ℕ)
+    → scanned 0 b′ t′ m′ d′ ≡ cond bad (scanned noState b t m d) (scanOn b t d (unless why (ended r cs y) (after r (refused why) m)))
+    → t′ ≡ tallyBytes (tallyOf y .blanks) (placeOf (tallyOf y .first))
+unfolding tallyOf
+call-took true b t m d r cs why y b′ t′ m′ d′ e = absurd (omega (arith, ap (λ z. z .number) e))
+call-took false b t m d r cs zero (end s n u) b′ t′ m′ d′ e = ap (λ z. z .tally) e
+call-took false b t m d r cs (suc why) y b′ t′ m′ d′ e = absurd (omega (arith, ap (λ z. z .number) e))
+
+pub wd16-scan-counted : Wd16ScanCounted
+unfolding scanCall scanOf scanDone recorderFrom
+wd16-scan-counted b t m map w lines cards readings d b′ t′ m′ d′ e =
+    let r = recorderFrom (stateFrom b) d in
+    let cs = channelsFrom cards readings in
+    let h = scan-tally (settingsFrom w) (scanMap cs map) lines (stateFrom b) (scanImage cs m) in
+    record {
+      blanks = _;
+      place = _;
+      bytes = call-took (refusedScan b t w cards readings d) b t m d r cs (scanWhy r cs m map (settingsFrom w) lines) (scanRun r cs m map (settingsFrom w) lines) b′ t′ m′ d′ e ∙ ap (λ (z : Tally). tallyBytes (z .blanks) (placeOf (z .first))) h;
+      holds = counted (settingsFrom w) (scanMap cs map) lines (stateFrom b) (scanImage cs m);
+    }

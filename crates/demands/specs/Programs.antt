@@ -1,0 +1,33 @@
+-- WHAT THE PROGRAMS READ SUFFICES. `bench`, `list`, `make_trace` and `check_trace` read one byte more than the longest job has, 25,096, or the longest trace,
+-- 1,310,702. Here: what they print of so many bytes is what they print of all that stands on their input.
+use Prim.Native.Nat.{ℕ}
+use mathlib.Core.List.{List}
+use mathlib.Core.Path.{_≡_}
+use lib.ListN.{take, drop}
+use Rattle.words.specs.Words.{wordAt}
+use Rattle.job.specs.Job.{whyJob, jobOf}
+use Rattle.runjob.specs.Bench.{benchOf}
+use Rattle.trace.specs.Trace.{checkOf, makeOf}
+use Rattle.demands.specs.Terms.{AllBytes}
+
+-- a job's refusal
+abbrev pub JobReads : Type 0
+JobReads = (input : List ℕ) → whyJob (take 25097 input) ≡ whyJob input
+
+-- bench: the line, and what is left in its buffers
+abbrev pub BenchReads : Type 0
+BenchReads = (input text image map lines : List ℕ) → benchOf (take 25097 input) text image map lines ≡ benchOf input text image map lines
+
+-- list, whose two addresses stand before the job
+abbrev pub ListReads : Type 0
+ListReads = (input image map lines : List ℕ)
+    → (wordAt (take 25101 input) 0 ≡ wordAt input 0) × (wordAt (take 25101 input) 2 ≡ wordAt input 2)
+    × (jobOf (drop 4 (take 25101 input)) image map lines ≡ jobOf (drop 4 input) image map lines)
+
+-- make_trace
+abbrev pub MakeReads : Type 0
+MakeReads = (input out image map lines : List ℕ) → makeOf (take 25097 input) out image map lines ≡ makeOf input out image map lines
+
+-- check_trace
+abbrev pub CheckReads : Type 0
+CheckReads = (input t image map lines : List ℕ) → AllBytes t → checkOf (take 25097 input) (take 1310703 t) image map lines ≡ checkOf input t image map lines
