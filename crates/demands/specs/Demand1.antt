@@ -24,7 +24,7 @@ use Rattle.job.specs.Job.{whyJob, whyRead, pageOf, after, jobOf}
 use Rattle.letters.specs.Over.{Left, written}
 use Rattle.optext.specs.declared.Written.{Written}
 use Rattle.optext.specs.declared.ReadBack.{ReadBack}
-use Rattle.optext.specs.Answer.{writtenAs, readAs, Writes, WritesWord}
+use Rattle.optext.specs.Answer.{refusal, refusalAt, writtenAs, readAs, Writes, WritesWord}
 use Rattle.optext.specs.Column.{Column}
 use Rattle.optext.specs.Words.{Reads}
 use Rattle.line.specs.Line.{refusedText}
@@ -47,7 +47,7 @@ use Rattle.trace.specs.Trace.{whyTrace, checkedPage, whyCheck, checkOf, madePag
 use Rattle.trace.specs.Trace as Trace
 use Rattle.tracecall.specs.Calls.{checkCall}
 use Rattle.tracecall.specs.Calls as Tracecall
-use Rattle.demands.specs.Terms.{Answers, Numbered, OrPlace, numberOf, writeWhy, roomWhy, Reading, tellsColumn, lineless}
+use Rattle.demands.specs.Terms.{Answers, Numbered, OrPlace, placeBytes, numberOf, writeWhy, roomWhy, Reading, tellsColumn, lineless}
 
 -- POWER-UP: 1, 2, 3, 35
 abbrev pub PowerUpAnswers : Type 0
@@ -87,7 +87,9 @@ WriteWordAnswers = (x : ℕ) (text : List ℕ) (r : Written) (text′ : List ℕ
 
 -- and read: 10, then 32, 31, 9 or 30 with its column
 abbrev pub ReadAnswers : Type 0
-ReadAnswers = (text words : List ℕ) (r : ReadBack) (words′ : List ℕ) → Reads (readAs r) text words words′ → Reading (roomWhy words) text (numberOf (readAs r)) (words′ ≡ words)
+ReadAnswers = (text words : List ℕ) (r : ReadBack) (words′ : List ℕ) → Reads (readAs r) text words words′
+    → (let n = numberOf (readAs r) in
+    Reading (roomWhy words) text n ((words′ ≡ words) × OrPlace (tellsColumn n) (Column text) (refusal n) (refusalAt n) (readAs r)))
 
 -- A LINE OF A LISTING: 1, 2, 3, 23, 8
 abbrev pub ListLineAnswers : Type 0
@@ -97,7 +99,8 @@ ListLineAnswers = (image map : List ℕ) (a last : ℕ) (text : List ℕ) (r : L
 -- THE ASSEMBLER: 10, 36, then 24, 25, 26, 28, 27 with the lowest line that has it
 abbrev pub AssembleAnswers : Type 0
 AssembleAnswers = (s out : List ℕ) (r : Assembled) (out′ : List ℕ) → Patch.after (Patch.pageOf r) out′ ≡ asmOf s out
-    → Answers (assembleWhy s out) (lineless (Patch.pageOf r)) (out′ ≡ out)
+    → (let why = assembleWhy s out in
+    Answers why (lineless (Patch.pageOf r)) ((out′ ≡ out) × OrPlace (tellsLine why) (FaultLine s why) (Patch.refused why) (Patch.refusedAt why) (Patch.pageOf r)))
 
 -- A TRACE CHECKED: the job's own, 29
 abbrev pub CheckAnswers : Type 0
@@ -136,12 +139,12 @@ Wd16WriteTextAnswers = (b t a : List ℕ) (number : ℕ) (t′ a′ : List ℕ) 
 -- and read: 21, 38, 10, then 32, 31, 9 or 30, which tell their column in the answer
 abbrev pub Wd16ReadTextAnswers : Type 0
 Wd16ReadTextAnswers = (t b a : List ℕ) (number : ℕ) (b′ a′ : List ℕ) → ReadCall t b a (Textc.left number b′ a′)
-    → Reading (first (cond (notAnswer a) noState 0) (first (cond (odd b) wordsOdd 0) (roomWhy (wordsIn b)))) t number ((b′ ≡ b) × OrPlace (tellsColumn number) (Column t) a a′)
+    → Reading (first (cond (notAnswer a) noState 0) (first (cond (odd b) wordsOdd 0) (roomWhy (wordsIn b)))) t number ((b′ ≡ b) × OrPlace (tellsColumn number) (Column t) a placeBytes a′)
 
 -- the assembler: 21, 10, 36, then 24, 25, 26, 28, 27, which tell their line in the answer
 abbrev pub Wd16AssembleAnswers : Type 0
 Wd16AssembleAnswers = (s out b : List ℕ) (number : ℕ) (out′ b′ : List ℕ) → AssemblerC.went number out′ b′ ≡ assembleCall s out b
-    → Numbered (first (cond (eqb (length b) 6) 0 noState) (assembleWhy s out)) number ((out′ ≡ out) × OrPlace (tellsLine number) (FaultLine s number) b b′)
+    → Numbered (first (cond (eqb (length b) 6) 0 noState) (assembleWhy s out)) number ((out′ ≡ out) × OrPlace (tellsLine number) (FaultLine s number) b placeBytes b′)
 
 -- a trace checked: 21, the job's own but for 1, 2 and 4, as its buffers are the call's own, 29
 abbrev pub Wd16CheckTraceAnswers : Type 0

@@ -41,10 +41,15 @@ pub record Numbered (why number : ℕ) (AsLent : Type 0) : Type 0 where
   pub numberIs : number ≡ why
   pub unchanged : (number ≡ 0 → ⊥) → AsLent
 
--- the answer's bytes of a refused call for C: as lent; or, where its number tells a place, a line or a column, 0, 0 and that place
-pub data OrPlace (tells : Bool) (IsPlace : ℕ → Type 0) (b b′ : List ℕ) : Type 0 where
-  asLent : tells ≡ false → b′ ≡ b → OrPlace tells IsPlace b b′
-  placeAlone : tells ≡ true → (place : ℕ) → IsPlace place → b′ ≡ bytesIn (0 ∷ 0 ∷ place ∷ []) → OrPlace tells IsPlace b b′
+-- what a refused call tells beside its number: nothing, which leaves `alone`; or, where the number tells a place, a line or a column, that place.
+-- x is the answer in Rattle, or the answer's bytes for C
+pub data OrPlace {A : Type 0} (tells : Bool) (IsPlace : ℕ → Type 0) (alone : A) (beside : ℕ → A) (x : A) : Type 0 where
+  numberAlone : tells ≡ false → x ≡ alone → OrPlace tells IsPlace alone beside x
+  placeToo : tells ≡ true → (place : ℕ) → IsPlace place → x ≡ beside place → OrPlace tells IsPlace alone beside x
+
+-- the place in the answer's bytes for C, after two words that are 0
+abbrev pub placeBytes : ℕ → List ℕ
+placeBytes place = bytesIn (0 ∷ 0 ∷ place ∷ [])
 
 -- the text of an op code: an answer's number, 0 where it is no refusal
 abbrev pub numberOf : Answer → ℕ

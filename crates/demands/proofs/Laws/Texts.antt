@@ -16,7 +16,7 @@ use Rattle.optext.specs.Line.{taken, textOf, wordText}
 use Rattle.optext.specs.Column.{Column, Why, early, after, name, operand}
 use Rattle.optext.specs.Words.{Reads}
 use Rattle.textc.specs.Calls.{wordsIn, odd, Left, left, writtenIn, readIn, ReadEven, ReadLent}
-use Rattle.demands.specs.Terms.{Numbered, OrPlace, asLent, placeAlone, numberOf, writeWhy, roomWhy, isText, noText, Reading, tellsColumn}
+use Rattle.demands.specs.Terms.{Numbered, OrPlace, numberAlone, placeToo, placeBytes, numberOf, writeWhy, roomWhy, isText, noText, Reading, tellsColumn}
 
 -- ---- writing
 
@@ -73,7 +73,8 @@ why-tells n (after e p i) = rw e refl
 why-tells n (name e p i s) = rw e refl
 why-tells n (operand e p i s) = rw e refl
 
-pub reads-numbered : (t ws e : List ℕ) (a : Answer) → Reads a t ws e → Reading (roomWhy ws) t (numberOf a) (e ≡ ws)
+pub reads-numbered : (t ws e : List ℕ) (a : Answer) → Reads a t ws e
+    → Reading (roomWhy ws) t (numberOf a) ((e ≡ ws) × OrPlace (tellsColumn (numberOf a)) (Column t) (refusal (numberOf a)) (refusalAt (numberOf a)) a)
 reads-numbered t ws e (found []) p = absurd p
 reads-numbered t ws e (found (n ∷ m ∷ l)) p = absurd p
 reads-numbered t ws e (found (n ∷ [])) p = rw (le-ltb (length ws) 3 (p .room)) (record {
@@ -81,20 +82,20 @@ reads-numbered t ws e (found (n ∷ [])) p = rw (le-ltb (length ws) 3 (p .room))
   ofText = λ z. isText refl (record { words = take n e; whole = p .whole; text = p .text });
   answers = record { numberIs = refl; unchanged = λ z. absurd (z refl) };
 })
-reads-numbered t ws e (refusal r) p = rw (lt-ltb (length ws) 3 (p .1 .room)) (lent-reading (λ z. omega (arith, z)) (p .0) (p .1 .same))
+reads-numbered t ws e (refusal r) p = rw (lt-ltb (length ws) 3 (p .1 .room)) (lent-reading (λ z. omega (arith, z)) (p .0) (p .1 .same, numberAlone (ap tellsColumn (p .0)) refl))
 reads-numbered t ws e (refusalAt r c) p = rw (le-ltb (length ws) 3 (p .room)) (record {
   own = r;
   ofText = λ z. noText c (p .none) (p .column) (p .why);
-  answers = record { numberIs = refl; unchanged = λ z. p .same };
+  answers = record { numberIs = refl; unchanged = λ z. (p .same, placeToo (why-tells r (p .why)) c (p .column) refl) };
 })
 
 -- for C: the words' bytes as lent, and the answer's, but for a column
 module _ (t b a : List ℕ) where
   abbrev sameRead : Left → Type 0
-  sameRead x = (x .buffer ≡ b) × OrPlace (tellsColumn (x .number)) (Column t) a (x .answer)
+  sameRead x = (x .buffer ≡ b) × OrPlace (tellsColumn (x .number)) (Column t) a placeBytes (x .answer)
 
   lent-read : (why : ℕ) (x : Left) → (why ≡ 0 → ⊥) → tellsColumn why ≡ false → x ≡ left why b a → Reading why t (x .number) (sameRead x)
-  lent-read why x n h e = lent-reading n (ap (λ z. z .number) e ∙ first-some why 0 n) (ap (λ z. z .buffer) e, asLent (ap (λ z. tellsColumn (z .number)) e ∙ h) (ap (λ z. z .answer) e))
+  lent-read why x n h e = lent-reading n (ap (λ z. z .number) e ∙ first-some why 0 n) (ap (λ z. z .buffer) e, numberAlone (ap (λ z. tellsColumn (z .number)) e ∙ h) (ap (λ z. z .answer) e))
 
   read-as : {lentWhy number : ℕ} {AsLent : Type 0} (x : Left) → x .number ≡ number → ((x .number ≡ 0 → ⊥) → sameRead x) → Reading lentWhy t number AsLent → Reading lentWhy t (x .number) (sameRead x)
   read-as x e f h = record { own = h .own; ofText = h .ofText; answers = record { numberIs = e ∙ h .answers .numberIs; unchanged = f } }
@@ -104,9 +105,9 @@ module _ (t b a : List ℕ) where
   read-with (found (k ∷ m ∷ l)) ws x p e = absurd p
   read-with (found (k ∷ [])) ws x p e = read-as x (ap (λ z. z .number) e) (λ z. absurd (z (ap (λ z. z .number) e))) (reads-numbered t (wordsIn b) ws (found (k ∷ [])) p)
   read-with (refusal r) ws x p e =
-      read-as x (ap (λ z. z .number) e) (λ z. (ap (λ z. z .buffer) e, asLent (ap (λ z. tellsColumn (z .number)) e ∙ ap tellsColumn (p .0)) (ap (λ z. z .answer) e))) (reads-numbered t (wordsIn b) ws (refusal r) p)
+      read-as x (ap (λ z. z .number) e) (λ z. (ap (λ z. z .buffer) e, numberAlone (ap (λ z. tellsColumn (z .number)) e ∙ ap tellsColumn (p .0)) (ap (λ z. z .answer) e))) (reads-numbered t (wordsIn b) ws (refusal r) p)
   read-with (refusalAt r c) ws x p e =
-      read-as x (ap (λ z. z .number) e) (λ z. (ap (λ z. z .buffer) e, placeAlone (ap (λ z. tellsColumn (z .number)) e ∙ why-tells r (p .why)) c (p .column) (ap (λ z. z .answer) e))) (reads-numbered t (wordsIn b) ws (refusalAt r c) p)
+      read-as x (ap (λ z. z .number) e) (λ z. (ap (λ z. z .buffer) e, placeToo (ap (λ z. tellsColumn (z .number)) e ∙ why-tells r (p .why)) c (p .column) (ap (λ z. z .answer) e))) (reads-numbered t (wordsIn b) ws (refusalAt r c) p)
 
   read-even : (uneven : Bool) (x : Left) → ReadEven uneven t b a x → Reading (first (cond uneven wordsOdd 0) (roomWhy (wordsIn b))) t (x .number) (sameRead x)
   read-even true x p = lent-read wordsOdd x (λ z. omega (arith, z)) refl p
