@@ -1,6 +1,5 @@
 // The library in WebAssembly: its calls, over buffers in its memory. Every call answers its number: 0, or that of its refusal.
 import { CHANNELS, LAST_WORD, MODE, MOST_LINES, PAGE, REPORT, SIZES, SOURCE_LINE, STATE, putWord, wordAt } from "./layout.mjs";
-import { withStandIns } from "./stand_ins.mjs";
 
 export class Library {
   constructor(bytes) {
@@ -13,7 +12,6 @@ export class Library {
     }
     const missing = at - this.calls.memory.buffer.byteLength;
     if (missing > 0) this.calls.memory.grow(Math.ceil(missing / 65536));
-    this.calls = withStandIns(this.calls);
     for (const [name, size] of Object.entries(SIZES)) this[name] = new Uint8Array(this.calls.memory.buffer, this.at[name], size);
   }
 

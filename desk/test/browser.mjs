@@ -100,7 +100,8 @@ export class Browser {
     if (place === null) throw new Error(`${selector} can't be clicked: it is not there`);
     if (!place.top) throw new Error(`${selector} can't be clicked: something else is on top, or it is not shown`);
     const { x, y } = place;
-    for (const type of ["mousePressed", "mouseReleased"]) await this.send("Input.dispatchMouseEvent", { type, x, y, button: "left", clickCount: 1 });
+    for (const type of ["mousePressed", "mouseReleased"])
+      await this.send("Input.dispatchMouseEvent", { type, x, y, button: "left", clickCount: 1 });
   }
 
   // Writes over what an input or a text holds, as if typed.

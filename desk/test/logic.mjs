@@ -121,7 +121,8 @@ function refusals() {
     ["microm maybe", "1:8+5 microm yes, or microm no"],
     ["external 1\nexternal 2", "2:10+1 this setting of the board is given twice"],
     ["pages 00\nscan 1 2 3", "2:10+1 a scan has 16 channels; here are 3"],
-    ["pages 00\nscan 1 2 3 4 5 6 7 8 9 10 11 12 13 14 15 1x", "2:42+2 '1x' is no reading and not --: tenths of a degree are needed, as -37"],
+    ["pages 00\nscan 1 2 3 4 5 6 7 8 9 10 11 12 13 14 15 1x",
+      "2:42+2 '1x' is no reading and not --: tenths of a degree are needed, as -37"],
     ["pages 00\n0016 = AWAY", "2:8+4 no line gives the label AWAY"],
     ["pages 00\n0080 = 1\n.ORG 0080\nNOP", "2:8+1 an assembler line has a word at 0080 too"],
     ["pages 00\n.ORG 0080\nSTART: MOV #5,R1", "3:14+1 24 (30): four hex digits are needed: #0005"],
@@ -132,15 +133,16 @@ function refusals() {
     ["pages 00\nBR  AWAY ; away", "2:5+4 26: no line gives the label AWAY"],
     ["pages 00\n.ORG 0000\nA: NOP\n.ORG 0001\nNOP", `3:1+2 24: a label is one to six capitals, no hex number, not SP or PC`],
     ["pages 00\nTOP: NOP\n.ORG 0081\nNOP", `3:1+9 28: ${words.of("refusal", 28)}`],
-    ["pages 00\nSOB R1,FAR\n.ORG 0090\nFAR: NOP", "2:8+3 27: out of reach: a branch goes 128 words back to 127 ahead, SOB 0 to 63 back: FAR"],
+    ["pages 00\nSOB R1,FAR\n.ORG 0090\nFAR: NOP",
+      "2:8+3 27: out of reach: a branch goes 128 words back to 127 ahead, SOB 0 to 63 back: FAR"],
     ["pages 00\nMOV R0,R1 but this line is a lot too long", "2:33+9 a line has 32 characters at most without its comment; here are 41"],
     ["\n\n# nothing", "no line of the text says anything"],
     ["pages 00\u0000", "1:9+1 no text: a byte is 00"],
   ];
   for (const [text, right] of cases) same(JSON.stringify(text), right, refusal(text));
   same("of a patch", "patch 2:4+4 26: no line gives the label AWAY", refusal("pages 00", "NOP\nBR AWAY"));
-  const all = ["\uFEFFpages 00 10-12\r", "read-only 12\r0016 = START # up", "microm no", "jumpers halt 2", ".ORG 0080", " START:\tBR  START ; ever",
-    "T: .WORD START", "lines 0000 x3"].join("\n");
+  const all = ["\uFEFFpages 00 10-12\r", "read-only 12\r0016 = START # up", "microm no", "jumpers halt 2", ".ORG 0080",
+    " START:\tBR  START ; ever", "T: .WORD START", "lines 0000 x3"].join("\n");
   same("one with all kinds of lines", "taken", refusal(all));
   same("its labels", [["START", 0x80], ["T", 0x82]], [...desk.labels]);
   same("its words", ["0080", "01FF", "0080"], [0x16, 0x80, 0x82].map((at) => hex(wordAt(library.image, at))));

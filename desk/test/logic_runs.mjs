@@ -89,8 +89,8 @@ export async function more({ given, words, newDesk, snapshot: of }) {
   async function backwards() {
     load("card-pulled.txt");
     const seen = [snapshot()], step = ["step"];
-    const acts = [step, step, step, ["pull", 0xC0], step, step, ["poke", 0x40, 0x1234], ["protect", 0], ["protect", 0], ["assemble", ".ORG 0040\nNOP"],
-      step, ["setRegister", 3, 7], ["setBoard", 1, 2, "jumpers"], ["powerUp"], step];
+    const acts = [step, step, step, ["pull", 0xC0], step, step, ["poke", 0x40, 0x1234], ["protect", 0], ["protect", 0],
+      ["assemble", ".ORG 0040\nNOP"], step, ["setRegister", 3, 7], ["setBoard", 1, 2, "jumpers"], ["powerUp"], step];
     for (const [act, ...how] of acts) desk[act](...how), seen.push(snapshot());
     while (seen.length > 1) {
       seen.pop();
@@ -121,7 +121,8 @@ export async function more({ given, words, newDesk, snapshot: of }) {
     const drawn = picture(report, desk.rows, 4, 50);
     same("a dot for each reading", 8, drawn.split("h.01").length - 1);
     same("a gap for the missing cards", 1, drawn.split('class="gap"').length - 1);
-    const told = "8 readings; from 5.9 to 6.1 degrees, average 6.01; no card in scan 5 to 8; limit 5.0: 8 readings over it, the average is over it.";
+    const told = "8 readings; from 5.9 to 6.1 degrees, average 6.01; no card in scan 5 to 8; " +
+      "limit 5.0: 8 readings over it, the average is over it.";
     same("in words", true, drawn.includes(told));
     load("no-card.scans");
     while (nextScan(desk) !== null);
@@ -179,19 +180,20 @@ export async function more({ given, words, newDesk, snapshot: of }) {
     same("a bad map", `the saved desk is refused: ${words.refusal(3)}`, lost({ map: "9".repeat(256) }));
     same("a short image", "the saved desk's image can't be read", lost({ image: "00" }));
     same("no list", "the saved desk's rows can't be read", lost({ rows: [[1, 2]] }));
-    for (const [name, value] of [["stops", 3], ["stops", { causes: [], addresses: ["x"], writes: [] }], ["limits", { 99: 5 }], ["labels", [[1]]], ["starts", [-1]],
-      ["scans", [{}]], ["steps", -1], ["text", 5], ["lines", "zz"]])
-      same(`a bad ${name}`, true, /can't be read|not a hex number/.test(lost({ [name]: value })));
+    const bad = [["stops", 3], ["stops", { causes: [], addresses: ["x"], writes: [] }], ["limits", { 99: 5 }], ["labels", [[1]]],
+      ["starts", [-1]], ["scans", [{}]], ["steps", -1], ["text", 5], ["lines", "zz"]];
+    for (const [name, value] of bad) same(`a bad ${name}`, true, /can't be read|not a hex number/.test(lost({ [name]: value })));
     same("a cut file", "no saved desk", thrown(() => bringBack(fresh, file.slice(0, 900), given)).slice(0, 13));
     same("nothing is changed by those", was, snapshot(fresh));
   }
 
   // A job with its patch and its board is one text, and reads to the same job; a job's bytes give a text that reads to them.
   function texts() {
-    const text = ["pages 00", "0012 = 0090 0080 0080 # vectors", ".ORG 0080", "START: MOV #0005,R1", "AGAIN: ADD R1,R0", "INC R2", "SOB R1,AGAIN",
-      "DONE: BR DONE", "lines 0000 x17", ""].join("\n");
+    const text = ["pages 00", "0012 = 0090 0080 0080 # vectors", ".ORG 0080", "START: MOV #0005,R1", "AGAIN: ADD R1,R0", "INC R2",
+      "SOB R1,AGAIN", "DONE: BR DONE", "lines 0000 x17", ""].join("\n");
     const patch = "ST: .ORG 0014\n.WORD 1234\n.ORG 0082\n.WORD 0009\n.ORG 0088\nNOP", board = [0, 1, 2, 0x2F];
-    const joined = (job, beside, on) => joinedText(job, beside, on, desk.library, words), read = (job, beside = "") => jobOf(job, beside, desk.library, words);
+    const joined = (job, beside, on) => joinedText(job, beside, on, desk.library, words);
+    const read = (job, beside = "") => jobOf(job, beside, desk.library, words);
     const inHex = ({ bytes }) => Buffer.from(bytes).toString("hex"), again = read(joined(text, patch, board));
     same("one text", inHex(read(text, patch)), inHex(again));
     same("its board", board, again.board);
