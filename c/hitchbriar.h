@@ -252,6 +252,8 @@ uint8_t wd16_step(uint8_t *state, size_t state_length, uint8_t *image, size_t im
 
 /* One step for each line word: the state, with cause 0, the tally and the image after them. Refusals: 21, 1, 2,
    3, 35, 4, 5.
+   No line word at all leaves the image, the tally of no blank, and the state but for the cause and the address of the step
+   before, which become 0: so a step's cause is to be read before a run.
    A run may be made in parts, each from the state and the image that the one before left: it ends as the run over all lines.
    The blanks add up, and the first is the first part's, or else the second's with its place moved on by the first's length
    (c/example.c).

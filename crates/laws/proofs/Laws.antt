@@ -5,6 +5,7 @@ pub mod Boards
 pub mod Branches
 pub mod Calls
 pub mod Cards
+pub mod Empty
 pub mod Halves
 pub mod Mark
 pub mod Marked

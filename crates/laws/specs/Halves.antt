@@ -3,11 +3,11 @@
 -- second's with its place moved on by the first's length; an empty list is neutral.
 -- Whatever runs answer and leave, as their contract promises. That none is refused is a conclusion: the settings, the map and the
 -- image aren't, the lists have at most 4,096 words in all, and no word has an unused bit.
-use Prim.Native.Nat.{ℕ, _+_, _≤_}
+use Prim.Native.Nat.{ℕ, _+_, _≤_, _<_}
 use mathlib.Core.List.{List, [], _∷_, _++_}
 use mathlib.Core.Path.{_≡_}
 use Rattle.state.specs.declared.State.{State}
-use Rattle.words.specs.Words.{wordAt}
+use Rattle.words.specs.Words.{byteAt, wordAt}
 use Rattle.machine.specs.declared.Ran.{Ran}
 use Rattle.machine.specs.declared.Finished.{Finished}
 use Rattle.machine.specs.declared.Finished.the-variants as Finished
@@ -21,9 +21,10 @@ use Rattle.refusal.specs.Page.{left, told}
 use Rattle.refusal.specs.Refusal.{allOf, plain}
 use Rattle.machine.specs.declared.Stepped.{Stepped}
 use Rattle.machine.specs.Entry.{powerWhy, steppedPage, finishedPage, stepPage, runPage}
-use Rattle.firmware.specs.Layout.{settingsFrom, refusedStep}
+use Rattle.firmware.specs.Layout.{tallyBytes, settingsFrom, refusedStep}
+use Rattle.machine.specs.Numbers.{none}
 use Rattle.firmware.specs.Calls.{stepCall, runCall}
-use Rattle.laws.specs.One.{asRun, OneCall}
+use Rattle.laws.specs.One.{asRun, uncaused, OneCall}
 use Rattle.machine.specs.declared.Tally.{Tally}
 use lib.Dec.{eqb}
 
@@ -132,3 +133,10 @@ module _ (map w xs ys b t t′ t″ m : List ℕ) (good : refusedStep b w ≡ fa
 abbrev pub Wd16RunOne : Type 0
 Wd16RunOne = (b t m map w : List ℕ) (line k j : ℕ) (b₁ t₁ m₁ b₂ m₂ : List ℕ) → length t ≡ 6
     → told k (b₁, t₁, m₁) ≡ runCall b t m map w (line ∷ []) → told j (b₂, m₂) ≡ stepCall b m map w line → OneCall k j b₁ t₁ m₁ b₂ m₂
+
+-- AN EMPTY LIST FOR C: an empty run leaves the image, and the state's bytes but for the cause and the address that the step before left
+-- there, which become 0 (`uncaused`); its tally has no blank. So what a C caller wants of a step's cause is to be read before the run.
+-- The premise on b is what bytes are; the others are that nothing is refused.
+abbrev pub Wd16RunNone : Type 0
+Wd16RunNone = (b t m map w : List ℕ) (k : ℕ) (b₁ t₁ m₁ : List ℕ) → refusedStep b w ≡ false → length t ≡ 6 → powerWhy (settingsFrom w) m map ≡ 0 → ((i : ℕ) → byteAt b i < 256)
+    → told k (b₁, t₁, m₁) ≡ runCall b t m map w [] → (k ≡ 0) × (b₁ ≡ uncaused b) × (t₁ ≡ tallyBytes 0 none) × (m₁ ≡ m)
