@@ -7,6 +7,7 @@ pub mod Calls
 pub mod Cards
 pub mod Empty
 pub mod Halves
+pub mod Labels
 pub mod Mark
 pub mod Marked
 pub mod More

@@ -1,6 +1,7 @@
 -- WISH 2. BRANCH CONDITIONS THAT CAN BE READ: "Show seven conditions and one reversal. No caller may see a difference." The program's
 -- seven conditions and their reversal (arith Branch) are, in every step over an op code of format 5, the manual's fifteen printed lines.
 use Prim.Native.Nat.{ℕ}
+use Prim.Native.String.{String}
 use mathlib.Core.Bool.{Bool, true, false, not, _||_, cond}
 use mathlib.Core.List.{List, [], _∷_}
 use mathlib.Core.Path.{_≡_}
@@ -20,32 +21,33 @@ use Rattle.step.specs.declared.Turn.{Turn}
 use Rattle.step.specs.declared.Cause.the-variants as Cause
 use Rattle.laws.specs.Mark.{Steps}
 
--- a printed line: the high byte, and when "PC ← PC + (DISP * 2)"
+-- a printed line: its name, the high byte, and when "PC ← PC + (DISP * 2)"
 pub record Line : Type 0 where
+  pub name : String
   pub high : ℕ
   pub when : Flags → Bool
 
-abbrev pub line : ℕ → (Flags → Bool) → Line
-line high when = record { high = high; when = when }
+abbrev pub line : String → ℕ → (Flags → Bool) → Line
+line name high when = record { name = name; high = high; when = when }
 
 -- the manual's OPERATION lines of format 5: "IF x = 0" is not x, "IF x = 1" is x
 abbrev pub lines : List Line
 lines
-    = line 0x01 (λ f. true)  -- BR
-    ∷ line 0x02 (λ f. not (f .z))  -- BNE
-    ∷ line 0x03 (λ f. f .z)  -- BEQ
-    ∷ line 0x04 (λ f. not (f .n xor f .v))  -- BGE
-    ∷ line 0x05 (λ f. f .n xor f .v)  -- BLT
-    ∷ line 0x06 (λ f. not (f .z || (f .n xor f .v)))  -- BGT
-    ∷ line 0x07 (λ f. f .z || (f .n xor f .v))  -- BLE
-    ∷ line 0x80 (λ f. not (f .n))  -- BPL
-    ∷ line 0x81 (λ f. f .n)  -- BMI
-    ∷ line 0x82 (λ f. not (f .c || f .z))  -- BHI
-    ∷ line 0x83 (λ f. f .c || f .z)  -- BLOS
-    ∷ line 0x84 (λ f. not (f .v))  -- BVC
-    ∷ line 0x85 (λ f. f .v)  -- BVS
-    ∷ line 0x86 (λ f. not (f .c))  -- BCC, BHIS
-    ∷ line 0x87 (λ f. f .c)  -- BCS, BLO
+    = line "BR" 0x01 (λ f. true)
+    ∷ line "BNE" 0x02 (λ f. not (f .z))
+    ∷ line "BEQ" 0x03 (λ f. f .z)
+    ∷ line "BGE" 0x04 (λ f. not (f .n xor f .v))
+    ∷ line "BLT" 0x05 (λ f. f .n xor f .v)
+    ∷ line "BGT" 0x06 (λ f. not (f .z || (f .n xor f .v)))
+    ∷ line "BLE" 0x07 (λ f. f .z || (f .n xor f .v))
+    ∷ line "BPL" 0x80 (λ f. not (f .n))
+    ∷ line "BMI" 0x81 (λ f. f .n)
+    ∷ line "BHI" 0x82 (λ f. not (f .c || f .z))
+    ∷ line "BLOS" 0x83 (λ f. f .c || f .z)
+    ∷ line "BVC" 0x84 (λ f. not (f .v))
+    ∷ line "BVS" 0x85 (λ f. f .v)
+    ∷ line "BCC" 0x86 (λ f. not (f .c))  -- also BHIS
+    ∷ line "BCS" 0x87 (λ f. f .c)  -- also BLO
     ∷ []
 
 -- the line of a high byte; there is none of another

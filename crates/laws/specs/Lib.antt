@@ -6,3 +6,4 @@ pub mod Recorded
 pub mod Branches
 pub mod Traces
 pub mod Boards
+pub mod Labels

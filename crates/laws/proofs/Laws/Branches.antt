@@ -61,13 +61,16 @@ bounds true false false w h a b c d e = let z : _≡_ {A = ℕ} 0 1 = cc in absu
 bounds false y true false h a b c d e = let z : _≡_ {A = ℕ} 0 1 = cc in absurd (omega arith)
 bounds false y false w h a b c d e = let z : _≡_ {A = ℕ} 0 1 = cc in absurd (omega arith)
 
-abbrev within : ℕ → ℕ → ℕ → Bool
+abbrev pub within : ℕ → ℕ → ℕ → Bool
 within from to h = leb from h && leb h to
 
-five : (h : ℕ) → formatOf h ≡ 5 → Five h
+pub plate-five : (h : ℕ) → formatOf h ≡ 5 → cond (within 0x01 0x07 h) true (within 0x80 0x87 h) ≡ true
 unfolding formatOf
-five h e = bounds (leb 1 h) (leb h 7) (leb 0x80 h) (leb h 0x87) h refl refl refl refl
-    (walk (eqb h 0) (within 0x01 0x07 h) (within 0x80 0x87 h) (within 0x08 0x09 h) (within 0x88 0x89 h) (within 0x8e 0x8f h) (within 0x0a 0x0d h) (within 0x8a 0x8d h) (within 0x0e 0x0f h) (within 0x70 0x7f h) (within 0x10 0x6f h) (within 0x90 0xef h) e)
+plate-five h e =
+    walk (eqb h 0) (within 0x01 0x07 h) (within 0x80 0x87 h) (within 0x08 0x09 h) (within 0x88 0x89 h) (within 0x8e 0x8f h) (within 0x0a 0x0d h) (within 0x8a 0x8d h) (within 0x0e 0x0f h) (within 0x70 0x7f h) (within 0x10 0x6f h) (within 0x90 0xef h) e
+
+five : (h : ℕ) → formatOf h ≡ 5 → Five h
+five h e = bounds (leb 1 h) (leb h 7) (leb 0x80 h) (leb h 0x87) h refl refl refl refl (plate-five h e)
 
 -- ---- each printed line, by its number
 
@@ -88,7 +91,7 @@ printed-line h f (high j e l) =
     subst (λ (x : ℕ). taken (x % 8 + x / 128 * 8) f ≡ whenIn lines x f) (sym e)
     (below (λ j. taken ((0x80 + j) % 8 + (0x80 + j) / 128 * 8) f ≡ whenIn lines (0x80 + j) f) 8 (high-printed f) j l)
 
-taken-printed : (op : ℕ) (f : Flags) → formatOf (highByte op) ≡ 5 → taken (branchNumber op) f ≡ whenIn lines (highByte op) f
+pub taken-printed : (op : ℕ) (f : Flags) → formatOf (highByte op) ≡ 5 → taken (branchNumber op) f ≡ whenIn lines (highByte op) f
 taken-printed op f e =
     let number : branchNumber op ≡ op / 256 % 8 + op / 256 / 128 * 8 = omega arith in
     ap (λ k. taken k f) number ∙ printed-line (op / 256) f (five (op / 256) e)
