@@ -11,6 +11,7 @@ pub mod Labels
 pub mod Mark
 pub mod Marked
 pub mod More
+pub mod Moves
 pub mod One
 pub mod Recorded
 pub mod Sizes

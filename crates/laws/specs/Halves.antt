@@ -11,9 +11,9 @@ use Rattle.words.specs.Words.{byteAt, wordAt}
 use Rattle.machine.specs.declared.Ran.{Ran}
 use Rattle.machine.specs.declared.Finished.{Finished}
 use Rattle.machine.specs.declared.Finished.the-variants as Finished
-use Rattle.machine.specs.Run.{noBlanks, End, end, runOf}
+use Rattle.machine.specs.Run.{noBlanks}
 use Rattle.machine.specs.Trail.{moved}
-use Rattle.machine.specs.Counted.{orFirst, joined}
+use Rattle.machine.specs.Counted.{orFirst}
 use mathlib.Core.Bool.{true, false, cond}
 use lib.ListN.{length}
 use Rattle.state.specs.declared.Settings.{Settings}
@@ -25,18 +25,7 @@ use Rattle.firmware.specs.Layout.{tallyBytes, settingsFrom, refusedStep}
 use Rattle.machine.specs.Numbers.{none}
 use Rattle.firmware.specs.Calls.{stepCall, runCall}
 use Rattle.laws.specs.One.{asRun, uncaused, OneCall}
-use Rattle.machine.specs.declared.Tally.{Tally}
 use lib.Dec.{eqb}
-
--- ---- a run that goes on
-
--- an end, with the tally of n steps before it
-abbrev pub behind : ℕ → Tally → End → End
-behind n t (end s m u) = end s m (joined n t u)
-
--- after n steps that ended so, the run over the lines that follow
-abbrev pub goOn : Settings → List ℕ → ℕ → List ℕ → End → End
-goOn settings map n lines (end s m t) = behind n t (runOf settings map lines s m)
 
 -- ---- the first blank of two calls for C, by the words of their tallies
 

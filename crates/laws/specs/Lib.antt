@@ -6,4 +6,5 @@ pub mod Recorded
 pub mod Branches
 pub mod Traces
 pub mod Boards
+pub mod Moves
 pub mod Labels

@@ -1,10 +1,10 @@
 -- What every end of a piece of work has, whatever it reads and whatever of it is answered.
 use Prim.Native.Nat.{ℕ, zero, suc}
-use mathlib.Core.Bool.{Bool, true, false, cond}
+use mathlib.Core.Bool.{Bool, true, false, cond, true≢false}
 use mathlib.Core.List.{List, [], _∷_}
-use mathlib.Core.Path.{_≡_, refl, ap, subst}
+use mathlib.Core.Path.{_≡_, refl, sym, ap, subst}
 use lib.ListN.{getD}
-use Rattle.board.specs.Work.{Work, give, readAt, writeAt, value, fitted, writable, get, put, found, run, _>>=_}
+use Rattle.board.specs.Work.{Work, give, readAt, writeAt, Came, value, fitted, writable, get, put, found, run, _>>=_}
 use Rattle.board.proofs.Laws.Alike.{found-value}
 
 -- every A that the work may end in is so
@@ -36,6 +36,29 @@ unfolding run _>>=_
 run-give map (give x) m = refl
 run-give map (readAt z a k) m = ap (λ c. found (fitted map a) a c) (run-give map (k (get z m a)) m)
 run-give map (writeAt z a v w) m = ap (λ c. found (writable map a) a c) (run-give map w (put z m a v))
+
+-- work after work that came to a value: so did the first, and then the second
+pub record Split {A B : Type 0} (map : List ℕ) (w : Work A) (f : A → Work B) (m : List ℕ) (y : B) (n : List ℕ) : Type 0 where
+  pub came : A
+  pub image : List ℕ
+  pub first : run map w m ≡ value came image
+  pub second : run map (f came) image ≡ value y n
+
+found-true : {A : Type 0} (b : Bool) (a : ℕ) (y c : Came A) → b ≡ true → y ≡ c → found b a y ≡ c
+found-true true a y c e h = h
+found-true false a y c e h = absurd (true≢false (sym e))
+
+pub run-split : {A B : Type 0} (map : List ℕ) (w : Work A) (f : A → Work B) (m : List ℕ) {y : B} {n : List ℕ} → run map (w >>= f) m ≡ value y n → Split map w f m y n
+unfolding run _>>=_
+run-split map (give x) f m h = record { came = x; image = m; first = refl; second = h }
+run-split map (readAt z a k) f m {y} {n} h =
+    let here = found-value (fitted map a) a _ y n h in
+    let s = run-split map (k (get z m a)) f m (here .1) in
+    record { came = s .came; image = s .image; first = found-true (fitted map a) a _ _ (here .0) (s .first); second = s .second }
+run-split map (writeAt z a v w) f m {y} {n} h =
+    let here = found-value (writable map a) a _ y n h in
+    let s = run-split map w f (put z m a v) (here .1) in
+    record { came = s .came; image = s .image; first = found-true (writable map a) a _ _ (here .0) (s .first); second = s .second }
 
 -- whatever the first comes to
 pub always-after : {A B : Type 0} (Q : B → Type 0) (w : Work A) (f : A → Work B) → ((x : A) → Always Q (f x)) → Always Q (w >>= f)

@@ -17,7 +17,18 @@ use Rattle.machine.specs.Trail.{trailOf, lastOf}
 use Rattle.machine.specs.Counted.{joined}
 use Rattle.machine.proofs.Laws.Counted.{rest-trail, run-trail}
 use Rattle.laws.proofs.Laws.Taken.{ran-is}
-use Rattle.laws.specs.Halves.{behind, goOn}
+
+-- ---- a run that goes on
+
+-- an end, with the tally of n steps before it
+abbrev pub behind : ℕ → Tally → End → End
+behind n t (end s m u) = end s m (joined n t u)
+
+-- after n steps that ended so, the run over the lines that follow
+abbrev pub goOn : Settings → List ℕ → ℕ → List ℕ → End → End
+goOn settings map n lines (end s m t) = behind n t (runOf settings map lines s m)
+
+-- ---- over two lists
 
 -- the trail over both is the trail over the first, then the trail over the second
 pub trail-append : (settings : Settings) (map xs ys : List ℕ) (s : State) (m : List ℕ) (c : Cause)
