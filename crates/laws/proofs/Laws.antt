@@ -12,6 +12,7 @@ pub mod Mark
 pub mod Marked
 pub mod More
 pub mod Moves
+pub mod Names
 pub mod One
 pub mod Recorded
 pub mod Sizes

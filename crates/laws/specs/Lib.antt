@@ -7,4 +7,5 @@ pub mod Branches
 pub mod Traces
 pub mod Boards
 pub mod Moves
+pub mod Names
 pub mod Labels
