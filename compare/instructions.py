@@ -35,7 +35,8 @@ def lent(program, runs):
         board[page] = 1
     for entry in program[2]:
         image[entry >> 16 : (entry >> 16) + 2] = (entry & 0xFFFF).to_bytes(2, "little")
-    return [str(runs), program[0]], bytes(image + board)
+    lines = b"".join(word.to_bytes(2, "little") for word in program[3]) * (LINES // 16)
+    return [str(runs), program[0]], bytes(image + board) + lines
 
 
 def end(wrote, name):

@@ -1,5 +1,5 @@
 // Runs one program on the plain interpreter's function over lent buffers, to count its instructions where there is no Rust
-// library for x86-64: lent RUNS NAME < IMAGE AND MAP. compare/instructions.sh compiles it, with ENDED as the name that the
+// library for x86-64: lent RUNS NAME < IMAGE, MAP AND LINE WORDS. compare/instructions.sh compiles it, with ENDED as the name that the
 // compiler gave the function; a slice is an address and a length. It prints the name, and R0 to R5, SP and PC at the end.
 #include <stdint.h>
 #include <stdio.h>
@@ -11,7 +11,8 @@ static uint8_t image[65536], map[256];
 static uint16_t lines[4096], registers[8];
 
 int main(int count, char **words) {
-    if (count != 3 || fread(image, 1, sizeof image, stdin) != sizeof image || fread(map, 1, sizeof map, stdin) != sizeof map)
+    if (count != 3 || fread(image, 1, sizeof image, stdin) != sizeof image || fread(map, 1, sizeof map, stdin) != sizeof map ||
+        fread(lines, 2, 4096, stdin) != 4096)
         return 2;
     if (ENDED(image, sizeof image, map, sizeof map, lines, 4096, atoi(words[1]), registers)) return 1;
     printf("end %s", words[2]);

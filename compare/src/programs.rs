@@ -1,6 +1,7 @@
 //! The programs that the speed is measured with, read from `programs.txt`.
 
 use crate::board::{IMAGE, PAGES};
+use crate::machine::MOST_LINES;
 
 /// The list as people read it.
 pub const LIST: &str = include_str!("../programs.txt");
@@ -11,6 +12,7 @@ pub struct Program {
     pub map: [u8; PAGES],
     pub image: Vec<u8>,
     pub runs: usize,
+    pub lines: Vec<u16>,
 }
 
 fn hex(text: &str) -> usize {
@@ -23,15 +25,20 @@ fn named(name: &str) -> Program {
         map: [0; PAGES],
         image: vec![0; IMAGE],
         runs: 0,
+        lines: vec![0; MOST_LINES],
     }
 }
 
 impl Program {
-    /// Takes a line of the list: its pages, the number of its runs, or a word at an address.
+    /// Takes a line of the list: its pages, the number of its runs, its line words, or a word at an address.
     fn take(&mut self, first: &str, rest: &str) {
         match first {
             "pages" => rest.split(' ').for_each(|page| self.map[hex(page)] = 1),
             "runs" => self.runs = rest.parse().expect("a number of runs"),
+            "lines" => {
+                let words: Vec<u16> = rest.split(' ').map(|word| hex(word) as u16).collect();
+                self.lines = words.into_iter().cycle().take(MOST_LINES).collect();
+            }
             address => {
                 let (at, word) = (hex(address), hex(rest) as u16);
                 self.image[at..at + 2].copy_from_slice(&word.to_le_bytes());

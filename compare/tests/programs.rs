@@ -5,18 +5,20 @@ use wd16::text::write_text;
 use wd16::{power_up, run, Level, Mode, Setup};
 
 #[test]
-fn five_programs_run_on_and_only_the_storm_is_blank() {
+fn the_programs_run_on_and_only_the_storm_is_blank() {
     let programs = read_programs(LIST);
     let names: Vec<&str> = programs
         .iter()
         .map(|program| program.name.as_str())
         .collect();
-    assert_eq!(names, ["sob", "copy", "call", "byte", "storm"]);
+    assert_eq!(names, [
+            "sob", "copy", "call", "byte", "storm", "lines", "block"
+        ]);
     for mut program in programs {
         let setup = Setup::bench(Level::LANDED);
         let (image, map) = (&mut program.image, &program.map);
         let state = power_up(&setup, image, map).unwrap();
-        let ran = run(&setup, state, image, map, &[0; 4_096]).unwrap();
+        let ran = run(&setup, state, image, map, &program.lines).unwrap();
         assert_eq!(ran.state.mode, Mode::Running);
         assert_eq!(ran.blanks > 1_000, program.name == "storm");
         assert_eq!(ran.blanks == 0, program.name != "storm");
@@ -56,5 +58,5 @@ fn the_comments_are_the_op_codes() {
         assert!(comment.trim_start().starts_with(text), "{line}: {text}");
         checked += 1;
     }
-    assert_eq!(checked, 40);
+    assert_eq!(checked, 53);
 }

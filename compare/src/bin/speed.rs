@@ -1,4 +1,4 @@
-//! Runs the five programs of `programs.txt`, and tells where each ends and how fast
+//! Runs the programs of `programs.txt`, and tells where each ends and how fast
 //! it got there. An argument takes the place of the list's number of runs; after it, the
 //! name of a program has that one run alone, once.
 //!
@@ -25,7 +25,7 @@ struct End {
 
 /// Power-up and all runs of a program; also the seconds that the runs took.
 fn measure(program: &Program, runs: usize) -> (End, f64) {
-    let lines = [0; MOST_LINES];
+    let lines = program.lines.as_slice();
     let setup = Setup::bench(Level::LANDED);
     let mut image = program.image.clone();
     let state = power_up(&setup, &mut image, &program.map).expect("a good board");
@@ -38,7 +38,7 @@ fn measure(program: &Program, runs: usize) -> (End, f64) {
     let mut blanks = 0;
     let start = Instant::now();
     for _ in 0..runs {
-        last = run(&setup, last.state, &mut image, &program.map, &lines).expect("a good run");
+        last = run(&setup, last.state, &mut image, &program.map, lines).expect("a good run");
         blanks += u32::from(last.blanks);
     }
     let seconds = start.elapsed().as_secs_f64();

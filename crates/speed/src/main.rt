@@ -1,4 +1,4 @@
-// Runs the five programs of compare/programs.txt, and prints where each ends. Standard input has the runs of each, a line each.
+// Runs the programs of compare/programs.txt, and prints where each ends. Standard input has the runs of each, a line each.
 use libc::STDIN_FILENO;
 use libc::STDOUT_FILENO;
 use machine::Finished;
@@ -106,9 +106,24 @@ fn print_end(name: &[u8], last: Ran, blanks: u32, image: &[u8]) {
     io::write_all(STDOUT_FILENO, b"\n");
 }
 
-// Each run goes on from the state and the image that the run before it left, over 4,096 quiet line words.
-fn repeat(name: &[u8], s: State, image: &mut [u8; 65536], map: &[u8; 256], runs: u16) {
-    let lines = [0u16; 4096];
+// Sixteen line words, over and over.
+fn fill(lines: &mut [u16; 4096], sixteen: &[u16; 16]) {
+    let mut i: usize = 0;
+    while i < 4096 {
+        lines[i] = sixteen[i % 16];
+        i += 1;
+    }
+}
+
+// Each run goes on from the state and the image that the run before it left, over 4,096 line words.
+fn repeat(
+    name: &[u8],
+    s: State,
+    image: &mut [u8; 65536],
+    map: &[u8; 256],
+    lines: &[u16; 4096],
+    runs: u16,
+) {
     let tally = Tally {
         blanks: 0,
         first: First::Never,
@@ -118,13 +133,7 @@ fn repeat(name: &[u8], s: State, image: &mut [u8; 65536], map: &[u8; 256], runs:
     let mut i: u16 = 0;
     while i < runs {
         let state = last.state;
-        if let Finished::Done(ran) = machine::run(
-            state,
-            image,
-            map,
-            report::bench_board(),
-            &lines,
-        ) {
+        if let Finished::Done(ran) = machine::run(state, image, map, report::bench_board(), lines) {
             let tally = ran.tally;
             blanks = std::num::wrapping_add_u32(blanks, tally.blanks as u32);
             last = ran;
@@ -139,24 +148,39 @@ fn powered(image: &mut [u8; 65536], map: &[u8; 256]) -> Powered {
 }
 
 // A program is powered up once.
-fn measure(name: &[u8], pages: &[u8], words: &[u32], runs: u16) {
+fn measure(name: &[u8], pages: &[u8], words: &[u32], sixteen: &[u16; 16], runs: u16) {
     let mut image = [0u8; 65536];
     let mut map = [0u8; 256];
     fit(&mut map, pages);
     put(&mut image, words);
+    let mut lines = [0u16; 4096];
+    fill(&mut lines, sixteen);
     if let Powered::Up(s) = powered(&mut image, &map) {
-        repeat(name, s, &mut image, &map, runs);
+        repeat(name, s, &mut image, &map, &lines, runs);
     }
+}
+
+// A program on quiet line words.
+fn quietly(name: &[u8], pages: &[u8], words: &[u32], runs: u16) {
+    measure(name, pages, words, &programs::QUIET_LINES, runs);
 }
 
 // The program of a number.
 fn measure_at(k: u16, runs: u16) {
     match k {
-        0 => measure(b"sob", &programs::SOB_PAGES, &programs::SOB, runs),
-        1 => measure(b"copy", &programs::COPY_PAGES, &programs::COPY, runs),
-        2 => measure(b"call", &programs::CALL_PAGES, &programs::CALL, runs),
-        3 => measure(b"byte", &programs::BYTE_PAGES, &programs::BYTE, runs),
-        4 => measure(b"storm", &programs::STORM_PAGES, &programs::STORM, runs),
+        0 => quietly(b"sob", &programs::SOB_PAGES, &programs::SOB, runs),
+        1 => quietly(b"copy", &programs::COPY_PAGES, &programs::COPY, runs),
+        2 => quietly(b"call", &programs::CALL_PAGES, &programs::CALL, runs),
+        3 => quietly(b"byte", &programs::BYTE_PAGES, &programs::BYTE, runs),
+        4 => quietly(b"storm", &programs::STORM_PAGES, &programs::STORM, runs),
+        5 => measure(
+            b"lines",
+            &programs::LINES_PAGES,
+            &programs::LINES,
+            &programs::LINES_LINES,
+            runs,
+        ),
+        6 => quietly(b"block", &programs::BLOCK_PAGES, &programs::BLOCK, runs),
         _ => {}
     }
 }

@@ -1,4 +1,23 @@
-// The five programs of compare/programs.txt: the fitted pages of each, and its words, address and word.
+// The programs of compare/programs.txt: the fitted pages of each, its words, address and word, and its line words.
+
+pub const QUIET_LINES: [u16; 16] = [
+    0x0000,
+    0x0000,
+    0x0000,
+    0x0000,
+    0x0000,
+    0x0000,
+    0x0000,
+    0x0000,
+    0x0000,
+    0x0000,
+    0x0000,
+    0x0000,
+    0x0000,
+    0x0000,
+    0x0000,
+    0x0000,
+];
 
 pub const SOB_PAGES: [u8; 1] = [0x00];
 
@@ -89,4 +108,123 @@ pub const STORM: [u32; 13] = [
     0x0090_01fb, // BR FB back to 0088
     0x0096_0c85, // INC R5 counts the bus errors
     0x0098_000f, // RTT to the op code after the one dropped
+];
+
+pub const LINES_PAGES: [u8; 2] = [0x00, 0x03];
+
+pub const LINES_LINES: [u16; 16] = [
+    0x0000,
+    0x0100,
+    0x0000,
+    0x0100,
+    0x0000,
+    0x0100,
+    0x0000,
+    0x0100,
+    0x0000,
+    0x0100,
+    0x0000,
+    0x0100,
+    0x0000,
+    0x0100,
+    0x0000,
+    0x0101,
+];
+
+pub const LINES: [u32; 11] = [
+    0x0016_0080, // PC at power-up
+    0x0028_0030, // where the table of I0 is
+    0x0032_006e, // device 1: PC 00A0
+    0x0080_b5c6, // MOV #0400,SP
+    0x0082_0400,
+    0x0084_0002, // IEN
+    0x0086_0c80, // INC R0
+    0x0088_0c41, // NEG R1
+    0x008a_01fd, // BR FD back to 0086
+    0x00a0_0c85, // INC R5 counts the interrupts
+    0x00a2_000f, // RTT
+];
+
+pub const BLOCK_PAGES: [u8; 65] = [
+    0x00,
+    0x20,
+    0x21,
+    0x22,
+    0x23,
+    0x24,
+    0x25,
+    0x26,
+    0x27,
+    0x28,
+    0x29,
+    0x2a,
+    0x2b,
+    0x2c,
+    0x2d,
+    0x2e,
+    0x2f,
+    0x30,
+    0x31,
+    0x32,
+    0x33,
+    0x34,
+    0x35,
+    0x36,
+    0x37,
+    0x38,
+    0x39,
+    0x3a,
+    0x3b,
+    0x3c,
+    0x3d,
+    0x3e,
+    0x3f,
+    0x40,
+    0x41,
+    0x42,
+    0x43,
+    0x44,
+    0x45,
+    0x46,
+    0x47,
+    0x48,
+    0x49,
+    0x4a,
+    0x4b,
+    0x4c,
+    0x4d,
+    0x4e,
+    0x4f,
+    0x50,
+    0x51,
+    0x52,
+    0x53,
+    0x54,
+    0x55,
+    0x56,
+    0x57,
+    0x58,
+    0x59,
+    0x5a,
+    0x5b,
+    0x5c,
+    0x5d,
+    0x5e,
+    0x5f,
+];
+
+pub const BLOCK: [u32; 13] = [
+    0x0016_0080, // PC at power-up
+    0x0080_b5c0, // MOV #1000,R0 4,096 elements
+    0x0082_1000,
+    0x0084_b5c1, // MOV #2000,R1
+    0x0086_2000,
+    0x0088_b5c2, // MOV #4000,R2
+    0x008a_4000,
+    0x008c_0c9f, // INC @#2000 so that each pass moves something new
+    0x008e_2000,
+    0x0090_0e0a, // MBWU R1,R2
+    0x0092_01f6, // BR F6 back to 0080
+    0x2002_1234, // a word to move
+    0x3ffe_abcd, // the last word to move
 ];

@@ -5,10 +5,10 @@ use Rattle.speed.proofs.repeat.Statement.{statement}
 use Rattle.speed.proofs.repeat.Tie as tie
 
 abbrev Inv-loop : tie.InvT-loop
-Inv-loop name image₀ map runs lines last₀ blanks₀ i₀ image last blanks i = i ≤ runs
+Inv-loop name image₀ map lines runs last₀ blanks₀ i₀ image last blanks i = i ≤ runs
 
 abbrev μ-loop : tie.MeasureT-loop
-μ-loop name image₀ map runs lines last₀ blanks₀ i₀ image last blanks i = runs - i
+μ-loop name image₀ map lines runs last₀ blanks₀ i₀ image last blanks i = runs - i
 
 pub repeat-spec : {M : Type 1} → statement M
 repeat-spec =
@@ -18,7 +18,6 @@ repeat-spec =
     μ-loop
     (λ c. search needs)
     (λ c κs. search needs)
-    (λ c. search needs)
     (λ c κs. search needs)
     (λ c. search needs)
     (λ c. search needs)
