@@ -18,7 +18,8 @@ said() { # STATUS NAME
 
 said 0 story <board/story.txt
 diff board/story.out "$out/$chip.story"
-sed -n '/^channel/,/^ *15 /p' "$out/$chip.story" | diff jobs/pulled-card.table -
+table='/^channel/,/^ *15 /p'
+sed -n "$table" "$out/$chip.story" | diff <(sed -n "$table" jobs/pulled-card.table) -
 echo "$chip: the story ok"
 
 printf '%s\n' hold 'wait 2' scramble 'wait 30' state end | said 0 scramble

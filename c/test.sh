@@ -1,12 +1,15 @@
 #!/usr/bin/env bash
 # Tests the C interface before the proof: the examples, plain and under the address sanitizer, and random calls through the
 # library beside the plain interpreter (build it first: cargo build --release in compare).
-#   c/test.sh [SEED [CASES [LIBRARY]]]
+#   c/test.sh [SEED [CASES [LIBRARY]]]          CASES is 20,000 at least
 # The library's code is not proved here, or it is in LIBRARY, which was proved before (c/build.sh says more).
 set -euo pipefail
 cd "$(dirname "$0")/.."
 . compare/toolchain.sh
 seed=${1:-$(date +%s)} cases=${2:-40000}
+# Of fewer cases some op code or addressing mode is reached by none, which counts as a failure.
+least=20000
+[ "$cases" -ge "$least" ] 2>/dev/null || { echo "c/test.sh: CASES is a number, $least at least: fewer don't reach every op code" >&2; exit 2; }
 c/build.sh "${@:3}"
 [ -n "${3:-}" ] || emulator=
 

@@ -13,6 +13,7 @@ from command.ends import NOT_DONE, Stop, say, say_as_it_is
 from command.words import ROOT
 
 TARGET = os.path.join(ROOT, "target")
+UNPROVED = os.path.join(TARGET, "unproved")
 COMPILE = '. "$1/compare/toolchain.sh" && unproved_program "$1" "$2" "$3"'
 
 
@@ -42,8 +43,13 @@ def alone():
 def built(name, proved):
     """A program's file, built as was asked for."""
     try:
+        if not proved:
+            say(f"{name} is compiled without proof")
+            program = os.path.join(UNPROVED, f"{name}-{content(name)}")
+            if os.path.exists(program):
+                return program
         with alone(), work() as made:
-            return check(name, made) if proved else compiled(name, made)
+            return check(name, made) if proved else compiled(name, program, made)
     except OSError as why:
         raise Stop(NOT_DONE, f"{name} is not built: {why}") from None
 
@@ -110,14 +116,11 @@ def content(name):
     return digest.hexdigest()[:16]
 
 
-def compiled(name, made):
-    """Compiles a program with no proof, unless one of the same content is there."""
-    say(f"{name} is compiled without proof")
-    folder = os.path.join(TARGET, "unproved")
-    program = os.path.join(folder, f"{name}-{content(name)}")
+def compiled(name, program, made):
+    """Compiles a program with no proof, and keeps it under the name of its content alone."""
     if os.path.exists(program):
         return program
-    os.makedirs(folder, exist_ok=True)
+    os.makedirs(UNPROVED, exist_ok=True)
     made_program = os.path.join(made, name)
     words = ["sh", "-c", COMPILE, "sh", ROOT, name, made_program]
     status, _, said = children.run(words, cwd=ROOT, env={**os.environ, "TMPDIR": made})
@@ -126,7 +129,7 @@ def compiled(name, made):
         raise Stop(NOT_DONE, f"{name} is not built")
     shutil.copy(made_program, f"{program}.new")
     os.replace(f"{program}.new", program)
-    for older in glob.glob(os.path.join(folder, f"{name}-*")):
+    for older in glob.glob(os.path.join(UNPROVED, f"{name}-*")):
         if older != program:
             os.unlink(older)
     return program

@@ -16,8 +16,8 @@ def check(words):
     if wanted.files == ["-", "-"]:
         raise wrong_use("one of the job and the trace is standard input, not both")
     programs = Programs("--unproved" not in wanted)
-    job = jobs.given(wanted, programs).no_scans().bench_alone("a trace")
     trace = taken(wanted.file(1))
+    job = jobs.given(wanted, programs).no_scans().bench_alone("a trace")
     answer, said = programs.run_on_files("check_trace", jobs.for_programs(job), trace[: LONGEST + 1])
     ends.answer(answer)
     job.stop_if_refused(answer)

@@ -20,7 +20,7 @@ class Section(Case):
 
     def test_a_patch_goes_into_a_job_by_address(self):
         line = "0005 0005 0001 0000 0000 0000 0000 0088 0F00 0 0000 ---- ----\n"
-        self.ends(0, line, "", "run", "--unproved", "--asm", self.file("sob.asm", sample("sob.asm")), "jobs/example.txt")
+        self.ends(0, line, "", "run", "--unproved", "--asm", self.file("patch.asm", sample("patch.asm")), "jobs/example.txt")
         job = self.file("vector.txt", "pages 00\n0016 = 0080\n0090 = 0000\nlines 0000\n")
         patch = self.file("patch.asm", ".ORG 0080\nMOV #0005,R0\n")
         line = "0005 0000 0000 0000 0000 0000 0000 0084 0F00 0 0000 ---- ----\n"

@@ -47,7 +47,7 @@ class Output(Case):
         ["run", "--unproved", "jobs/refused.txt"],
         ["list", "--unproved", "jobs/example.txt", "0", "FFFE"],
         ["record", "--unproved", "jobs/pulled-card.scans"],
-        ["asm", "--unproved", "jobs/sob.asm"],
+        ["asm", "--unproved", "jobs/patch.asm"],
         ["make-trace", "--unproved", "jobs/example.txt"],
         ["check-trace", "--unproved", "jobs/example.txt", "jobs/example.trace"],
         ["job", "--unproved", "jobs/example.txt"],
@@ -90,7 +90,7 @@ class Output(Case):
         self.assertEqual((status, said), (2, f"hitch: standard input is closed{MORE}\n"))
 
     def test_bytes_are_not_for_a_terminal(self):
-        for words in (["asm", "--unproved", "jobs/sob.asm"], ["make-trace", "--unproved", "jobs/example.txt"], ["job", "--unproved", "jobs/example.txt"]):
+        for words in (["asm", "--unproved", "jobs/patch.asm"], ["make-trace", "--unproved", "jobs/example.txt"], ["job", "--unproved", "jobs/example.txt"]):
             own, terminal = pty.openpty()
             status, said = left(words, stdout=terminal, stdin=subprocess.DEVNULL)
             os.close(terminal)
@@ -139,6 +139,16 @@ class Missing(Case):
         self.assertEqual(hitch("help", env=env).status, 0)
 
 
+class TooFewCases(Case):
+    """c/test.sh says how many cases it needs, before it builds anything."""
+
+    def test_the_least_number(self):
+        for cases in ("2000", "many"):
+            run = subprocess.run(["c/test.sh", "7", cases], capture_output=True, text=True, cwd=ROOT, check=False)
+            self.assertEqual((run.returncode, run.stdout), (2, ""))
+            self.assertEqual(run.stderr, "c/test.sh: CASES is a number, 20000 at least: fewer don't reach every op code\n")
+
+
 class Proof(Case):
     """A proof, by a stand-in for rt in a copy of the repository."""
 
@@ -151,6 +161,8 @@ class Proof(Case):
         subprocess.run(["cp", "-r", os.path.join(ROOT, "command"), HITCH, self.copy], check=True)
         with open(os.path.join(self.copy, "crates.txt"), "w", encoding="utf-8") as crates:
             crates.write("board:\njob:  # a comment\nbench: board job io\n")
+        words = "0012 = 0090\n0016 = 0080\n0080 = 09BF B7C0 8000\n0090 = 0C81\n"
+        self.job = self.file("plain.txt", f"pages 00\n{words}lines 0000 x3\n")
 
     def stand_in(self, script):
         """A stand-in for rt that runs a script."""
@@ -167,7 +179,7 @@ class Proof(Case):
     def proves(self, status, said, script):
         """Runs a job over a proof."""
         self.stand_in(script)
-        words, env = self.command("run", "jobs/example.txt")
+        words, env = self.command("run", self.job)
         run = subprocess.run(words, capture_output=True, text=True, env=env, cwd=ROOT, check=False)
         self.assertEqual((run.returncode, run.stderr), (status, said))
         return run.stdout
@@ -189,7 +201,7 @@ echo 'rt: job proved (12 s)'; echo 'rt: bench proved (3 s)'; mkdir -p target/bin
     def test_a_signal_ends_all(self):
         for number, status in ((signal.SIGINT, 130), (signal.SIGTERM, 143), (signal.SIGHUP, 129)):
             self.stand_in(f"mkdir $TMPDIR/left; sleep 300 & echo $! >>{self.folder}/sleeping; sleep 300")
-            words, env = self.command("run", "jobs/example.txt")
+            words, env = self.command("run", self.job)
             room = os.path.join(self.folder, f"tmp{number}")
             os.mkdir(room)
             with subprocess.Popen(words, env={**env, "TMPDIR": room}, cwd=ROOT, stderr=subprocess.PIPE) as child:
