@@ -7,7 +7,8 @@ set -euo pipefail
 cd "$(dirname "$0")/.."
 . compare/toolchain.sh
 out=dist
-programs="bench list assemble record check_trace make_trace text"
+# Every program but those that are tests.
+programs=$(for main in crates/*/src/main.rt; do basename "${main%/src/main.rt}"; done | grep -vx 'alltexts\|speed\|vectors')
 if [ -n "${UNPROVED:-}" ]; then
     unset PROVED
     kind="NOT PROVED: made of what rt try compiles, for trials alone."
@@ -31,6 +32,7 @@ libraries() {
     fi
     install -m 644 target/chips/wasm32/hitchbriar.wasm "$out/wasm/"
     install -m 644 c/hitchbriar.h "$out/include/"
+    install -m 644 docs/CHIPS.md "$out/"
 }
 
 # The programs, for x86-64 Linux.
@@ -41,7 +43,7 @@ built_programs() {
         for name in $programs; do install "target/bin/$name" "$out/bin/x86-64-linux/"; done
     else
         for name in $programs; do
-            unproved_program . "$name" "$PWD/target/library/$name"
+            unproved_program . "$name" "$PWD/target/library/$name" 2>target/library/said || { cat target/library/said >&2; return 1; }
             install "target/library/$name" "$out/bin/x86-64-linux/"
         done
     fi
