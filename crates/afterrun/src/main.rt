@@ -6,6 +6,7 @@ use job::Answer;
 use libc::STDERR_FILENO;
 use libc::STDIN_FILENO;
 use libc::STDOUT_FILENO;
+use line::Printed;
 use machine::Finished;
 use machine::Powered;
 use machine::Ran;
@@ -25,16 +26,24 @@ fn put_line(text: &[u8], n: usize) -> bool {
     false
 }
 
+// Writes a line that was printed into a text.
+fn put_printed(text: &[u8], printed: Printed) -> bool {
+    match printed {
+        Printed::Line(n) => put_line(text, n),
+        Printed::Refused(_) => false,
+    }
+}
+
 fn put_refused(why: u8) -> bool {
     let mut text = [0u8; 16];
-    let n = line::write_refused(&mut text, why);
-    put_line(&text, n)
+    let printed = line::write_refused(&mut text, why);
+    put_printed(&text, printed)
 }
 
 fn put_end(ran: Ran, board: Settings) -> bool {
     let mut text = [0u8; 64];
-    let n = report::write_end_on(&mut text, ran, board);
-    put_line(&text, n)
+    let printed = report::write_end_on(&mut text, ran, board);
+    put_printed(&text, printed)
 }
 
 // The byte at a place, or 0.

@@ -2,6 +2,7 @@
 use libc::STDERR_FILENO;
 use libc::STDIN_FILENO;
 use libc::STDOUT_FILENO;
+use line::Printed;
 
 // Prints the first bytes of a text and ends the line; answers whether all was written.
 fn print(text: &[u8], n: usize) -> bool {
@@ -11,6 +12,22 @@ fn print(text: &[u8], n: usize) -> bool {
         }
     }
     false
+}
+
+// REFUSED and the number.
+fn print_refused(text: &mut [u8], why: u8) -> bool {
+    match line::write_refused(text, why) {
+        Printed::Line(n) => print(text, n),
+        Printed::Refused(_) => false,
+    }
+}
+
+// Prints a line that was written into a text, or a refusal's.
+fn print_line(text: &mut [u8], printed: Printed) -> bool {
+    match printed {
+        Printed::Line(n) => print(text, n),
+        Printed::Refused(why) => print_refused(text, why),
+    }
 }
 
 fn say_unless(written: bool) {
@@ -27,6 +44,6 @@ fn main() {
     let mut map = [0u8; 256];
     let mut lines = [0u16; 4096];
     let mut text = [0u8; 64];
-    let n = runjob::run_job(&mut text, &input[..got], &mut image, &mut map, &mut lines);
-    say_unless(print(&text, n));
+    let printed = runjob::run_job(&mut text, &input[..got], &mut image, &mut map, &mut lines);
+    say_unless(print_line(&mut text, printed));
 }

@@ -1,7 +1,8 @@
 -- DEMAND 1. ALWAYS AN ANSWER: wrong input is refused under a fixed number, and a refused call changes nothing.
 -- That every call comes back is proved of each function; none has a `requires`. Here: whatever a call answers and leaves, as its
 -- contract promises, it is refused exactly where a refusal applies, under the number of the first that does, alone; and then
--- every buffer that was lent for writing is as it was lent. Numbers 24 to 28 of the assembler tell a line beside, 9 and 30 to 32 of
+-- everything that was lent for writing is as it was lent. It is ONE THEOREM, over the shape that every call has (refusal Page), and of
+-- each call a line that says which refusals it has. Numbers 24 to 28 of the assembler tell a line beside, 9 and 30 to 32 of
 -- the text's reader a column.
 use Prim.Native.Nat.{ℕ}
 use mathlib.Core.Bool.{cond}
@@ -12,27 +13,19 @@ use lib.ListN.{length}
 use Rattle.state.specs.declared.State.{State}
 use Rattle.state.specs.declared.Settings.{Settings}
 use Rattle.refusal.specs.Numbers.{noState, wordsOdd, textShort}
-use Rattle.refusal.specs.Page.{first, left, told}
-use Rattle.machine.specs.declared.Powered.{Powered}
-use Rattle.machine.specs.declared.Stepped.{Stepped}
-use Rattle.machine.specs.declared.Finished.{Finished}
-use Rattle.machine.specs.Entry.{powerWhy, stepWhy, runWhy, poweredPage, powerUpPage, steppedPage, stepPage, finishedPage, runPage}
+use Rattle.refusal.specs.Page.{Page, refused, answered, Left, left, call, first, Told, reading}
+use Rattle.machine.specs.Entry.{powerWhy, stepWhy, runWhy, powerUpPage, stepPage, runPage}
 use Rattle.firmware.specs.Layout.{settingsFrom, refusedUp, refusedStep, refusedRun}
 use Rattle.firmware.specs.Calls.{powerUpCall, stepCall, runCall}
-use Rattle.job.specs.declared.Answer.{Answer}
-use Rattle.job.specs.Job.{whyJob, whyRead, pageOf, after, jobOf}
-use Rattle.letters.specs.Over.{Left, written}
+use Rattle.job.specs.Job.{whyJob, whyRead, jobOf}
 use Rattle.optext.specs.declared.Written.{Written}
 use Rattle.optext.specs.declared.ReadBack.{ReadBack}
 use Rattle.optext.specs.Answer.{refusal, refusalAt, writtenAs, readAs, Writes, WritesWord}
 use Rattle.optext.specs.Column.{Column}
 use Rattle.optext.specs.Words.{Reads}
-use Rattle.line.specs.Line.{refusedText}
-use Rattle.runjob.specs.Bench.{benchOf}
-use Rattle.runjob.specs.Bench as Bench
-use Rattle.listing.specs.declared.Listed.{Listed}
-use Rattle.listing.specs.Calls.{listedPage, lineWhy, lineCall}
-use Rattle.listing.specs.Calls as Listing
+use Rattle.line.specs.Line.{printWhy, printOf}
+use Rattle.runjob.specs.Bench.{jobRun, benchWhy, benchOf}
+use Rattle.listing.specs.Calls.{lineWhy, lineCall}
 use Rattle.textc.specs.Calls.{wordsIn, odd, notAnswer, writeCall, ReadCall}
 use Rattle.textc.specs.Calls as Textc
 use Rattle.assembler.specs.declared.Assembled.{Assembled}
@@ -41,41 +34,77 @@ use Rattle.assembler.specs.Answer as Patch
 use Rattle.assembler.specs.Ends.{assembleWhy, tellsLine, FaultLine}
 use Rattle.assembler_c.specs.Call.{assembleCall}
 use Rattle.assembler_c.specs.Call as AssemblerC
-use Rattle.trace.specs.declared.Checked.{Checked}
-use Rattle.trace.specs.declared.Made.{Made}
-use Rattle.trace.specs.Trace.{whyTrace, checkedPage, whyCheck, checkOf, madePage, whyMake, put, makeOf}
-use Rattle.trace.specs.Trace as Trace
+use Rattle.trace.specs.Trace.{whyTrace, whyCheck, checkOf, whyMake, makeOf}
 use Rattle.tracecall.specs.Calls.{checkCall}
-use Rattle.tracecall.specs.Calls as Tracecall
 use Rattle.demands.specs.Terms.{Answers, Numbered, OrPlace, placeBytes, numberOf, writeWhy, roomWhy, Reading, tellsColumn, lineless}
+
+-- ---- the theorem. `why` is the number of the first refusal that applies, 0 where there is none; `promised` is what the contract says
+
+pub data IsAnswer {A : Type 0} : Page A → Type 0 where
+  isAnswer : (a : A) → IsAnswer (answered a)
+
+-- refused: that number alone, and everything as lent; not refused: an answer
+pub record Kept {A B : Type 0} (why : ℕ) (lent : B) (x : Left A B) : Type 0 where
+  pub refusedAlone : (why ≡ 0 → ⊥) → x ≡ left (refused why) lent
+  pub notRefused : why ≡ 0 → IsAnswer (x .page)
+
+abbrev pub Keeps : {A B : Type 0} → ℕ → B → Left A B → Type 0
+Keeps {A} {B} why lent promised = (x : Left A B) → x ≡ promised → Kept why lent x
+
+abbrev pub CallKeeps : Type 1
+CallKeeps = (A B : Type 0) (why : ℕ) (right : Left A B) (lent : B) → IsAnswer (right .page) → Keeps why lent (call why right lent)
+
+-- for C: the number is `why`, and where it is not 0, everything is as lent
+pub record KeptC {B : Type 0} (why : ℕ) (lent : B) (x : Told B) : Type 0 where
+  pub numberIs : x .number ≡ why
+  pub unchanged : (x .number ≡ 0 → ⊥) → x .lent ≡ lent
+
+abbrev pub KeepsC : {B : Type 0} → ℕ → B → Told B → Type 0
+KeepsC {B} why lent promised = (x : Told B) → x ≡ promised → KeptC why lent x
+
+abbrev pub ReadingKeeps : Type 1
+ReadingKeeps = (A B C : Type 0) (bytes : A → B → C) (kept : B → C) (why : ℕ) (right : Left A B) (lent : B) → IsAnswer (right .page) → KeepsC why (kept lent) (reading bytes kept (call why right lent))
+
+-- ---- the calls, with their refusals in their order
 
 -- POWER-UP: 1, 2, 3, 35
 abbrev pub PowerUpAnswers : Type 0
-PowerUpAnswers = (settings : Settings) (m map : List ℕ) (r : Powered) (m′ : List ℕ) → left (poweredPage r) m′ ≡ powerUpPage settings m map
-    → Answers (powerWhy settings m map) (poweredPage r) (m′ ≡ m)
+PowerUpAnswers = (settings : Settings) (m map : List ℕ) → Keeps (powerWhy settings m map) m (powerUpPage settings m map)
 
 -- A STEP: 1, 2, 3, 35, 5
 abbrev pub StepAnswers : Type 0
-StepAnswers = (settings : Settings) (m map : List ℕ) (line : ℕ) (s : State) (r : Stepped) (m′ : List ℕ) → left (steppedPage r) m′ ≡ stepPage settings m map line s
-    → Answers (stepWhy settings m map line) (steppedPage r) (m′ ≡ m)
+StepAnswers = (settings : Settings) (m map : List ℕ) (line : ℕ) (s : State) → Keeps (stepWhy settings m map line) m (stepPage settings m map line s)
 
 -- A RUN: 1, 2, 3, 35, 4, 5
 abbrev pub RunAnswers : Type 0
-RunAnswers = (settings : Settings) (m map lines : List ℕ) (s : State) (r : Finished) (m′ : List ℕ) → left (finishedPage r) m′ ≡ runPage settings m map lines s
-    → Answers (runWhy settings m map lines) (finishedPage r) (m′ ≡ m)
+RunAnswers = (settings : Settings) (m map lines : List ℕ) (s : State) → Keeps (runWhy settings m map lines) m (runPage settings m map lines s)
 
--- THE JOB READER: 1, 2, 4, then 11 to 20 and 22 in reading order
+-- THE JOB READER: 1, 2, 4, then 11 to 20 and 22 in reading order; and a job's run
 abbrev pub JobAnswers : Type 0
-JobAnswers = (input image map lines : List ℕ) (r : Answer) (image′ map′ lines′ : List ℕ)
-    → after (pageOf r) image′ map′ lines′ ≡ jobOf input image map lines
-    → Answers (whyRead (length image) (length map) (length lines) input) (pageOf r) ((image′ ≡ image) × (map′ ≡ map) × (lines′ ≡ lines))
+JobAnswers = (input image map lines : List ℕ) → Keeps (whyRead (length image) (length map) (length lines) input) (image, map, lines) (jobOf input image map lines)
 
--- BENCH, from the job's bytes to the line: REFUSED and the number, and every other buffer as it was lent
+abbrev pub JobRunAnswers : Type 0
+JobRunAnswers = (input image map lines : List ℕ) → Keeps (whyRead (length image) (length map) (length lines) input) (image, map, lines) (jobRun input image map lines)
+
+-- BENCH, from the job's bytes to the line: 8, then the job's own
 abbrev pub BenchAnswers : Type 0
-BenchAnswers = (input text image map lines : List ℕ) (line : Left) (image′ map′ lines′ : List ℕ)
-    → Bench.told line image′ map′ lines′ ≡ benchOf input text image map lines
-    → (whyRead (length image) (length map) (length lines) input ≡ 0 → ⊥)
-    → (line ≡ written (refusedText (whyRead (length image) (length map) (length lines) input)) text) × (image′ ≡ image) × (map′ ≡ map) × (lines′ ≡ lines)
+BenchAnswers = (input text image map lines : List ℕ) → Keeps (benchWhy input text image map lines) (text, image, map, lines) (benchOf input text image map lines)
+
+-- A LINE of bench's, a run's end or REFUSED: 8
+abbrev pub LineAnswers : Type 0
+LineAnswers = (line text : List ℕ) → Keeps (printWhy (length line) (length text)) text (printOf line text)
+
+-- A LINE OF A LISTING: 1, 2, 3, 23, 8
+abbrev pub ListLineAnswers : Type 0
+ListLineAnswers = (image map : List ℕ) (a last : ℕ) (text : List ℕ) → Keeps (lineWhy (length image) map a last (length text)) text (lineCall image map a last text)
+
+-- A TRACE CHECKED: the job's own, 29
+abbrev pub CheckAnswers : Type 0
+CheckAnswers = (input t image map lines : List ℕ) → Keeps (whyCheck input t (length image) (length map) (length lines)) (image, map, lines) (checkOf input t image map lines)
+
+-- A TRACE MADE: the job's own, 10
+abbrev pub MakeAnswers : Type 0
+MakeAnswers = (input out image map lines : List ℕ) → Keeps (whyMake input (length out) (length image) (length map) (length lines)) (out, image, map, lines) (makeOf input out image map lines)
 
 -- THE TEXT OF AN OP CODE, written: 8, 6, 7
 abbrev pub WriteAnswers : Type 0
@@ -91,45 +120,29 @@ ReadAnswers = (text words : List ℕ) (r : ReadBack) (words′ : List ℕ) → R
     → (let n = numberOf (readAs r) in
     Reading (roomWhy words) text n ((words′ ≡ words) × OrPlace (tellsColumn n) (Column text) (refusal n) (refusalAt n) (readAs r)))
 
--- A LINE OF A LISTING: 1, 2, 3, 23, 8
-abbrev pub ListLineAnswers : Type 0
-ListLineAnswers = (image map : List ℕ) (a last : ℕ) (text : List ℕ) (r : Listed) (text′ : List ℕ) → Listing.left (listedPage r) text′ ≡ lineCall image map a last text
-    → Answers (lineWhy (length image) map a last (length text)) (listedPage r) (text′ ≡ text)
-
 -- THE ASSEMBLER: 10, 36, then 24, 25, 26, 28, 27 with the lowest line that has it
 abbrev pub AssembleAnswers : Type 0
 AssembleAnswers = (s out : List ℕ) (r : Assembled) (out′ : List ℕ) → Patch.after (Patch.pageOf r) out′ ≡ asmOf s out
     → (let why = assembleWhy s out in
     Answers why (lineless (Patch.pageOf r)) ((out′ ≡ out) × OrPlace (tellsLine why) (FaultLine s why) (Patch.refused why) (Patch.refusedAt why) (Patch.pageOf r)))
 
--- A TRACE CHECKED: the job's own, 29
-abbrev pub CheckAnswers : Type 0
-CheckAnswers = (input t image map lines : List ℕ) (r : Checked) (image′ map′ lines′ : List ℕ)
-    → Trace.left (checkedPage r) image′ map′ lines′ ≡ checkOf input t image map lines
-    → Answers (whyCheck input t (length image) (length map) (length lines)) (checkedPage r) ((image′ ≡ image) × (map′ ≡ map) × (lines′ ≡ lines))
-
--- A TRACE MADE: the job's own, 10
-abbrev pub MakeAnswers : Type 0
-MakeAnswers = (input out image map lines : List ℕ) (r : Made) (out′ image′ map′ lines′ : List ℕ)
-    → put out′ (Trace.left (madePage r) image′ map′ lines′) ≡ makeOf input out image map lines
-    → Answers (whyMake input (length out) (length image) (length map) (length lines)) (madePage r) ((out′ ≡ out) × (image′ ≡ image) × (map′ ≡ map) × (lines′ ≡ lines))
-
 -- THE SAME FOR C, whose answer is the number, with 21 before the others. w are the settings' bytes
 
 -- power-up: 21, 1, 2, 3, 35
 abbrev pub Wd16PowerUpAnswers : Type 0
-Wd16PowerUpAnswers = (b m map w : List ℕ) (number : ℕ) (b′ m′ : List ℕ) → told number (b′, m′) ≡ powerUpCall b m map w
-    → Numbered (first (cond (refusedUp b w) noState 0) (powerWhy (settingsFrom w) m map)) number ((b′ ≡ b) × (m′ ≡ m))
+Wd16PowerUpAnswers = (b m map w : List ℕ) → KeepsC (first (cond (refusedUp b w) noState 0) (powerWhy (settingsFrom w) m map)) (b, m) (powerUpCall b m map w)
 
 -- a step: 21, 1, 2, 3, 35, 5
 abbrev pub Wd16StepAnswers : Type 0
-Wd16StepAnswers = (b m map w : List ℕ) (line number : ℕ) (b′ m′ : List ℕ) → told number (b′, m′) ≡ stepCall b m map w line
-    → Numbered (first (cond (refusedStep b w) noState 0) (stepWhy (settingsFrom w) m map line)) number ((b′ ≡ b) × (m′ ≡ m))
+Wd16StepAnswers = (b m map w : List ℕ) (line : ℕ) → KeepsC (first (cond (refusedStep b w) noState 0) (stepWhy (settingsFrom w) m map line)) (b, m) (stepCall b m map w line)
 
 -- a run: 21, 1, 2, 3, 35, 4, 5
 abbrev pub Wd16RunAnswers : Type 0
-Wd16RunAnswers = (b t m map w lines : List ℕ) (number : ℕ) (b′ t′ m′ : List ℕ) → told number (b′, t′, m′) ≡ runCall b t m map w lines
-    → Numbered (first (cond (refusedRun b t w) noState 0) (runWhy (settingsFrom w) m map lines)) number ((b′ ≡ b) × (t′ ≡ t) × (m′ ≡ m))
+Wd16RunAnswers = (b t m map w lines : List ℕ) → KeepsC (first (cond (refusedRun b t w) noState 0) (runWhy (settingsFrom w) m map lines)) (b, t, m) (runCall b t m map w lines)
+
+-- a trace checked: the job's own but for 1, 2 and 4, as its buffers are the call's own; 29
+abbrev pub Wd16CheckTraceAnswers : Type 0
+Wd16CheckTraceAnswers = (job t b : List ℕ) → KeepsC (first (cond (eqb (length b) 6) 0 noState) (first (whyJob job) (whyTrace t))) b (checkCall job t b)
 
 -- the text written: 21, 38, 8, 6, 7. a is the answer's buffer
 abbrev pub Wd16WriteTextAnswers : Type 0
@@ -145,8 +158,3 @@ Wd16ReadTextAnswers = (t b a : List ℕ) (number : ℕ) (b′ a′ : List ℕ) �
 abbrev pub Wd16AssembleAnswers : Type 0
 Wd16AssembleAnswers = (s out b : List ℕ) (number : ℕ) (out′ b′ : List ℕ) → AssemblerC.went number out′ b′ ≡ assembleCall s out b
     → Numbered (first (cond (eqb (length b) 6) 0 noState) (assembleWhy s out)) number ((out′ ≡ out) × OrPlace (tellsLine number) (FaultLine s number) b placeBytes b′)
-
--- a trace checked: 21, the job's own but for 1, 2 and 4, as its buffers are the call's own, 29
-abbrev pub Wd16CheckTraceAnswers : Type 0
-Wd16CheckTraceAnswers = (job t b : List ℕ) (number : ℕ) (b′ : List ℕ) → Tracecall.went number b′ ≡ checkCall job t b
-    → Numbered (first (cond (eqb (length b) 6) 0 noState) (first (whyJob job) (whyTrace t))) number (b′ ≡ b)

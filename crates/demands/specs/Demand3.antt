@@ -20,11 +20,9 @@ use Rattle.firmware.specs.Layout.{stateFrom, settingsFrom}
 use Rattle.firmware.specs.Calls.{powerUpCall, stepCall, runCall}
 use Rattle.listing.specs.declared.Listed.{Listed}
 use Rattle.listing.specs.Calls.{listedPage, lineCall}
-use Rattle.listing.specs.Calls as Listing
 use Rattle.trace.specs.declared.Checked.{Checked}
 use Rattle.trace.specs.declared.Made.{Made}
-use Rattle.trace.specs.Trace.{checkedPage, whyCheck, checkOf, madePage, whyMake, put, makeOf}
-use Rattle.trace.specs.Trace as Trace
+use Rattle.trace.specs.Trace.{checkedPage, whyCheck, checkOf, madePage, whyMake, makeOf}
 use Rattle.demands.specs.Terms.{Blanked, Fitted, Counted, StepBytes, TallyBytes}
 
 -- ---- "What stands at unfitted addresses can influence nothing: two images that agree on fitted bytes give equal answers, and unfitted bytes come
@@ -59,7 +57,7 @@ module _ (w map m n : List ℕ) (l : length m ≡ length n) (g : Agree map m n) 
 -- a line of a listing: the same answer, and the same text
 abbrev pub ListLineBlind : Type 0
 ListLineBlind = (map m n : List ℕ) → length m ≡ length n → Agree map m n → (a last : ℕ) (text : List ℕ) (r q : Listed) (text₁ text₂ : List ℕ)
-    → Listing.left (listedPage r) text₁ ≡ lineCall m map a last text → Listing.left (listedPage q) text₂ ≡ lineCall n map a last text → (r ≡ q) × (text₁ ≡ text₂)
+    → left (listedPage r) text₁ ≡ lineCall m map a last text → left (listedPage q) text₂ ≡ lineCall n map a last text → (r ≡ q) × (text₁ ≡ text₂)
 
 -- ---- A TRACE IS OF A JOB, which fills the lent image, the map and the line words from its own bytes: whatever stands in them before,
 -- the answer is the same, and where nothing is refused, so is what is left in them
@@ -67,12 +65,12 @@ ListLineBlind = (map m n : List ℕ) → length m ≡ length n → Agree map m n
 module _ (input i₁ i₂ m₁ m₂ l₁ l₂ : List ℕ) (hi : length i₁ ≡ length i₂) (hm : length m₁ ≡ length m₂) (hl : length l₁ ≡ length l₂) where
   abbrev pub CheckBlind : Type 0
   CheckBlind = (t : List ℕ) (r q : Checked) (i₁′ m₁′ l₁′ i₂′ m₂′ l₂′ : List ℕ)
-      → Trace.left (checkedPage r) i₁′ m₁′ l₁′ ≡ checkOf input t i₁ m₁ l₁ → Trace.left (checkedPage q) i₂′ m₂′ l₂′ ≡ checkOf input t i₂ m₂ l₂
+      → left (checkedPage r) (i₁′, m₁′, l₁′) ≡ checkOf input t i₁ m₁ l₁ → left (checkedPage q) (i₂′, m₂′, l₂′) ≡ checkOf input t i₂ m₂ l₂
       → (r ≡ q) × (whyCheck input t (length i₁) (length m₁) (length l₁) ≡ 0 → (i₁′ ≡ i₂′) × (m₁′ ≡ m₂′) × (l₁′ ≡ l₂′))
 
   abbrev pub MakeBlind : Type 0
   MakeBlind = (out : List ℕ) (r q : Made) (out₁ out₂ i₁′ m₁′ l₁′ i₂′ m₂′ l₂′ : List ℕ)
-      → put out₁ (Trace.left (madePage r) i₁′ m₁′ l₁′) ≡ makeOf input out i₁ m₁ l₁ → put out₂ (Trace.left (madePage q) i₂′ m₂′ l₂′) ≡ makeOf input out i₂ m₂ l₂
+      → left (madePage r) (out₁, i₁′, m₁′, l₁′) ≡ makeOf input out i₁ m₁ l₁ → left (madePage q) (out₂, i₂′, m₂′, l₂′) ≡ makeOf input out i₂ m₂ l₂
       → (r ≡ q) × (out₁ ≡ out₂) × (whyMake input (length out) (length i₁) (length m₁) (length l₁) ≡ 0 → (i₁′ ≡ i₂′) × (m₁′ ≡ m₂′) × (l₁′ ≡ l₂′))
 
 -- ---- "A step that reaches one is a bus error or a lock-up, never a value," from the accesses that the step's work makes, in order, on the map and

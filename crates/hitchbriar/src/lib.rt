@@ -189,7 +189,7 @@ pub extern "C" fn wd16_read_job(
 // Checks a trace of a job; or 21, the job's own refusal, or 29. The image, the map and the line words are the call's own.
 #[no_mangle]
 pub extern "C" fn wd16_check_trace(job: &[u8], trace: &[u8], verdict: &mut [u8]) -> u8
-    ensures { λ r. ⌜ Trace.went r (now (verdict .exit)) ≡ Trace.checkCall (now (job .entry)) (now (trace .entry)) (now (verdict .entry)) ⌝ }
+    ensures { λ r. ⌜ told r (now (verdict .exit)) ≡ Trace.checkCall (now (job .entry)) (now (trace .entry)) (now (verdict .entry)) ⌝ }
 {
     tracecall::wd16_check_trace(job, trace, verdict)
 }

@@ -19,11 +19,11 @@ use borrow.Author.Fill.{fill-more}
 use lib.Seq.{drop-cons, drop-length}
 use Rattle.words.specs.Words.{byteAt, wordAt}
 use Rattle.refusal.specs.Numbers.{imageLength, mapLength, linesLength, jobEnds}
-use Rattle.refusal.specs.Page.{refused, answered, first}
-use Rattle.refusal.proofs.Laws.Page.{first-both, unless-some}
+use Rattle.refusal.specs.Page.{Page, refused, refusedAt, answered, left, first}
+use Rattle.refusal.proofs.Laws.Page.{first-both, call-refused, one, one-call}
 use Rattle.refusal.proofs.Laws.Refusal.{cond-none}
-use Rattle.refusal.proofs.Laws.Page as Page
-use Rattle.job.specs.Job.{sections, sizeOf, mostOf, overOf, keyAt, note, cut, whyKey, whyEntry, whyEntries, noted, whyCount, whyLeft, whySections, stored, listed, marked, absent, wordsAt, linesAt, readOnlyAt, imageOf, mapOf, linesOf, Filled, pageOf, After, after, whyRead, jobOf}
+use Rattle.refusal.proofs.Laws.Page as PageLaws
+use Rattle.job.specs.Job.{sections, sizeOf, mostOf, overOf, keyAt, note, cut, whyKey, whyEntry, whyEntries, noted, whyCount, whyLeft, whySections, stored, listed, marked, absent, wordsAt, linesAt, readOnlyAt, imageOf, mapOf, linesOf, Filled, Room, pageOf, buffersOf, whyRead, jobOf}
 
 -- from the fourth on, a section is the read-only pages
 pub nth-rest : (i : ℕ) → (i ≡ 0 → ⊥) → (i ≡ 1 → ⊥) → (i ≡ 2 → ⊥) → section.ReadOnly ≡ getD sections i section.ReadOnly
@@ -70,7 +70,7 @@ count-good s input at b h m = rw (cut-none input at 2 b h, le-leb (wordAt input 
 
 -- the first of two refusals
 first-some : {why k : ℕ} (later : ℕ) → why ≡ k → (why ≡ 0 → ⊥) → why ≡ first k later
-first-some {why} {k} later e n = Page.first-some why later n ∙ ap (λ (x : ℕ). first x later) e
+first-some {why} {k} later e n = PageLaws.first-some why later n ∙ ap (λ (x : ℕ). first x later) e
 
 first-none : (why later : ℕ) → why ≡ 0 → first why later ≡ later
 first-none why later e = rw e refl
@@ -260,42 +260,41 @@ pub read-only-at : (input : List ℕ) (at n : ℕ) → at ≡ linesAt input → 
 read-only-at input at n a e = rw e (ap (λ (x : ℕ). x + 2 + wordAt input x * 2) a)
 
 -- where nothing is refused, the lent buffers have their lengths
-pub read-lengths : (image map lines : ℕ) (input : List ℕ) → whyRead image map lines input ≡ 0
-    → (image ≡ 65536) × ((map ≡ 256) × (lines ≡ 4096))
+pub read-lengths : (image map lines : List ℕ) (input : List ℕ) → whyRead (length image) (length map) (length lines) input ≡ 0 → Room image map lines
 unfolding whyRead
 read-lengths image map lines input e =
-    let a = first-both (cond (eqb image 65536) 0 imageLength) _ e in
-    let b = first-both (cond (eqb map 256) 0 mapLength) _ (a .1) in
-    let c = first-both (cond (eqb lines 4096) 0 linesLength) _ (b .1) in (
-      eqb-true _ _ (cond-none (eqb image 65536) imageLength (λ h. omega arith) (a .0)),
-      (
-        eqb-true _ _ (cond-none (eqb map 256) mapLength (λ h. omega arith) (b .0)),
-        eqb-true _ _ (cond-none (eqb lines 4096) linesLength (λ h. omega arith) (c .0)),
-      ),
-    )
+    let a = first-both (cond (eqb (length image) 65536) 0 imageLength) _ e in
+    let b = first-both (cond (eqb (length map) 256) 0 mapLength) _ (a .1) in
+    let c = first-both (cond (eqb (length lines) 4096) 0 linesLength) _ (b .1) in
+    record {
+      bytes = eqb-true _ _ (cond-none (eqb (length image) 65536) imageLength (λ h. omega arith) (a .0));
+      pages = eqb-true _ _ (cond-none (eqb (length map) 256) mapLength (λ h. omega arith) (b .0));
+      words = eqb-true _ _ (cond-none (eqb (length lines) 4096) linesLength (λ h. omega arith) (c .0));
+    }
 
 -- a refused job, and an accepted one
-pub read-refused : (input image map lines : List ℕ) (why : ℕ) → why ≡ whyRead (length image) (length map) (length lines) input
-    → (why ≡ 0 → ⊥) → after (pageOf (Refused why)) image map lines ≡ jobOf input image map lines
-unfolding jobOf
-read-refused input image map lines why e n = rw (← e, unless-some why (after (answered (wordAt input (linesAt input))) (imageOf input) (mapOf input) (linesOf input)) (after (refused why) image map lines) n)
+module _ (input image map lines : List ℕ) where
+  pub read-refused : (why : ℕ) → why ≡ whyRead (length image) (length map) (length lines) input → (why ≡ 0 → ⊥) → left (refused why) (image, map, lines) ≡ jobOf input image map lines
+  unfolding jobOf
+  read-refused why e n = call-refused (whyRead (length image) (length map) (length lines) input) (left (answered (wordAt input (linesAt input))) (buffersOf input)) (image, map, lines) why e n
 
-pub read-filled : (input image map lines image′ map′ lines′ : List ℕ) (count : ℕ)
-    → whyRead (length image) (length map) (length lines) input ≡ 0 → Filled input image′ map′ lines′ count
-    → after (pageOf (Lines count)) image′ map′ lines′ ≡ jobOf input image map lines
-unfolding jobOf
-read-filled input image map lines image′ map′ lines′ count e f = rw (e, f .image-is, f .map-is, f .lines-is, f .count-is) refl
+  pub read-filled : {image′ map′ lines′ : List ℕ} {count : ℕ} → whyRead (length image) (length map) (length lines) input ≡ 0 → Filled input image′ map′ lines′ count
+      → left (answered count) (image′, map′, lines′) ≡ jobOf input image map lines
+  unfolding jobOf
+  read-filled e f = rw (e, f .image-is, f .map-is, f .lines-is, f .count-is) refl
 
--- the promise leaves no choice: one page's numbers and buffers, one answer and buffers
+-- ---- ONE OUTCOME
+abbrev answerOf : Page ℕ → Answer
+answerOf (answered n) = Lines n
+answerOf (refused why) = Refused why
+answerOf (refusedAt why at) = Refused why
+
+answer-back : (a : Answer) → answerOf (pageOf a) ≡ a
+answer-back (Lines n) = refl
+answer-back (Refused why) = refl
+
 pub one-answer : (a b : Answer) → pageOf a ≡ pageOf b → a ≡ b
-one-answer (Lines n) (Lines m) e = cc
-one-answer (Lines n) (Refused m) e = cc
-one-answer (Refused n) (Lines m) e = cc
-one-answer (Refused n) (Refused m) e = cc
+one-answer = one answerOf answer-back
 
-pub one-outcome : (a b : Answer) (i j m n k l : List ℕ) → after (pageOf a) i m k ≡ after (pageOf b) j n l
-    → (a ≡ b) × ((i ≡ j) × ((m ≡ n) × (k ≡ l)))
-one-outcome a b i j m n k l e = (
-  one-answer a b (ap (λ (x : After). x .page) e),
-  (ap (λ (x : After). x .image) e, (ap (λ (x : After). x .map) e, ap (λ (x : After). x .lines) e)),
-)
+pub one-outcome : (a b : Answer) (x y : List ℕ × List ℕ × List ℕ) → left (pageOf a) x ≡ left (pageOf b) y → (a ≡ b) × (x ≡ y)
+one-outcome = one-call pageOf one-answer

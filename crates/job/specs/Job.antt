@@ -7,7 +7,7 @@ use lib.ListN.{length, getD, set, take, replicate}
 use lib.Dec.{eqb, leb}
 use Rattle.words.specs.Words.{byteAt, wordAt}
 use Rattle.refusal.specs.Numbers.{imageLength, mapLength, linesLength, jobEnds, manyPages, pageNotRising, manyWords, addressOdd, addressNotRising, addressUnfitted, manyLines, jobLineBit, bytesLeft, readOnlyPage}
-use Rattle.refusal.specs.Page.{Page, refused, answered, first, unless}
+use Rattle.refusal.specs.Page.{Page, refused, answered, Left, left, call, first}
 use Rattle.refusal.specs.Refusal.{plain}
 use Rattle.job.specs.declared.Answer.{Answer}
 use Rattle.job.specs.declared.Answer.the-variants.{Lines, Refused}
@@ -168,6 +168,12 @@ linesOf input = listed input (wordAt input (linesAt input)) (linesAt input + 2) 
 unfoldable pub lineWords : List ℕ → List ℕ
 lineWords input = take (wordAt input (linesAt input)) (linesOf input)
 
+-- the lent buffers have their lengths
+pub record Room (image map lines : List ℕ) : Type 0 where
+  pub bytes : length image ≡ 65536
+  pub pages : length map ≡ 256
+  pub words : length lines ≡ 4096
+
 -- the buffers and the number of line words of an accepted job
 pub record Filled (input image map lines : List ℕ) (count : ℕ) : Type 0 where
   pub image-is : image ≡ imageOf input
@@ -180,16 +186,6 @@ abbrev pub pageOf : Answer → Page ℕ
 pageOf (Lines n) = answered n
 pageOf (Refused why) = refused why
 
--- an answer, and the lent buffers after it
-pub record After : Type 0 where
-  pub page : Page ℕ
-  pub image : List ℕ
-  pub map : List ℕ
-  pub lines : List ℕ
-
-abbrev pub after : Page ℕ → List ℕ → List ℕ → List ℕ → After
-after page image map lines = record { page = page; image = image; map = map; lines = lines }
-
 -- the first refusal that applies, or 0: the lent buffers' lengths, then the job in reading order
 unfoldable pub whyRead : ℕ → ℕ → ℕ → List ℕ → ℕ
 whyRead image map lines input =
@@ -198,10 +194,13 @@ whyRead image map lines input =
     (first (cond (eqb lines 4096) 0 linesLength)
     (whyJob input)))
 
+-- the image, the map and the line buffer of an accepted job
+abbrev pub buffersOf : List ℕ → List ℕ × List ℕ × List ℕ
+buffersOf input = (imageOf input, mapOf input, linesOf input)
+
 -- a refusal returns its number alone and changes no buffer
-unfoldable pub jobOf : List ℕ → List ℕ → List ℕ → List ℕ → After
+unfoldable pub jobOf : List ℕ → List ℕ → List ℕ → List ℕ → Left ℕ (List ℕ × List ℕ × List ℕ)
 jobOf input image map lines =
-    let why = whyRead (length image) (length map) (length lines) input in
-    unless why
-    (after (answered (wordAt input (linesAt input))) (imageOf input) (mapOf input) (linesOf input))
-    (after (refused why) image map lines)
+    call (whyRead (length image) (length map) (length lines) input)
+    (left (answered (wordAt input (linesAt input))) (buffersOf input))
+    (image, map, lines)

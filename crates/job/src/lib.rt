@@ -6,7 +6,8 @@ ghost use mathlib.Core.Path.{_≡_};
 ghost use Prim.Native.Nat.{_+_, _≤_, _<_};
 ghost use lib.ListN.{length, getD, set, replicate};
 ghost use Rattle.job.specs.Job as Spec;
-ghost use Rattle.job.specs.Job.{sections, sizeOf, mostOf, overOf, keyAt, note, whyPage, whyAddress, whyLine, whyKey, whyEntry, whyCount, whyLeft, whyJob, noted, stored, listed, Filled, whyRead, pageOf, after, jobOf};
+ghost use Rattle.job.specs.Job.{sections, sizeOf, mostOf, overOf, keyAt, note, whyPage, whyAddress, whyLine, whyKey, whyEntry, whyCount, whyLeft, whyJob, noted, stored, listed, Room, Filled, whyRead, pageOf, jobOf};
+ghost use Rattle.refusal.specs.Page.{left};
 
 // What the job reader answers: how many line words there are, or why the job is refused.
 pub enum Answer {
@@ -339,8 +340,8 @@ fn put_line(lines: &mut [u16], k: usize, line: u16)
 }
 
 // Fills the lent buffers from a job that was found good, and answers the number of line words.
-fn fill(input: &[u8], image: &mut [u8], map: &mut [u8], lines: &mut [u16]) -> u16
-    requires { ⌜ (length (now image) ≡ 65536) × ((length (now map) ≡ 256) × (length (now lines) ≡ 4096)) ⌝ }
+pub fn fill(input: &[u8], image: &mut [u8], map: &mut [u8], lines: &mut [u16]) -> u16
+    requires { ⌜ Room (now image) (now map) (now lines) ⌝ }
     ensures { λ r. ⌜ Filled (now (input .entry)) (now (image .exit)) (now (map .exit)) (now (lines .exit)) r ⌝ }
 {
     clear(map);
@@ -378,7 +379,7 @@ pub fn refusal(image: usize, map: usize, lines: usize, input: &[u8]) -> u8
 
 // Reads a job into the lent buffers: the answer is the number of line words, or the first refusal, which changes no buffer.
 pub fn read_job(input: &[u8], image: &mut [u8], map: &mut [u8], lines: &mut [u16]) -> Answer
-    ensures { λ r. ⌜ after (pageOf r) (now (image .exit)) (now (map .exit)) (now (lines .exit))
+    ensures { λ r. ⌜ left (pageOf r) (now (image .exit), now (map .exit), now (lines .exit))
         ≡ jobOf (now (input .entry)) (now (image .entry)) (now (map .entry)) (now (lines .entry)) ⌝ }
 {
     let why = refusal(image.len(), map.len(), lines.len(), input);

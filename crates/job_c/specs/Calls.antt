@@ -23,4 +23,4 @@ readIn b (refusedAt why place) image map lines = told why (image, map, lines, b)
 unfoldable pub readCall : List ℕ → List ℕ → List ℕ → List ℕ → List ℕ → Told Buffers
 readCall input image map lines b =
     let l = jobOf input image map lines in
-    cond (eqb (length b) 6) (readIn b (l .page) (l .image) (l .map) (l .lines)) (told noState (image, map, lines, b))
+    cond (eqb (length b) 6) (readIn b (l .page) (l .lent .0) (l .lent .1) (l .lent .2)) (told noState (image, map, lines, b))

@@ -1,5 +1,6 @@
 -- Laws of the line's lengths.
 pub mod Lengths
+pub mod Printed
 use mathlib.Core.Path.{_≡_, refl, ap, _∙_}
 use mathlib.Core.Bool.{Bool, true, false, cond}
 use mathlib.Core.List.{List, [], _∷_}

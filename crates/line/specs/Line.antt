@@ -1,12 +1,18 @@
 -- The line that bench prints: R0-R5, SP, PC, PS, mode digit, blanks, the first one's place and address, or ---- ----. Or REFUSED and a number in decimal.
+-- Written into a lent text: its length is answered, or 8 where it does not fit.
 use mathlib.Core.Bool.{cond}
 use mathlib.Core.List.{List, [], _∷_, _++_}
 use Prim.Native.Nat.{ℕ, zero, suc, _+_, _/_, _%_}
-use lib.Dec.{ltb}
-use lib.ListN.{getD}
+use lib.Dec.{leb, ltb}
+use lib.ListN.{length, getD}
 use Rattle.letters.specs.Digits.{hexOf, hex4}
+use Rattle.letters.specs.Over.{over}
+use Rattle.refusal.specs.Numbers.{textShort}
+use Rattle.refusal.specs.Page.{Page, refused, answered, Left, left, call}
 use Rattle.line.specs.declared.Place.{Place}
 use Rattle.line.specs.declared.Place.the-variants.{At, Nowhere}
+use Rattle.line.specs.declared.Printed.{Printed}
+use Rattle.line.specs.declared.Printed.the-variants as Printed
 
 abbrev pub space : List ℕ
 space = 32 ∷ []
@@ -54,3 +60,17 @@ decimal n =
 
 unfoldable pub refusedText : ℕ → List ℕ
 refusedText n = name ++ decimal n
+
+-- ---- a line written into a lent text
+
+abbrev pub printedPage : Printed → Page ℕ
+printedPage (Printed.Line n) = answered n
+printedPage (Printed.Refused why) = refused why
+
+-- 8: the text is too short for the line
+abbrev pub printWhy : ℕ → ℕ → ℕ
+printWhy size text = cond (leb size text) 0 textShort
+
+-- the line goes to the front of the text, and the rest of it stays
+unfoldable pub printOf : List ℕ → List ℕ → Left ℕ (List ℕ)
+printOf s b = call (printWhy (length s) (length b)) (left (answered (length s)) (over s b)) b

@@ -1,16 +1,24 @@
 // The one line that bench prints, written into a lent text buffer from plain numbers.
 use letters::hex;
 use letters::put_hex4;
+use refusal::number::TEXT_SHORT;
 ghost use mathlib.Core.Path.{_≡_};
 ghost use Prim.Native.Nat.{_+_, _*_, _≤_, _<_};
 ghost use lib.ListN.{length};
-ghost use Rattle.line.specs.Line.{space, dashes, field, fields, modeText, placeText, firstText, lineText, name, decimal, refusedText};
-ghost use Rattle.letters.specs.Over.{Wrote, WroteAt, left, written};
+ghost use Rattle.line.specs.Line.{space, dashes, field, fields, modeText, placeText, firstText, lineText, name, decimal, refusedText, printedPage, printOf};
+ghost use Rattle.letters.specs.Over.{Wrote, WroteAt};
+ghost use Rattle.refusal.specs.Page.{left};
 
 // Where the first blank was: a place in the list of line words, or an address; or none.
 pub enum Place {
     At(u16),
     Nowhere,
+}
+
+// A line written into a lent text: its length; or 8 where the text is too short for it, which is then left as it is.
+pub enum Printed {
+    Line(usize),
+    Refused(u8),
 }
 
 // A space, and the same in its place of the text.
@@ -127,7 +135,7 @@ fn put_registers(text: &mut [u8], regs: [u16; 8]) -> usize
 }
 
 // Writes bench's line: R0 to R5, SP and PC, PS with bits 15 and 14 clear, the mode's digit, the blanks, the first blank's
-// place and the address that it told. Answers its length, 61. A shorter buffer is left as it is, and the answer is 0.
+// place and the address that it told. It has 61 characters.
 pub fn write_line(
     text: &mut [u8],
     regs: [u16; 8],
@@ -136,17 +144,17 @@ pub fn write_line(
     blanks: u16,
     place: Place,
     address: Place,
-) -> usize
-    ensures { λ r. ⌜ left r (now (text .exit)) ≡ written (lineText regs ps mode blanks place address) (now (text .entry)) ⌝ }
+) -> Printed
+    ensures { λ r. ⌜ left (printedPage r) (now (text .exit)) ≡ printOf (lineText regs ps mode blanks place address) (now (text .entry)) ⌝ }
 {
     if text.len() < 61 {
-        return 0;
+        return Printed::Refused(TEXT_SHORT);
     }
     let registers = put_registers(text, regs);
     let status = field_at(text, registers, ps % 0x4000);
     let digit = mode_at(text, status, mode);
     let count = field_at(text, digit, blanks);
-    first_at(text, count, place, address)
+    Printed::Line(first_at(text, count, place, address))
 }
 
 // REFUSED and a space.
@@ -206,14 +214,13 @@ fn decimal_at(text: &mut [u8], at: usize, n: u8) -> usize
     at + put_decimal(&mut text[at..], n)
 }
 
-// Writes a refusal's line: REFUSED, a space and the number in decimal. Answers its length. A buffer that is too short is left
-// as it is, and the answer is 0.
-pub fn write_refused(text: &mut [u8], number: u8) -> usize
-    ensures { λ r. ⌜ left r (now (text .exit)) ≡ written (refusedText number) (now (text .entry)) ⌝ }
+// Writes a refusal's line: REFUSED, a space and the number in decimal.
+pub fn write_refused(text: &mut [u8], number: u8) -> Printed
+    ensures { λ r. ⌜ left (printedPage r) (now (text .exit)) ≡ printOf (refusedText number) (now (text .entry)) ⌝ }
 {
     if text.len() < 8 + digits_of(number) {
-        return 0;
+        return Printed::Refused(TEXT_SHORT);
     }
     let name = put_name(text);
-    decimal_at(text, name, number)
+    Printed::Line(decimal_at(text, name, number))
 }

@@ -4,6 +4,7 @@ use job::Answer;
 use libc::STDERR_FILENO;
 use libc::STDIN_FILENO;
 use libc::STDOUT_FILENO;
+use line::Printed;
 use listing::Listed;
 use refusal::number::JOB_ENDS;
 ghost use Prim.Native.Nat.{_≤_};
@@ -18,13 +19,20 @@ fn print(text: &[u8], n: usize) -> bool {
     false
 }
 
-fn print_refused(why: u8) -> bool {
-    let mut text = [0u8; 16];
-    let n = line::write_refused(&mut text, why);
-    if print(&text, n) {
+// Prints the first bytes of a text and ends the line.
+fn print_end(text: &[u8], n: usize) -> bool {
+    if print(text, n) {
         return io::write_all(STDOUT_FILENO, b"\n");
     }
     false
+}
+
+fn print_refused(why: u8) -> bool {
+    let mut text = [0u8; 16];
+    match line::write_refused(&mut text, why) {
+        Printed::Line(n) => print_end(&text, n),
+        Printed::Refused(_) => false,
+    }
 }
 
 // Ends the line of n characters that begins at a place of the text; answers the place after it.

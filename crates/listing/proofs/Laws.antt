@@ -14,8 +14,9 @@ use lib.Seq.{length-take-le}
 use Rattle.letters.specs.Digits.{hex4}
 use Rattle.letters.specs.Over.{over, Wrote}
 use Rattle.refusal.specs.Numbers.{noStretch, textShort}
-use Rattle.refusal.specs.Page.{refused, answered}
-use Rattle.refusal.proofs.Laws.Page.{first-some, first-both, unless-some}
+use Rattle.refusal.specs.Page.{refused, answered, left}
+use Rattle.refusal.proofs.Laws.Page.{first-some, first-both}
+use Rattle.refusal.proofs.Laws.Page as PageLaws
 use Rattle.refusal.specs.Refusal.{boardRefusal}
 use Rattle.words.specs.Words.{wordAt}
 use Rattle.board.specs.Work.{fitted}
@@ -28,7 +29,7 @@ use Rattle.listing.specs.declared.Found.{Found}
 use Rattle.listing.specs.declared.Found.the-variants.{Nothing, Cut, Whole}
 use Rattle.listing.specs.declared.Listed.{Listed}
 use Rattle.listing.specs.Listing.{allStand, foundAt, lineOf, movesOn, Fits, lineAt, nextAt}
-use Rattle.listing.specs.Calls.{left, told, listedPage, badStretch, lineWhy, nextOf, lineCall}
+use Rattle.listing.specs.Calls.{lined, listedPage, badStretch, lineWhy, nextOf, lineIn, lineCall}
 use Rattle.listing.proofs.Laws.Joined.{taken-some, cond-none}
 
 -- ---- what is found
@@ -158,10 +159,10 @@ room-there size map a last text e =
 module _ (image map : List ℕ) (a last : ℕ) (b : List ℕ) where
   pub call-refused : (k : ℕ) → k ≡ lineWhy (length image) map a last (length b) → (k ≡ 0 → ⊥) → left (refused k) b ≡ lineCall image map a last b
   unfolding lineCall
-  call-refused k e n = rw (← e) (sym (unless-some k _ _ n))
+  call-refused k e n = PageLaws.call-refused (lineWhy (length image) map a last (length b)) (lineIn image map a last b) b k e n
 
   pub call-line : (w x y n m : ℕ) (e : List ℕ) (f : Found) (r : Listed) → lineWhy (length image) map a last (length b) ≡ 0 → f ≡ foundAt map image last a
       → w ≡ wordAt image a → x ≡ wordAt image (a + 2) → y ≡ wordAt image (a + 4) → Wrote (lineOf a (w ∷ x ∷ y ∷ []) f) b e n → m ≡ movesOn f
-      → listedPage r ≡ answered (told n (nextOf last (a + m * 2))) → left (listedPage r) e ≡ lineCall image map a last b
+      → listedPage r ≡ answered (lined n (nextOf last (a + m * 2))) → left (listedPage r) e ≡ lineCall image map a last b
   unfolding lineCall lineAt nextAt
   call-line w x y n m e f r z g p q s v u t = rw (z, t, v .bytes, v .count, u, p, q, s, g) refl

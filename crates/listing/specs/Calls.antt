@@ -6,7 +6,7 @@ use lib.ListN.{length}
 use lib.Dec.{eqb, ltb}
 use Rattle.letters.specs.Over.{over}
 use Rattle.refusal.specs.Numbers.{noStretch, textShort}
-use Rattle.refusal.specs.Page.{Page, refused, answered, first, unless}
+use Rattle.refusal.specs.Page.{Page, refused, answered, Left, left, call, first}
 use Rattle.refusal.specs.Refusal.{boardRefusal}
 use Rattle.listing.specs.declared.Listed.{Listed}
 use Rattle.listing.specs.declared.Listed.the-variants.{Line, Last, Refused}
@@ -18,25 +18,17 @@ pub data Next : Type 0 where
   goesOn : ℕ → Next
   ends : Next
 
-pub record Told : Type 0 where
+pub record Lined : Type 0 where
   pub count : ℕ
   pub next : Next
 
-abbrev pub told : ℕ → Next → Told
-told n x = record { count = n; next = x }
+abbrev pub lined : ℕ → Next → Lined
+lined n x = record { count = n; next = x }
 
-abbrev pub listedPage : Listed → Page Told
-listedPage (Line n a) = answered (told n (goesOn a))
-listedPage (Last n) = answered (told n ends)
+abbrev pub listedPage : Listed → Page Lined
+listedPage (Line n a) = answered (lined n (goesOn a))
+listedPage (Last n) = answered (lined n ends)
 listedPage (Refused why) = refused why
-
--- an answer, and the text after it
-pub record Left : Type 0 where
-  pub page : Page Told
-  pub text : List ℕ
-
-abbrev pub left : Page Told → List ℕ → Left
-left p t = record { page = p; text = t }
 
 -- ---- refusals: 1, 2 and 3 of the image and the map; 23, an odd address, or a last below the first; 8, the text is under 52
 
@@ -58,10 +50,11 @@ lineWhy size map a last text =
 abbrev pub nextOf : ℕ → ℕ → Next
 nextOf last a = cond (ltb last a) ends (goesOn a)
 
-unfoldable pub lineCall : List ℕ → List ℕ → ℕ → ℕ → List ℕ → Left
-lineCall image map a last b =
-    let why = lineWhy (length image) map a last (length b) in
+-- the line at the front of the text, and the rest of it as it was
+abbrev pub lineIn : List ℕ → List ℕ → ℕ → ℕ → List ℕ → Left Lined (List ℕ)
+lineIn image map a last b =
     let l = lineAt map image last a in
-    unless why
-    (left (answered (told (length l) (nextOf last (nextAt map image last a)))) (over l b))
-    (left (refused why) b)
+    left (answered (lined (length l) (nextOf last (nextAt map image last a)))) (over l b)
+
+unfoldable pub lineCall : List ℕ → List ℕ → ℕ → ℕ → List ℕ → Left Lined (List ℕ)
+lineCall image map a last b = call (lineWhy (length image) map a last (length b)) (lineIn image map a last b) b

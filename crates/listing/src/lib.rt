@@ -16,7 +16,7 @@ ghost use Rattle.board.specs.Work as Work;
 ghost use Rattle.line.specs.Line.{dashes, field, fields};
 ghost use Rattle.optext.specs.Line.{taken, textOf, wordText};
 ghost use Rattle.listing.specs.Listing as Spec;
-ghost use Rattle.refusal.specs.Page.{answered};
+ghost use Rattle.refusal.specs.Page.{answered, left};
 ghost use Rattle.listing.specs.Calls as Call;
 
 // What stands at an address: nothing is fitted there; an op code that is cut; or a whole op code, with the number of its words.
@@ -238,7 +238,7 @@ fn line_refusal(size: usize, map: &[u8], a: u16, last: u16, text: usize) -> u8
 
 // The line is the last where the next address is past the stretch.
 fn told(n: usize, last: u16, next: usize) -> Listed
-    ensures { λ r. ⌜ Call.listedPage r ≡ answered (Call.told n (Call.nextOf last next)) ⌝ }
+    ensures { λ r. ⌜ Call.listedPage r ≡ answered (Call.lined n (Call.nextOf last next)) ⌝ }
 {
     if (last as usize) < next {
         return Listed::Last(n);
@@ -250,7 +250,7 @@ fn told(n: usize, last: u16, next: usize) -> Listed
 // and no line end. The lines of a stretch are those at its first address and at each next address that is answered. Or 1, 2, 3, 23
 // or 8.
 pub fn list_line(image: &[u8], map: &[u8], a: u16, last: u16, text: &mut [u8]) -> Listed
-    ensures { λ r. ⌜ Call.left (Call.listedPage r) (now (text .exit)) ≡ Call.lineCall (now (image .entry)) (now (map .entry)) a last (now (text .entry)) ⌝ }
+    ensures { λ r. ⌜ left (Call.listedPage r) (now (text .exit)) ≡ Call.lineCall (now (image .entry)) (now (map .entry)) a last (now (text .entry)) ⌝ }
 {
     let why = line_refusal(image.len(), map, a, last, text.len());
     if why != 0 {

@@ -8,7 +8,7 @@ use lib.ListN.{length, take, getD, length-append}
 use borrow.Author.Tests.{eq-eqb, ne-eqb}
 use Rattle.words.specs.Words.{bytesIn, wordAt}
 use Rattle.refusal.specs.Numbers.{noState}
-use Rattle.refusal.specs.Page.{Page, refused, refusedAt, answered, told, unless}
+use Rattle.refusal.specs.Page.{Page, refused, refusedAt, answered, left, call, told}
 use Rattle.letters.specs.Over.{over}
 use Rattle.board.specs.Work.{fitted}
 use Rattle.line.specs.Line.{dashes, fields}
@@ -20,8 +20,7 @@ use Rattle.listing.specs.declared.Found.the-variants.{Nothing, Cut, Whole}
 use Rattle.listing.specs.declared.Listed.{Listed}
 use Rattle.listing.specs.declared.Listed.the-variants.{Line, Last, Refused}
 use Rattle.listing.specs.Listing.{allStand, wordsAt, foundAt, lineOf, lineAt, nextAt}
-use Rattle.listing.specs.Calls.{Told, listedPage, left, lineWhy, nextOf, lineCall}
-use Rattle.listing.specs.Calls as Calls
+use Rattle.listing.specs.Calls.{Lined, lined, listedPage, lineWhy, nextOf, lineCall}
 use Rattle.listing.proofs.Laws.{word-length}
 use Rattle.listing_c.specs.Calls.{listCall}
 
@@ -37,17 +36,17 @@ line-few : (map image : List ℕ) (last a : ℕ) → length (lineAt map image la
 unfolding lineAt foundAt
 line-few map image last a = line-short a (wordsAt image a) (taken (wordAt image a)) (fitted map a) (allStand map last a (taken (wordAt image a))) (taken-le (wordAt image a))
 
-abbrev countIn : Page Told → ℕ
+abbrev countIn : Page Lined → ℕ
 countIn (answered p) = p .count
 countIn (refused why) = 0
 countIn (refusedAt why place) = 0
 
 -- what is answered tells a short line
-told-short : (image map : List ℕ) (a last : ℕ) (b e : List ℕ) (p : Page Told) → left p e ≡ lineCall image map a last b → countIn p < 65536
+told-short : (image map : List ℕ) (a last : ℕ) (b e : List ℕ) (p : Page Lined) → left p e ≡ lineCall image map a last b → countIn p < 65536
 unfolding lineCall
 told-short image map a last b e p h = by (lineWhy (length image) map a last (length b)) (over (lineAt map image last a) b) h
   where
-    by : (why : ℕ) (t : List ℕ) → left p e ≡ unless why (left (answered (Calls.told (length (lineAt map image last a)) (nextOf last (nextAt map image last a)))) t) (left (refused why) b) → countIn p < 65536
+    by : (why : ℕ) (t : List ℕ) → left p e ≡ call why (left (answered (lined (length (lineAt map image last a)) (nextOf last (nextAt map image last a)))) t) b → countIn p < 65536
     by zero t d = let q : countIn p ≡ length (lineAt map image last a) = ap (λ z. countIn (z .page)) d in omega (arith, q, line-few map image last a)
     by (suc why) t d = let q : countIn p ≡ 0 = ap (λ z. countIn (z .page)) d in omega (arith, q)
 

@@ -8,7 +8,7 @@ use lib.ListN.{length}
 use Rattle.words.specs.Words.{bytesIn}
 use Rattle.refusal.specs.Numbers.{noState}
 use Rattle.refusal.specs.Page as Page
-use Rattle.listing.specs.Calls.{Next, goesOn, ends, Told, lineCall}
+use Rattle.listing.specs.Calls.{Next, goesOn, ends, Lined, lineCall}
 
 -- 6 bytes: the line's length; the address of the next line, 0 where there is none; 1 where this is the last, else 0
 abbrev pub nextBytes : ℕ → Next → List ℕ
@@ -16,7 +16,7 @@ nextBytes n (goesOn a) = bytesIn (n ∷ a ∷ 0 ∷ [])
 nextBytes n ends = bytesIn (n ∷ 0 ∷ 1 ∷ [])
 
 -- a refusal leaves the answer as lent too
-abbrev pub listIn : List ℕ → Page.Page Told → List ℕ → Page.Told (List ℕ × List ℕ)
+abbrev pub listIn : List ℕ → Page.Page Lined → List ℕ → Page.Told (List ℕ × List ℕ)
 listIn b (Page.answered p) t = Page.told 0 (t, nextBytes (p .count) (p .next))
 listIn b (Page.refused why) t = Page.told why (t, b)
 listIn b (Page.refusedAt why place) t = Page.told why (t, b)
@@ -24,4 +24,4 @@ listIn b (Page.refusedAt why place) t = Page.told why (t, b)
 unfoldable pub listCall : List ℕ → List ℕ → ℕ → ℕ → List ℕ → List ℕ → Page.Told (List ℕ × List ℕ)
 listCall image map a last t b =
     let l = lineCall image map a last t in
-    cond (eqb (length b) 6) (listIn b (l .page) (l .text)) (Page.told noState (t, b))
+    cond (eqb (length b) 6) (listIn b (l .page) (l .lent)) (Page.told noState (t, b))

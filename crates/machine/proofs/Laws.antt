@@ -5,6 +5,7 @@ pub mod Back
 pub mod Blind
 pub mod Block
 pub mod Counted
+pub mod Door
 pub mod Entry
 pub mod Leg
 pub mod Run

@@ -2,6 +2,7 @@ pub mod Numbers
 pub mod Run
 pub mod Leg
 pub mod Entry
+pub mod Door
 pub mod Back
 pub mod Blind
 pub mod Trail

@@ -12,6 +12,7 @@ ghost use Rattle.machine.specs.Entry as Spec;
 ghost use Rattle.machine.specs.Same.{runSamePage};
 ghost use Rattle.machine.specs.Until.{stoppedPage, runUntilPage};
 
+pub mod door;
 mod early;
 mod runs;
 mod same;

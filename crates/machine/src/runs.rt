@@ -120,7 +120,7 @@ fn op_codes(
 }
 
 // A burst, and the step that it ended before.
-fn leg(
+pub(crate) fn leg(
     stage: Stage,
     image: &mut [u8],
     map: &[u8],

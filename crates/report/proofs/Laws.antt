@@ -8,20 +8,20 @@ use Rattle.state.specs.declared.Settings.{Settings}
 use Rattle.state.specs.State.{modeNumber, psOf, heard}
 use Rattle.machine.specs.declared.Ran.{Ran}
 use Rattle.line.specs.declared.Place.{Place}
-use Rattle.letters.specs.Over.{written, Left}
-use Rattle.line.specs.Line.{lineText}
+use Rattle.refusal.specs.Page.{Left}
+use Rattle.line.specs.Line.{lineText, printOf}
 use Rattle.machine.specs.Numbers.{registers}
 use Rattle.report.specs.Report.{benchBoard, placeOf, addressOf, endOn, endText}
 
-pub end-is : (r : Ran) (text : List ℕ) (w : Left) (regs : List ℕ) (board : Settings) (out : Outside) (ps mode : ℕ) (at told : Place)
-    → w ≡ written (lineText regs ps mode (r .tally .blanks) at told) text
+pub end-is : (r : Ran) (text : List ℕ) (w : Left ℕ (List ℕ)) (regs : List ℕ) (board : Settings) (out : Outside) (ps mode : ℕ) (at told : Place)
+    → w ≡ printOf (lineText regs ps mode (r .tally .blanks) at told) text
     → regs ≡ registers (r .state) → out ≡ heard board 0 → ps ≡ psOf out false (r .state)
     → mode ≡ modeNumber (r .state .mode) → at ≡ placeOf (r .tally .first) → told ≡ addressOf (r .tally .first)
-    → w ≡ written (endOn board r) text
+    → w ≡ printOf (endOn board r) text
 unfolding endOn
 end-is r text w regs board out ps mode at told e e1 e2 e3 e4 e5 e6 = e ∙ rw (e1, e3, e2, e4, e5, e6)
 
-pub bench-is : (r : Ran) (text : List ℕ) (w : Left) (board : Settings)
-    → w ≡ written (endOn board r) text → board ≡ benchBoard → w ≡ written (endText r) text
+pub bench-is : (r : Ran) (text : List ℕ) (w : Left ℕ (List ℕ)) (board : Settings)
+    → w ≡ printOf (endOn board r) text → board ≡ benchBoard → w ≡ printOf (endText r) text
 unfolding endText
 bench-is r text w board e e0 = e ∙ rw e0

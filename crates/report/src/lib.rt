@@ -1,11 +1,13 @@
 // The line of a run's end, on bench's board and on others: the machine's answer in the line's own fields.
 use line::Place;
+use line::Printed;
 use machine::First;
 use machine::Ran;
 use state::Settings;
 use state::State;
 ghost use mathlib.Core.Path.{_≡_};
-ghost use Rattle.letters.specs.Over.{left, written};
+ghost use Rattle.line.specs.Line.{printedPage, printOf};
+ghost use Rattle.refusal.specs.Page.{left};
 ghost use Rattle.machine.specs.Numbers.{registers};
 ghost use Rattle.report.specs.Report as Spec;
 
@@ -57,9 +59,9 @@ fn address(first: First) -> Place
     }
 }
 
-// Writes the line of a run's end on a board and answers its length; a buffer that is too short is left as it is, and the answer is 0.
-pub fn write_end_on(text: &mut [u8], ran: Ran, board: Settings) -> usize
-    ensures { λ r. ⌜ left r (now (text .exit)) ≡ written (Spec.endOn board ran) (now (text .entry)) ⌝ }
+// Writes the line of a run's end on a board; or 8 where the text is under 61.
+pub fn write_end_on(text: &mut [u8], ran: Ran, board: Settings) -> Printed
+    ensures { λ r. ⌜ left (printedPage r) (now (text .exit)) ≡ printOf (Spec.endOn board ran) (now (text .entry)) ⌝ }
 {
     let s = ran.state;
     let tally = ran.tally;
@@ -74,8 +76,8 @@ pub fn write_end_on(text: &mut [u8], ran: Ran, board: Settings) -> usize
 }
 
 // The same on bench's board.
-pub fn write_end(text: &mut [u8], ran: Ran) -> usize
-    ensures { λ r. ⌜ left r (now (text .exit)) ≡ written (Spec.endText ran) (now (text .entry)) ⌝ }
+pub fn write_end(text: &mut [u8], ran: Ran) -> Printed
+    ensures { λ r. ⌜ left (printedPage r) (now (text .exit)) ≡ printOf (Spec.endText ran) (now (text .entry)) ⌝ }
 {
     write_end_on(text, ran, bench_board())
 }

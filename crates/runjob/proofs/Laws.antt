@@ -1,65 +1,100 @@
--- From the callees' promises to bench's line.
-pub mod Taken
-use Prim.Native.Nat.{ℕ, zero, suc}
+-- From the callees' promises to a job's run, and to bench's line.
+use Prim.Native.Nat.{ℕ, _<_, _≤_}
 use mathlib.Core.List.{List}
-use mathlib.Core.Path.{_≡_, sym, ap, _∙_}
+use mathlib.Core.Path.{_≡_, refl, sym, ap, _∙_}
+use native.Mathlib.Omega.{arith}
+use borrow.Author.Tests.{le-leb, lt-leb}
 use lib.ListN.{length, take}
-use Rattle.state.specs.declared.State.{State}
-use Rattle.state.specs.declared.Settings.{Settings}
 use Rattle.words.specs.Words.{wordAt}
-use Rattle.refusal.specs.Page.{refused, answered, left, unless}
-use Rattle.refusal.proofs.Laws.Page.{apart, refused-one}
+use Rattle.refusal.specs.Numbers.{textShort}
+use Rattle.refusal.specs.Page.{refused, answered, left}
+use Rattle.refusal.proofs.Laws.Page.{answered-one, call-refused, call-right, call-told}
+use Rattle.refusal.proofs.Laws.Refusal.{run-sound}
 use Rattle.machine.specs.declared.Ran.{Ran}
 use Rattle.machine.specs.declared.Finished.{Finished}
 use Rattle.machine.specs.declared.Finished.the-variants as Finished
+use Rattle.machine.specs.Numbers.{RanPage, ranPage}
 use Rattle.machine.specs.Run.{End, end, runOf, ranOf}
-use Rattle.machine.specs.Entry.{runWhy, finishedPage, ended, runPage}
-use Rattle.machine.proofs.Laws.Answered.{run-done}
-use Rattle.job.specs.declared.Answer.{Answer}
-use Rattle.job.specs.declared.Answer.the-variants as Answer
-use Rattle.job.specs.Job.{after, linesAt, imageOf, mapOf, linesOf, lineWords, whyRead, pageOf, jobOf}
-use Rattle.letters.specs.Over.{Left, written}
-use Rattle.line.specs.Line.{refusedText}
-use Rattle.report.specs.Report.{benchBoard, endText}
-use Rattle.runjob.proofs.Laws.Taken.{Read}
-use Rattle.runjob.specs.Bench.{told, lineAt, imageAt, fromPowerUp, runIn, benchOf}
+use Rattle.machine.specs.Entry.{finishedPage}
+use Rattle.machine.proofs.Laws.Back.{ran-one}
+use Rattle.job.specs.Job.{linesAt, imageOf, mapOf, linesOf, lineWords, Filled, whyRead}
+use Rattle.job.proofs.Laws.Sound.{job-taken}
+use Rattle.letters.specs.Over.{over}
+use Rattle.line.specs.declared.Printed.{Printed}
+use Rattle.line.specs.Line.{printedPage, printOf}
+use Rattle.line.proofs.Laws.{line-length}
+use Rattle.line.proofs.Laws.Printed.{printed-fits}
+use Rattle.report.specs.Report.{endOn, benchBoard, endText}
+use Rattle.runjob.specs.declared.Begun.{Begun}
+use Rattle.runjob.specs.Bench.{upOf, Accepted, Begins, runIn, ranAt, jobRun, lineAt, benchOf}
 
--- ---- a run that is not refused, on bench's board
+-- ---- the beginning: the buffers of an accepted job have their lengths, and its line words are few
 
-module _ (m map lines : List ℕ) (s : State) (board : Settings) where
-  pub from-done : (text : List ℕ) (r : Finished) (ran : Ran) (m′ : List ℕ) (w : Left) → board ≡ benchBoard → left (finishedPage r) m′ ≡ runPage board m map lines s → r ≡ Finished.Done ran
-      → w ≡ written (endText ran) text → (w ≡ lineAt text (runOf benchBoard map lines s m)) × (m′ ≡ imageAt (runOf benchBoard map lines s m))
-  from-done text r ran m′ w g e d h =
-      let x : ranOf ran m′ ≡ runOf benchBoard map lines s m = run-done benchBoard m map lines s ran m′ (ap (λ z. left (finishedPage z) m′) (sym d) ∙ e ∙ ap (λ z. runPage z m map lines s) g) .1 in
-      (h ∙ ap (lineAt text) x, ap imageAt x)
+pub record Filling (image map lines : List ℕ) (count : ℕ) : Type 0 where
+  pub bytes : length image ≡ 65536
+  pub pages : length map ≡ 256
+  pub within : count ≤ length lines
+  pub few : length (take count lines) ≤ 4096
 
-  pub from-refused : {A : Type 0} (r : Finished) (why : ℕ) (m′ : List ℕ) → board ≡ benchBoard → runWhy benchBoard m map lines ≡ 0 → left (finishedPage r) m′ ≡ runPage board m map lines s → r ≡ Finished.Refused why → A
-  unfolding runPage
-  from-refused r why m′ g n e d = absurd (split (runOf benchBoard map lines s m) (rw (g, n, d) at e))
-    where
-      split : (x : End) → left (refused why) m′ ≡ ended x → ⊥
-      split (end t k y) e = apart (sym (ap (λ z. z .page) e))
+pub filling : (input : List ℕ) {image map lines image′ map′ lines′ : List ℕ} {count : ℕ} → Accepted input image map lines → Filled input image′ map′ lines′ count → Filling image′ map′ lines′ count
+unfolding lineWords
+filling input {image} {map} {lines} h f =
+    let taken = job-taken input (benchBoard .powerup) (benchBoard .halt) (benchBoard .register) (length image) (length map) (length lines) refl (h .none) in
+    let sound = run-sound (length (imageOf input)) (mapOf input) (benchBoard .powerup) (benchBoard .halt) (benchBoard .register) (lineWords input) (taken .1) in
+    rw (f .image-is, f .map-is, f .lines-is, f .count-is) (record { bytes = sound .0 .bytes; pages = sound .0 .pages; within = taken .0; few = sound .1 })
 
--- ---- a job
+-- ---- the run
+
+-- what a run's end answers
+abbrev endPage : End → RanPage
+endPage (end s m t) = ranPage (record { state = s; tally = t })
+
+end-answer : (input : List ℕ) (x : End) → ranAt input x .page ≡ answered (endPage x)
+end-answer input (end s m t) = refl
 
 module _ (input image map lines : List ℕ) where
-  pub job-done : (text : List ℕ) {image′ map′ lines′ : List ℕ} {count : ℕ} (w : Left) (m : List ℕ) → Read input image map lines image′ map′ lines′ count
-      → (w ≡ lineAt text (fromPowerUp map′ (take count lines′) image′)) × (m ≡ imageAt (fromPowerUp map′ (take count lines′) image′))
-      → told w m map′ lines′ ≡ benchOf input text image map lines
-  unfolding benchOf runIn lineWords
-  job-done text w m h e = rw (e .0, e .1, h .none, h .countIs, h .imageIs, h .mapIs, h .linesIs)
+  pub job-refused : (why : ℕ) → why ≡ whyRead (length image) (length map) (length lines) input → (why ≡ 0 → ⊥) → left (refused why) (image, map, lines) ≡ jobRun input image map lines
+  unfolding jobRun
+  job-refused why e n = call-refused (whyRead (length image) (length map) (length lines) input) (ranAt input (runIn input)) (image, map, lines) why e n
 
-  pub job-refused : (text : List ℕ) (r : Answer) (why : ℕ) (image′ map′ lines′ : List ℕ) (w : Left) → after (pageOf r) image′ map′ lines′ ≡ jobOf input image map lines → r ≡ Answer.Refused why
-      → w ≡ written (refusedText why) text → told w image′ map′ lines′ ≡ benchOf input text image map lines
-  unfolding jobOf benchOf
-  job-refused text r why image′ map′ lines′ w e d h = split (whyRead (length image) (length map) (length lines) input) (rw d at e)
-    where
-      split : (k : ℕ) → after (refused why) image′ map′ lines′ ≡ unless k (after (answered (wordAt input (linesAt input))) (imageOf input) (mapOf input) (linesOf input)) (after (refused k) image map lines)
-          → told w image′ map′ lines′ ≡ unless k (told (lineAt text (runIn input)) (imageAt (runIn input)) (mapOf input) (linesOf input)) (told (written (refusedText k) text) image map lines)
-      split zero e = absurd (apart (sym (ap (λ z. z .page) e)))
-      split (suc k) e =
-          let number : why ≡ suc k = refused-one (ap (λ z. z .page) e) in
-          let i : image′ ≡ image = ap (λ z. z .image) e in
-          let p : map′ ≡ map = ap (λ z. z .map) e in
-          let l : lines′ ≡ lines = ap (λ z. z .lines) e in
-          rw (h, number, i, p, l)
+  pub job-done : {b : Begun} {i m l : List ℕ} (ran : Ran) (n : List ℕ) → whyRead (length image) (length map) (length lines) input ≡ 0 → Begins input b i m l
+      → ranOf ran n ≡ runOf benchBoard m (take (b .count) l) (b .state) i → left (answered (ranPage ran)) (n, m, l) ≡ jobRun input image map lines
+  unfolding jobRun runIn lineWords
+  job-done {b} {i} {m} {l} ran n none h e =
+      let begun : ranOf ran n ≡ runOf benchBoard (mapOf input) (take (wordAt input (linesAt input)) (linesOf input)) (b .state) i = rw (← h .mapIs, ← h .linesIs, ← h .countIs) e in
+      let same : ranOf ran n ≡ runIn input = begun ∙ ap (λ u. runOf benchBoard (mapOf input) (take (wordAt input (linesAt input)) (linesOf input)) (u .state) (u .image)) (h .powered) in
+      rw (none, h .mapIs, h .linesIs) (ap (ranAt input) same)
+
+-- ---- the line
+
+end-length : (ran : Ran) → length (endText ran) ≡ 61
+unfolding endText endOn
+end-length ran = line-length _ _ _ _ _ _
+
+module _ (input text image map lines : List ℕ) where
+  pub bench-short : length text < 61 → left (refused textShort) (text, image, map, lines) ≡ benchOf input text image map lines
+  unfolding benchOf
+  bench-short h = rw (lt-leb 61 (length text) h)
+
+  module _ (room : 61 ≤ length text) (r : Finished) (i m l : List ℕ) (e : left (finishedPage r) (i, m, l) ≡ jobRun input image map lines) where
+    pub bench-refused : (why : ℕ) → r ≡ Finished.Refused why → left (refused why) (text, i, m, l) ≡ benchOf input text image map lines
+    unfolding jobRun benchOf
+    bench-refused why d =
+        let t = call-told (whyRead (length image) (length map) (length lines) input) (ranAt input (runIn input)) (image, map, lines) (end-answer input (runIn input)) (ap (λ z. left (finishedPage z) (i, m, l)) (sym d) ∙ e) in
+        rw (ap (λ z. z .0) (t .2), ap (λ z. z .1) (t .2), ap (λ z. z .2) (t .2), le-leb 61 (length text) room)
+        (call-refused (whyRead (length image) (length map) (length lines) input) (lineAt input text (runIn input)) (text, image, map, lines) why (t .0) (t .1))
+
+    pub bench-done : (ran : Ran) (p : Printed) (text′ : List ℕ) → r ≡ Finished.Done ran → left (printedPage p) text′ ≡ printOf (endText ran) text
+        → left (printedPage p) (text′, i, m, l) ≡ benchOf input text image map lines
+    unfolding jobRun benchOf
+    bench-done ran p text′ d w =
+        let h = call-right (whyRead (length image) (length map) (length lines) input) (ranAt input (runIn input)) (image, map, lines) (ap (λ z. left (finishedPage z) (i, m, l)) (sym d) ∙ e) in
+        let fits : length (endText ran) ≤ length text = omega (arith, end-length ran, room) in
+        let line = w ∙ printed-fits (endText ran) text fits in
+        rw (ap (λ z. z .page) line, ap (λ z. z .lent) line, le-leb 61 (length text) room, h .0) (at (runIn input) (h .1))
+      where
+        at : (x : End) → left (answered (ranPage ran)) (i, m, l) ≡ ranAt input x → left (answered (length (endText ran))) (over (endText ran) text, i, m, l) ≡ lineAt input text x
+        at (end s n t) q =
+            let same : ran ≡ record { state = s; tally = t } = ran-one ran (record { state = s; tally = t }) (answered-one (ap (λ z. z .page) q)) in
+            let buffers = ap (λ z. z .lent) q in
+            rw (same, ap (λ z. z .0) buffers, ap (λ z. z .1) buffers, ap (λ z. z .2) buffers)

@@ -1,44 +1,61 @@
 -- A job from end to end: its bytes in, bench's line out.
-use Prim.Native.Nat.{ℕ}
+use Prim.Native.Nat.{ℕ, _≤_}
 use mathlib.Core.List.{List}
-use lib.ListN.{length}
-use Rattle.step.specs.Step.{powerUpOf}
-use Rattle.refusal.specs.Page.{unless}
+use mathlib.Core.Path.{_≡_}
+use lib.ListN.{length, take}
+use Rattle.words.specs.Words.{wordAt}
+use Rattle.step.specs.Step.{Up, up, powerUpOf}
+use Rattle.refusal.specs.Page.{answered, Left, left, call, first}
+use Rattle.machine.specs.Numbers.{RanPage, ranPage}
 use Rattle.machine.specs.Run.{End, end, runOf}
-use Rattle.job.specs.Job.{imageOf, mapOf, linesOf, lineWords, whyRead}
-use Rattle.letters.specs.Over.{Left, written}
-use Rattle.line.specs.Line.{refusedText}
+use Rattle.machine.specs.Door.{Good}
+use Rattle.job.specs.Job.{linesAt, imageOf, mapOf, linesOf, lineWords, whyRead}
+use Rattle.letters.specs.Over.{over}
+use Rattle.line.specs.Line.{printWhy}
 use Rattle.report.specs.Report.{benchBoard, endText}
+use Rattle.runjob.specs.declared.Begun.{Begun}
 
--- the line, and the image, the map and the line buffer after the call
-pub record Told : Type 0 where
-  pub line : Left
-  pub image : List ℕ
-  pub map : List ℕ
-  pub lines : List ℕ
+-- ---- a job's beginning: its board after power-up
 
-abbrev pub told : Left → List ℕ → List ℕ → List ℕ → Told
-told line image map lines = record { line = line; image = image; map = map; lines = lines }
+abbrev pub upOf : List ℕ → Up
+upOf input = powerUpOf benchBoard (mapOf input) (imageOf input)
 
--- the line of a run's end, written into the text; its image
-abbrev pub lineAt : List ℕ → End → Left
-lineAt text (end s m t) = written (endText (record { state = s; tally = t })) text
+-- what is asked for: the job is not refused
+pub record Accepted (input image map lines : List ℕ) : Type 0 where
+  pub none : whyRead (length image) (length map) (length lines) input ≡ 0
 
-abbrev pub imageAt : End → List ℕ
-imageAt (end s m t) = m
+-- and what is promised: the state, the number of line words and the buffers; the board is good
+pub record Begins (input : List ℕ) (b : Begun) (image map lines : List ℕ) : Type 0 where
+  pub powered : up (b .state) image ≡ upOf input
+  pub mapIs : map ≡ mapOf input
+  pub linesIs : lines ≡ linesOf input
+  pub countIs : b .count ≡ wordAt input (linesAt input)
+  pub within : b .count ≤ length lines
+  pub good : Good map image (take (b .count) lines)
 
--- powers up, runs over the line words
-abbrev pub fromPowerUp : List ℕ → List ℕ → List ℕ → End
-fromPowerUp map lines image = let u = powerUpOf benchBoard map image in runOf benchBoard map lines (u .state) (u .image)
+-- ---- its run
 
 unfoldable pub runIn : List ℕ → End
-runIn input = fromPowerUp (mapOf input) (lineWords input) (imageOf input)
+runIn input = runOf benchBoard (mapOf input) (lineWords input) (upOf input .state) (upOf input .image)
 
--- a refused job: its number in the line, and all other buffers as lent. An accepted one: the line of its run's end, the image after
--- the run, the job's map and its line words
-unfoldable pub benchOf : List ℕ → List ℕ → List ℕ → List ℕ → List ℕ → Told
-benchOf input text image map lines =
-    let why = whyRead (length image) (length map) (length lines) input in
-    unless why
-    (told (lineAt text (runIn input)) (imageAt (runIn input)) (mapOf input) (linesOf input))
-    (told (written (refusedText why) text) image map lines)
+-- the answer of a run's end; the image after the run, the job's map and its line words
+abbrev pub ranAt : List ℕ → End → Left RanPage (List ℕ × List ℕ × List ℕ)
+ranAt input (end s m t) = left (answered (ranPage (record { state = s; tally = t }))) (m, mapOf input, linesOf input)
+
+unfoldable pub jobRun : List ℕ → List ℕ → List ℕ → List ℕ → Left RanPage (List ℕ × List ℕ × List ℕ)
+jobRun input image map lines = call (whyRead (length image) (length map) (length lines) input) (ranAt input (runIn input)) (image, map, lines)
+
+-- ---- and its line
+
+-- the line of a run's end at the front of the text; and the buffers of the run
+abbrev pub lineAt : List ℕ → List ℕ → End → Left ℕ (List ℕ × List ℕ × List ℕ × List ℕ)
+lineAt input text (end s m t) =
+    let l = endText (record { state = s; tally = t }) in
+    left (answered (length l)) (over l text, m, mapOf input, linesOf input)
+
+-- 8, a text under 61; then the job's own
+abbrev pub benchWhy : List ℕ → List ℕ → List ℕ → List ℕ → List ℕ → ℕ
+benchWhy input text image map lines = first (printWhy 61 (length text)) (whyRead (length image) (length map) (length lines) input)
+
+unfoldable pub benchOf : List ℕ → List ℕ → List ℕ → List ℕ → List ℕ → Left ℕ (List ℕ × List ℕ × List ℕ × List ℕ)
+benchOf input text image map lines = call (benchWhy input text image map lines) (lineAt input text (runIn input)) (text, image, map, lines)

@@ -1,65 +1,78 @@
 // A job from end to end: its bytes in, bench's line out.
-use job::Answer;
+use line::Printed;
 use machine::Finished;
-use machine::Powered;
+use machine::Ran;
+use machine::door;
+use refusal::number::TEXT_SHORT;
+use report::bench_board;
 use state::State;
 ghost use mathlib.Core.Path.{_≡_};
 ghost use Prim.Native.Nat.{_≤_};
 ghost use lib.ListN.{length, take};
-ghost use Rattle.letters.specs.Over.{left};
-ghost use Rattle.machine.specs.Entry.{runWhy};
-ghost use Rattle.machine.specs.Run.{runOf};
+ghost use Rattle.refusal.specs.Page.{left};
+ghost use Rattle.line.specs.Line.{printedPage};
+ghost use Rattle.machine.specs.Entry.{finishedPage};
+ghost use Rattle.machine.specs.Door.{Good, Runs};
 ghost use Rattle.report.specs.Report.{benchBoard};
 ghost use Rattle.runjob.specs.Bench as Spec;
 
-// Runs over line words from a state, on bench's board.
-fn run_from(text: &mut [u8], s: State, image: &mut [u8], map: &[u8], lines: &[u16]) -> usize
-    requires { ⌜ runWhy benchBoard (now image) (now map) (now lines) ≡ 0 ⌝ }
-    ensures { λ r. ⌜ (left r (now (text .exit)) ≡ Spec.lineAt (now (text .entry)) (runOf benchBoard (now (map .entry)) (now (lines .entry)) s (now (image .entry))))
-        × (now (image .exit) ≡ Spec.imageAt (runOf benchBoard (now (map .entry)) (now (lines .entry)) s (now (image .entry)))) ⌝ }
-{
-    match machine::run(s, image, map, report::bench_board(), lines) {
-        Finished::Done(ran) => report::write_end(text, ran),
-        Finished::Refused(why) => line::write_refused(text, why),
-    }
+// Where a job begins: the state after power-up, and the number of its line words.
+pub struct Begun {
+    pub state: State,
+    pub count: u16,
 }
 
-// The same from power-up.
-fn run_up(text: &mut [u8], image: &mut [u8], map: &[u8], lines: &[u16]) -> usize
-    requires { ⌜ runWhy benchBoard (now image) (now map) (now lines) ≡ 0 ⌝ }
-    ensures { λ r. ⌜ (left r (now (text .exit)) ≡ Spec.lineAt (now (text .entry)) (Spec.fromPowerUp (now (map .entry)) (now (lines .entry)) (now (image .entry))))
-        × (now (image .exit) ≡ Spec.imageAt (Spec.fromPowerUp (now (map .entry)) (now (lines .entry)) (now (image .entry)))) ⌝ }
+// Reads a job that is known not to be refused into the lent buffers, and powers up bench's board.
+pub fn begin(input: &[u8], image: &mut [u8], map: &mut [u8], lines: &mut [u16]) -> Begun
+    requires { ⌜ Spec.Accepted (now input) (now image) (now map) (now lines) ⌝ }
+    ensures { λ r. ⌜ Spec.Begins (now (input .entry)) r (now (image .exit)) (now (map .exit)) (now (lines .exit)) ⌝ }
 {
-    match machine::power_up(image, map, report::bench_board()) {
-        Powered::Up(s) => run_from(text, s, image, map, lines),
-        Powered::Refused(why) => line::write_refused(text, why),
-    }
+    let count = job::fill(input, image, map, lines);
+    let state = step::power(image, map, bench_board());
+    Begun { state, count }
 }
 
-// The same over the first line words of the buffer.
-fn run_first(text: &mut [u8], image: &mut [u8], map: &[u8], lines: &[u16], count: u16) -> usize
-    requires { ⌜ (count ≤ length (now lines)) × (runWhy benchBoard (now image) (now map) (take count (now lines)) ≡ 0) ⌝ }
-    ensures { λ r. ⌜ (left r (now (text .exit)) ≡ Spec.lineAt (now (text .entry)) (Spec.fromPowerUp (now (map .entry)) (take count (now (lines .entry))) (now (image .entry))))
-        × (now (image .exit) ≡ Spec.imageAt (Spec.fromPowerUp (now (map .entry)) (take count (now (lines .entry))) (now (image .entry)))) ⌝ }
+// Runs over the first line words of the buffer, on bench's board.
+fn run_first(s: State, image: &mut [u8], map: &[u8], lines: &[u16], count: u16) -> Ran
+    requires { ⌜ (count ≤ length (now lines)) × Good (now map) (now image) (take count (now lines)) ⌝ }
+    ensures { λ r. ⌜ Runs benchBoard (now (map .entry)) (take count (now (lines .entry))) s (now (image .entry)) r (now (image .exit)) ⌝ }
 {
     let n = count as usize;
-    run_up(text, image, map, &lines[..n])
+    door::run(s, image, map, bench_board(), &lines[..n])
 }
 
-// Reads a job into the lent buffers, powers up, runs, and writes bench's line into the text; answers its length, or 0 where the text
-// is too short for it. A refused job's line is REFUSED and the number, and the other buffers are left as they are.
+// Reads a job into the lent buffers, powers up bench's board and runs over the job's line words; or the job's own refusal.
+pub fn run(input: &[u8], image: &mut [u8], map: &mut [u8], lines: &mut [u16]) -> Finished
+    ensures { λ r. ⌜ left (finishedPage r) (now (image .exit), now (map .exit), now (lines .exit))
+        ≡ Spec.jobRun (now (input .entry)) (now (image .entry)) (now (map .entry)) (now (lines .entry)) ⌝ }
+{
+    let why = job::refusal(image.len(), map.len(), lines.len(), input);
+    if why != 0 {
+        return Finished::Refused(why);
+    }
+    let begun = begin(input, image, map, lines);
+    let s = begun.state;
+    let count = begun.count;
+    Finished::Done(run_first(s, image, map, lines, count))
+}
+
+// The same, and bench's line in front of the text; or 8 where the text is under 61, then the job's own refusal. A refusal leaves
+// every buffer as it is.
 pub fn run_job(
     text: &mut [u8],
     input: &[u8],
     image: &mut [u8],
     map: &mut [u8],
     lines: &mut [u16],
-) -> usize
-    ensures { λ r. ⌜ Spec.told (left r (now (text .exit))) (now (image .exit)) (now (map .exit)) (now (lines .exit))
+) -> Printed
+    ensures { λ r. ⌜ left (printedPage r) (now (text .exit), now (image .exit), now (map .exit), now (lines .exit))
         ≡ Spec.benchOf (now (input .entry)) (now (text .entry)) (now (image .entry)) (now (map .entry)) (now (lines .entry)) ⌝ }
 {
-    match job::read_job(input, image, map, lines) {
-        Answer::Refused(why) => line::write_refused(text, why),
-        Answer::Lines(count) => run_first(text, image, map, lines, count),
+    if text.len() < 61 {
+        return Printed::Refused(TEXT_SHORT);
+    }
+    match run(input, image, map, lines) {
+        Finished::Done(ran) => report::write_end(text, ran),
+        Finished::Refused(why) => Printed::Refused(why),
     }
 }

@@ -11,45 +11,53 @@ use Rattle.words.specs.Words.{wordAt, bytesIn}
 use Rattle.letters.specs.Over.{over}
 use Rattle.step.specs.Step.{After}
 use Rattle.refusal.specs.Numbers.{outputShort}
-use Rattle.refusal.specs.Page.{refused, answered}
-use Rattle.refusal.proofs.Laws.Page.{apart}
+use Rattle.refusal.specs.Page.{refused, answered, left}
 use Rattle.machine.proofs.Laws.Counted.{trail-length}
-use Rattle.job.specs.declared.Answer.{Answer}
-use Rattle.job.specs.declared.Answer.the-variants as Answer
-use Rattle.job.specs.Job.{after, linesAt, mapOf, linesOf, lineWords, whyRead, pageOf, jobOf}
+use Rattle.job.specs.Job.{linesAt, mapOf, linesOf, lineWords, whyRead}
 use Rattle.job.proofs.Laws.Sound.{lines-length}
 use Rattle.report.specs.Report.{benchBoard}
-use Rattle.runjob.proofs.Laws.Taken.{Read}
-use Rattle.runjob.proofs.Laws.Taken.{read-taken}
+use Rattle.runjob.specs.declared.Begun.{Begun}
+use Rattle.runjob.specs.Bench.{upOf, Begins}
 use Rattle.trace.specs.declared.Verdict.{Verdict}
-use Rattle.trace.specs.Trace.{entriesOf, upOf, stepsOf, rightTrace, imageAfter, joined, traceBytes, toldIn, whyTrace, compared, left, checkOf, longest, put, makeOf}
+use Rattle.trace.specs.Trace.{entriesOf, stepsOf, rightTrace, imageAfter, joined, traceBytes, toldIn, whyTrace, compared, verdictOf, verdictPage, checkOf, longest, madeOf, makeOf}
 use Rattle.trace.proofs.Laws.Bytes.{trace-length}
-use Rattle.trace.specs.Walk.{trailUp, imageUp}
+use Rattle.trace.specs.Walk.{trail, imageOn}
 
--- a job that is not refused is read
-pub read-refused : {A : Type 0} (input image map lines : List ℕ) (r : Answer) (why : ℕ) (image′ map′ lines′ : List ℕ) → whyRead (length image) (length map) (length lines) input ≡ 0
-    → after (pageOf r) image′ map′ lines′ ≡ jobOf input image map lines → r ≡ Answer.Refused why → A
-unfolding jobOf
-read-refused input image map lines r why image′ map′ lines′ n e d = absurd (apart (sym (ap (λ z. z .page) (rw (n, d) at e))))
+-- ---- from where a job begins
+
+module _ (input : List ℕ) {b : Begun} {i m l : List ℕ} (h : Begins input b i m l) where
+  begun-trail : trail m (take (b .count) l) (b .state) i ≡ stepsOf input
+  unfolding stepsOf lineWords
+  begun-trail = rw (h .mapIs, h .linesIs, h .countIs) (ap (λ u. trail (mapOf input) (take (wordAt input (linesAt input)) (linesOf input)) (u .state) (u .image)) (h .powered))
+
+  begun-image : imageOn m (take (b .count) l) (b .state) i ≡ imageAfter input
+  unfolding imageAfter stepsOf lineWords
+  begun-image = rw (h .mapIs, h .linesIs, h .countIs) (ap (λ u. imageOn (mapOf input) (take (wordAt input (linesAt input)) (linesOf input)) (u .state) (u .image)) (h .powered))
+
+  begun-few : wordAt input (linesAt input) ≤ length (linesOf input)
+  begun-few = rw (h .countIs, h .linesIs) at (h .within)
 
 -- ---- the check
 
 module _ (input t image map lines : List ℕ) where
-  pub check-job : (why : ℕ) → why ≡ whyRead (length image) (length map) (length lines) input → (why ≡ 0 → ⊥) → left (refused why) image map lines ≡ checkOf input t image map lines
+  pub check-job : (why : ℕ) → why ≡ whyRead (length image) (length map) (length lines) input → (why ≡ 0 → ⊥) → left (refused why) (image, map, lines) ≡ checkOf input t image map lines
   unfolding checkOf
   check-job zero e n = absurd (n refl)
   check-job (suc why) e n = rw (← e)
 
-  pub check-cut : (why : ℕ) → whyRead (length image) (length map) (length lines) input ≡ 0 → why ≡ whyTrace t → (why ≡ 0 → ⊥) → left (refused why) image map lines ≡ checkOf input t image map lines
+  pub check-cut : (why : ℕ) → whyRead (length image) (length map) (length lines) input ≡ 0 → why ≡ whyTrace t → (why ≡ 0 → ⊥) → left (refused why) (image, map, lines) ≡ checkOf input t image map lines
   unfolding checkOf
   check-cut zero j e n = absurd (n refl)
   check-cut (suc why) j e n = rw (j, ← e)
 
-  pub check-done : {image′ map′ lines′ : List ℕ} {count : ℕ} (m : List ℕ) (v : Verdict) → Read input image map lines image′ map′ lines′ count → whyTrace t ≡ 0
-      → (v ≡ compared 0 (entriesOf (trailUp map′ (take count lines′) image′)) (toldIn t)) × (m ≡ imageUp map′ (take count lines′) image′)
-      → left (answered v) m map′ lines′ ≡ checkOf input t image map lines
-  unfolding checkOf stepsOf imageAfter lineWords
-  check-done m v h w e = rw (e .0, e .1, h .none, w, h .countIs, h .imageIs, h .mapIs, h .linesIs)
+  pub check-done : {b : Begun} {i m l : List ℕ} (n : List ℕ) (v : Verdict) → whyRead (length image) (length map) (length lines) input ≡ 0 → whyTrace t ≡ 0 → Begins input b i m l
+      → (v ≡ compared 0 (entriesOf (trail m (take (b .count) l) (b .state) i)) (toldIn t)) × (n ≡ imageOn m (take (b .count) l) (b .state) i)
+      → left (answered (verdictPage v)) (n, m, l) ≡ checkOf input t image map lines
+  unfolding checkOf
+  check-done n v j w h e =
+      let found : v ≡ verdictOf input t = e .0 ∙ ap (λ rs. compared 0 (entriesOf rs) (toldIn t)) (begun-trail input h) in
+      let there : n ≡ imageAfter input = e .1 ∙ begun-image input h in
+      rw (j, w, found, there, h .mapIs, h .linesIs)
 
 -- ---- the trace made
 
@@ -81,27 +89,25 @@ module _ (input : List ℕ) (few : wordAt input (linesAt input) ≤ length (line
       ap (λ b. sets out 0 b) right-bytes ∙ sets-eq t out 0 (omega arith) ∙ rw (zero-add (length t))
 
 module _ (input out image map lines : List ℕ) where
-  pub make-job : (why : ℕ) → why ≡ whyRead (length image) (length map) (length lines) input → (why ≡ 0 → ⊥) → put out (left (refused why) image map lines) ≡ makeOf input out image map lines
+  pub make-job : (why : ℕ) → why ≡ whyRead (length image) (length map) (length lines) input → (why ≡ 0 → ⊥) → left (refused why) (out, image, map, lines) ≡ makeOf input out image map lines
   unfolding makeOf
   make-job zero e n = absurd (n refl)
   make-job (suc why) e n = rw (← e)
 
-  pub make-short : whyRead (length image) (length map) (length lines) input ≡ 0 → length out < longest → put out (left (refused outputShort) image map lines) ≡ makeOf input out image map lines
+  pub make-short : whyRead (length image) (length map) (length lines) input ≡ 0 → length out < longest → left (refused outputShort) (out, image, map, lines) ≡ makeOf input out image map lines
   unfolding makeOf
   make-short j h = rw (j, lt-leb longest (length out) h)
 
-  make-answered : whyRead (length image) (length map) (length lines) input ≡ 0 → longest ≤ length out
-      → put (over (traceBytes (rightTrace input)) out) (left (answered (length (traceBytes (rightTrace input)))) (imageAfter input) (mapOf input) (linesOf input)) ≡ makeOf input out image map lines
+  make-answered : whyRead (length image) (length map) (length lines) input ≡ 0 → longest ≤ length out → madeOf input out ≡ makeOf input out image map lines
   unfolding makeOf
   make-answered j h = rw (j, le-leb longest (length out) h)
 
-  pub make-done : {image′ map′ lines′ : List ℕ} {count : ℕ} (m out′ : List ℕ) → Read input image map lines image′ map′ lines′ count → longest ≤ length out
-      → (out′ ≡ sets out 0 (bytesIn (count ∷ joined (entriesOf (trailUp map′ (take count lines′) image′))))) × (m ≡ imageUp map′ (take count lines′) image′)
-      → put out′ (left (answered (2 + count * 20)) m map′ lines′) ≡ makeOf input out image map lines
-  unfolding stepsOf imageAfter lineWords
-  make-done {image′} {map′} {lines′} {count} m out′ h l e =
-      let few : wordAt input (linesAt input) ≤ length (linesOf input) = rw (h .countIs, h .linesIs) at (read-taken input image map lines h .0) in
-      let bytes : out′ ≡ over (traceBytes (rightTrace input)) out = e .0 ∙ rw (h .countIs, h .imageIs, h .mapIs, h .linesIs) (in-front input few out l) in
-      let size : 2 + count * 20 ≡ length (traceBytes (rightTrace input)) = rw (h .countIs) (sym (right-length input few)) in
-      let there : m ≡ imageAfter input = e .1 ∙ rw (h .countIs, h .imageIs, h .mapIs, h .linesIs) in
-      rw (bytes, size, there, h .mapIs, h .linesIs) (make-answered (h .none) l)
+  pub make-done : {b : Begun} {i m l : List ℕ} (n out′ : List ℕ) → whyRead (length image) (length map) (length lines) input ≡ 0 → Begins input b i m l → longest ≤ length out
+      → (out′ ≡ sets out 0 (bytesIn (b .count ∷ joined (entriesOf (trail m (take (b .count) l) (b .state) i))))) × (n ≡ imageOn m (take (b .count) l) (b .state) i)
+      → left (answered (2 + b .count * 20)) (out′, n, m, l) ≡ makeOf input out image map lines
+  make-done {b} n out′ j h k e =
+      let few = begun-few input h in
+      let bytes : out′ ≡ over (traceBytes (rightTrace input)) out = e .0 ∙ rw (begun-trail input h, h .countIs) (in-front input few out k) in
+      let size : 2 + b .count * 20 ≡ length (traceBytes (rightTrace input)) = rw (h .countIs) (sym (right-length input few)) in
+      let there : n ≡ imageAfter input = e .1 ∙ begun-image input h in
+      rw (bytes, size, there, h .mapIs, h .linesIs) (make-answered j k)

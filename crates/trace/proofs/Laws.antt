@@ -4,86 +4,26 @@ pub mod First
 pub mod Longest
 pub mod Right
 use Prim.Native.Nat.{ℕ, zero, suc, _+_, _*_, _-_, _<_, _≤_}
-use mathlib.Core.Bool.{Bool, true, false, cond}
 use mathlib.Core.List.{List, [], _∷_, _++_}
 use mathlib.Core.Path.{_≡_, refl, sym, ap, _∙_}
 use native.Mathlib.Nat.{sub-zero}
 use native.Mathlib.Numerals.{add-one}
 use native.Mathlib.Omega.{arith}
-use lib.Dec.{leb}
 use lib.ListN.{length, getD, drop, set}
 use lib.Seq.{drop-cons, drop-length, sets}
 use borrow.Author.Tests.{eq-eqb, ne-eqb, le-leb, lt-leb}
 use Rattle.words.specs.Words.{wordAt, bytesIn}
 use Rattle.state.specs.declared.State.{State}
-use Rattle.state.specs.declared.Settings.{Settings}
-use Rattle.state.specs.State.{heard}
-use Rattle.step.specs.declared.Turn.{Turn}
 use Rattle.step.specs.declared.Cause.{Cause}
 use Rattle.step.specs.declared.Cause.the-variants as Cause
-use Rattle.step.specs.Step.{After, after, stepOf, up}
-use Rattle.refusal.specs.Numbers.{lineBit, traceCut}
-use Rattle.refusal.specs.Page.{left}
-use Rattle.refusal.proofs.Laws.Page.{first-both, apart, answered-one}
-use Rattle.refusal.specs.Refusal.{allOf, plain, stepRefusal, linesRefusal, runRefusal}
-use Rattle.refusal.proofs.Laws.Refusal.{run-sound}
-use Rattle.machine.specs.declared.Stepped.{Stepped}
-use Rattle.machine.specs.declared.Stepped.the-variants as Stepped
-use Rattle.machine.specs.Entry.{powerWhy, stepWhy, runWhy, steppedPage, stepPage}
-use Rattle.machine.proofs.Laws.Back.{turn-one}
-use Rattle.machine.proofs.Laws.Answered.{step-answer}
+use Rattle.step.specs.Step.{After, after, up}
+use Rattle.refusal.specs.Numbers.{traceCut}
 use Rattle.machine.specs.Trail.{trailOf, lastOf}
-use Rattle.report.specs.Report.{benchBoard}
 use Rattle.trace.specs.declared.Verdict.{Verdict}
 use Rattle.trace.specs.declared.Verdict.the-variants.{Accepted, Wrong, Missing, Extra}
 use Rattle.trace.specs.Trace.{entryOf, entriesOf, joined, wordsFrom, entriesFrom, toldIn, whyTrace, orElse, differ, compared}
 use Rattle.trace.proofs.Laws.Bytes.{bytes-append, bytes-length, right-ten}
 use Rattle.trace.specs.Walk.{toldFrom, stepVerdict, stepped, trail, imageOn, upAfter}
-
--- ---- what is not refused over a run is not refused at each step
-
-all-at : (p : ℕ → Bool) (l : List ℕ) (i : ℕ) → allOf p l ≡ true → i < length l → p (getD l i 0) ≡ true
-unfolding allOf
-all-at p [] i e h = absurd (omega arith)
-all-at p (x ∷ xs) i e h = split (p x) refl i h (λ k d l. all-at p xs k d l) e
-  where
-    split : (b : Bool) → p x ≡ b → (i : ℕ) → i < length (x ∷ xs) → ((k : ℕ) → allOf p xs ≡ true → k < length xs → p (getD xs k 0) ≡ true) → cond b (allOf p xs) false ≡ true → p (getD (x ∷ xs) i 0) ≡ true
-    split true d zero h later e = d
-    split true d (suc i) h later e = later i e (omega arith)
-    split false d i h later e = let z : _≡_ {A = ℕ} 0 1 = cc in absurd (omega arith)
-
-lines-plain : (lines : List ℕ) → linesRefusal lines ≡ 0 → allOf plain lines ≡ true
-unfolding linesRefusal
-lines-plain lines e = split (allOf plain lines) (first-both (cond (leb (length lines) 4096) 0 _) _ e .1)
-  where
-    split : (b : Bool) → cond b 0 lineBit ≡ 0 → b ≡ true
-    split true e = refl
-    split false e = absurd (omega (arith, e))
-
-module _ (board : Settings) (m map lines : List ℕ) (none : runWhy board m map lines ≡ 0) where
-  pub lines-few : length lines ≤ 4096
-  lines-few = run-sound (length m) map (board .powerup) (board .halt) (board .register) lines none .1
-
-  pub step-taken : (m′ : List ℕ) (i : ℕ) → length m′ ≡ length m → i < length lines → stepWhy board m′ map (getD lines i 0) ≡ 0
-  unfolding runRefusal stepRefusal
-  step-taken m′ i e h =
-      let both = first-both (powerWhy board m map) (linesRefusal lines) none in
-      rw (e, both .0, all-at plain lines i (lines-plain lines (both .1)) h)
-
--- ---- one step on bench's board
-
-module _ (m map : List ℕ) (line : ℕ) (s : State) (board : Settings) where
-  pub step-done : (t : Turn) (r : Stepped) (m′ : List ℕ) → board ≡ benchBoard → left (steppedPage r) m′ ≡ stepPage board m map line s → r ≡ Stepped.Done t → up (t .state) m′ ≡ upAfter (stepped map line s m)
-  step-done t r m′ g e d =
-      let h = step-answer benchBoard m map line s (ap (λ z. left (steppedPage z) m′) (sym d) ∙ e ∙ ap (λ z. stepPage z m map line s) g) .1 in
-      let a = stepOf map (heard benchBoard line) s m in
-      let turn : t ≡ record { state = a .state; cause = a .cause } = turn-one t (record { state = a .state; cause = a .cause }) (answered-one (ap (λ z. z .page) h)) in
-      let image : m′ ≡ a .image = ap (λ z. z .lent) h in
-      rw (turn, image)
-
-  pub step-refused : {A : Type 0} (r : Stepped) (why : ℕ) (m′ : List ℕ) → board ≡ benchBoard → stepWhy benchBoard m map line ≡ 0 → left (steppedPage r) m′ ≡ stepPage board m map line s → r ≡ Stepped.Refused why → A
-  unfolding stepPage
-  step-refused r why m′ g n e d = absurd (apart (sym (ap (λ z. z .page) (rw (g, n, d) at e))))
 
 -- ---- a trace that is cut, and one that is whole
 

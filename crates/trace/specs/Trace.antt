@@ -8,14 +8,15 @@ use Rattle.words.specs.Words.{wordAt, bytesIn}
 use Rattle.state.specs.declared.State.{State}
 use Rattle.state.specs.State.{modeNumber, psOf, heard}
 use Rattle.step.specs.declared.Cause.the-variants as Cause
-use Rattle.step.specs.Step.{After, after, Up, powerUpOf}
+use Rattle.step.specs.Step.{After, after}
 use Rattle.letters.specs.Over.{over}
 use Rattle.refusal.specs.Numbers.{outputShort, traceCut}
-use Rattle.refusal.specs.Page.{Page, refused, answered, first, unless}
+use Rattle.refusal.specs.Page.{Page, refused, answered, Left, left, call, first}
 use Rattle.machine.specs.Numbers.{registers}
 use Rattle.machine.specs.Trail.{trailOf, lastOf}
-use Rattle.job.specs.Job.{imageOf, mapOf, linesOf, lineWords, whyRead}
+use Rattle.job.specs.Job.{mapOf, linesOf, lineWords, whyRead}
 use Rattle.report.specs.Report.{benchBoard}
+use Rattle.runjob.specs.Bench.{upOf}
 use Rattle.trace.specs.declared.Verdict.{Verdict}
 use Rattle.trace.specs.declared.Verdict.the-variants.{Accepted, Wrong, Missing, Extra}
 use Rattle.trace.specs.declared.Checked.{Checked}
@@ -34,10 +35,7 @@ unfoldable pub entriesOf : List After → List (List ℕ)
 entriesOf [] = []
 entriesOf (a ∷ rs) = entryOf (a .state) ∷ entriesOf rs
 
--- bench's board after power-up, and the steps from there over the job's line words
-abbrev pub upOf : List ℕ → Up
-upOf input = powerUpOf benchBoard (mapOf input) (imageOf input)
-
+-- the steps over the job's line words, from bench's board after power-up
 unfoldable pub stepsOf : List ℕ → List After
 stepsOf input = trailOf benchBoard (mapOf input) (lineWords input) (upOf input .state) (upOf input .image)
 
@@ -107,34 +105,39 @@ compared step (r ∷ right) (e ∷ told) = orElse (differ step 0 r e) (compared 
 abbrev pub verdictOf : List ℕ → List ℕ → Verdict
 verdictOf input t = compared 0 (rightTrace input) (toldIn t)
 
--- ---- what is answered, and the lent buffers after it
-
-pub record Left (A : Type 0) : Type 0 where
-  pub page : Page A
-  pub image : List ℕ
-  pub map : List ℕ
-  pub lines : List ℕ
-
-abbrev pub left : {A : Type 0} → Page A → List ℕ → List ℕ → List ℕ → Left A
-left page image map lines = record { page = page; image = image; map = map; lines = lines }
-
 -- ---- the check
 
-abbrev pub checkedPage : Checked → Page Verdict
-checkedPage (Checked.Done v) = answered v
+-- its answer: accepted; the first wrong step with its first wrong field and what is right there; the first step that is missing; the
+-- first that is one too many
+pub data VerdictPage : Type 0 where
+  accepted : VerdictPage
+  wrong : ℕ → ℕ → ℕ → VerdictPage
+  missing : ℕ → VerdictPage
+  extra : ℕ → VerdictPage
+
+abbrev pub verdictPage : Verdict → VerdictPage
+verdictPage Accepted = accepted
+verdictPage (Wrong step field right) = wrong step field right
+verdictPage (Missing step) = missing step
+verdictPage (Extra step) = extra step
+
+abbrev pub checkedPage : Checked → Page VerdictPage
+checkedPage (Checked.Done v) = answered (verdictPage v)
 checkedPage (Checked.Refused why) = refused why
 
 -- the job's own refusal first, then the trace's
 abbrev pub whyCheck : List ℕ → List ℕ → ℕ → ℕ → ℕ → ℕ
 whyCheck input t image map lines = first (whyRead image map lines input) (whyTrace t)
 
--- a refusal: its number alone, and the buffers as lent. Else the verdict; the image after the job's last step, the job's map and its line words
-unfoldable pub checkOf : List ℕ → List ℕ → List ℕ → List ℕ → List ℕ → Left Verdict
+-- the image after the job's last step, the job's map and its line words
+abbrev pub buffersAfter : List ℕ → List ℕ × List ℕ × List ℕ
+buffersAfter input = (imageAfter input, mapOf input, linesOf input)
+
+unfoldable pub checkOf : List ℕ → List ℕ → List ℕ → List ℕ → List ℕ → Left VerdictPage (List ℕ × List ℕ × List ℕ)
 checkOf input t image map lines =
-    let why = whyCheck input t (length image) (length map) (length lines) in
-    unless why
-    (left (answered (verdictOf input t)) (imageAfter input) (mapOf input) (linesOf input))
-    (left (refused why) image map lines)
+    call (whyCheck input t (length image) (length map) (length lines))
+    (left (answered (verdictPage (verdictOf input t))) (buffersAfter input))
+    (image, map, lines)
 
 -- ---- the trace made
 
@@ -149,19 +152,11 @@ longest = 81922
 abbrev pub whyMake : List ℕ → ℕ → ℕ → ℕ → ℕ → ℕ
 whyMake input out image map lines = first (whyRead image map lines input) (cond (leb longest out) 0 outputShort)
 
--- what stands in the lent bytes, and what is answered
-pub record Put : Type 0 where
-  pub bytes : List ℕ
-  pub rest : Left ℕ
-
-abbrev pub put : List ℕ → Left ℕ → Put
-put bytes rest = record { bytes = bytes; rest = rest }
-
 -- the right trace goes to the front of the lent bytes, the rest of them stays; the number of its bytes is answered
-unfoldable pub makeOf : List ℕ → List ℕ → List ℕ → List ℕ → List ℕ → Put
-makeOf input out image map lines =
-    let why = whyMake input (length out) (length image) (length map) (length lines) in
+abbrev pub madeOf : List ℕ → List ℕ → Left ℕ (List ℕ × List ℕ × List ℕ × List ℕ)
+madeOf input out =
     let t = traceBytes (rightTrace input) in
-    unless why
-    (put (over t out) (left (answered (length t)) (imageAfter input) (mapOf input) (linesOf input)))
-    (put out (left (refused why) image map lines))
+    left (answered (length t)) (over t out, imageAfter input, mapOf input, linesOf input)
+
+unfoldable pub makeOf : List ℕ → List ℕ → List ℕ → List ℕ → List ℕ → Left ℕ (List ℕ × List ℕ × List ℕ × List ℕ)
+makeOf input out image map lines = call (whyMake input (length out) (length image) (length map) (length lines)) (madeOf input out) (out, image, map, lines)

@@ -5,7 +5,7 @@ use Rattle.words.specs.Words.{wordAt}
 use Rattle.state.specs.declared.State.{State}
 use Rattle.state.specs.State.{heard}
 use Rattle.step.specs.declared.Cause.the-variants as Cause
-use Rattle.step.specs.Step.{After, after, stepOf, Up, up, powerUpOf}
+use Rattle.step.specs.Step.{After, after, stepOf, Up, up}
 use Rattle.machine.specs.Trail.{trailOf, lastOf}
 use Rattle.report.specs.Report.{benchBoard}
 use Rattle.trace.specs.declared.Verdict.{Verdict}
@@ -31,12 +31,6 @@ trail map lines s m = trailOf benchBoard map lines s m
 abbrev pub imageOn : List ℕ → List ℕ → State → List ℕ → List ℕ
 imageOn map lines s m = lastOf (after s m Cause.Nothing) (trail map lines s m) .image
 
--- the same from power-up
+-- a step's state and image
 abbrev pub upAfter : After → Up
 upAfter a = up (a .state) (a .image)
-
-abbrev pub trailUp : List ℕ → List ℕ → List ℕ → List After
-trailUp map lines image = let u = powerUpOf benchBoard map image in trail map lines (u .state) (u .image)
-
-abbrev pub imageUp : List ℕ → List ℕ → List ℕ → List ℕ
-imageUp map lines image = let u = powerUpOf benchBoard map image in imageOn map lines (u .state) (u .image)

@@ -1,8 +1,8 @@
 // Checks another shop's trace of a job, and makes the trace of a job: after each step from power-up R0 to R5, SP, PC, PS and the mode.
-use job::Answer;
-use machine::Powered;
-use machine::Stepped;
+use machine::door;
 use refusal::number;
+use report::bench_board;
+use runjob::begin;
 use state::State;
 use words::high;
 use words::low;
@@ -13,9 +13,10 @@ ghost use Prim.Native.Nat.{_+_, _≤_, _<_};
 ghost use lib.ListN.{length, set, take};
 ghost use lib.Seq.{sets};
 ghost use Rattle.words.specs.Words.{low, high, bytesIn};
-ghost use Rattle.step.specs.Step.{up, powerUpOf};
-ghost use Rattle.machine.specs.Entry.{powerWhy, stepWhy, runWhy};
-ghost use Rattle.report.specs.Report.{benchBoard};
+ghost use Rattle.board.specs.Exec.{Board, beside};
+ghost use Rattle.step.specs.Step.{up};
+ghost use Rattle.refusal.specs.Page.{left};
+ghost use Rattle.machine.specs.Door.{Good, Plated};
 ghost use Rattle.trace.specs.Trace as Spec;
 ghost use Rattle.trace.specs.Walk as Walk;
 
@@ -50,7 +51,7 @@ fn entry_of(s: State) -> [u16; 10]
     ensures { λ r. ⌜ r ≡ Spec.entryOf s ⌝ }
 {
     let mode = s.mode;
-    let ps = s.ps(state::hear(report::bench_board(), 0), false) % 0x4000;
+    let ps = s.ps(state::hear(bench_board(), 0), false) % 0x4000;
     let number = state::mode_number(mode);
     [
         s.regs.r0,
@@ -66,26 +67,21 @@ fn entry_of(s: State) -> [u16; 10]
     ]
 }
 
-// Power-up of bench's board.
-fn powered(image: &mut [u8], map: &[u8]) -> State
-    requires { ⌜ powerWhy benchBoard (now image) (now map) ≡ 0 ⌝ }
-    ensures { λ r. ⌜ up r (now (image .exit)) ≡ powerUpOf benchBoard (now (map .entry)) (now (image .entry)) ⌝ }
-{
-    match machine::power_up(image, map, report::bench_board()) {
-        Powered::Up(s) => s,
-        Powered::Refused(_) => state::cleared(),
-    }
-}
-
 // One step on bench's board.
-fn stepped(s: State, image: &mut [u8], map: &[u8], line: u16) -> State
-    requires { ⌜ stepWhy benchBoard (now image) (now map) line ≡ 0 ⌝ }
-    ensures { λ r. ⌜ up r (now (image .exit)) ≡ Walk.upAfter (Walk.stepped (now (map .entry)) line s (now (image .entry))) ⌝ }
+fn stepped(
+    s: State,
+    image: &mut [u8],
+    map: &[u8],
+    log: &mut [u16; 32],
+    line: u16,
+    sheet: &[u8; 256],
+) -> State
+    requires { ⌜ Plated (now map) (now image) (now log) (now sheet) ⌝ }
+    ensures { λ r. ⌜ (up r (now (image .exit)) ≡ Walk.upAfter (Walk.stepped (now (map .entry)) line s (now (image .entry))))
+        × Board (now (map .entry)) (beside (now (image .exit)) (now (log .exit))) ⌝ }
 {
-    match machine::step(s, image, map, report::bench_board(), line) {
-        Stepped::Done(turn) => turn.state,
-        Stepped::Refused(_) => s,
-    }
+    let turn = door::step(s, image, map, log, bench_board(), line, sheet);
+    turn.state
 }
 
 // ---- what a trace is found to be
@@ -140,39 +136,38 @@ fn end_verdict(steps: u16, trace: &[u8]) -> Verdict
 
 // Steps over the line words, all of them, and holds the trace against each step; its first fault stays.
 fn judge_steps(s: State, image: &mut [u8], map: &[u8], lines: &[u16], trace: &[u8]) -> Verdict
-    requires { ⌜ runWhy benchBoard (now image) (now map) (now lines) ≡ 0 ⌝ }
+    requires { ⌜ Good (now map) (now image) (now lines) ⌝ }
     ensures { λ r. ⌜ (r ≡ Spec.compared 0 (Spec.entriesOf (Walk.trail (now (map .entry)) (now (lines .entry)) s (now (image .entry)))) (Spec.toldIn (now (trace .entry))))
         × (now (image .exit) ≡ Walk.imageOn (now (map .entry)) (now (lines .entry)) s (now (image .entry))) ⌝ }
 {
+    let mut log = [0u16; 32];
+    let sheet = door::sheet();
     let mut state = s;
     let mut found = Verdict::Accepted;
     let mut i: usize = 0;
     while i < lines.len() {
-        state = stepped(state, image, map, lines[i]);
+        state = stepped(state, image, map, &mut log, lines[i], &sheet);
         found = or_else(found, step_verdict(i as u16, state, trace));
         i += 1;
     }
     or_else(found, end_verdict(i as u16, trace))
 }
 
-// The same from power-up.
-fn judge_up(image: &mut [u8], map: &[u8], lines: &[u16], trace: &[u8]) -> Verdict
-    requires { ⌜ runWhy benchBoard (now image) (now map) (now lines) ≡ 0 ⌝ }
-    ensures { λ r. ⌜ (r ≡ Spec.compared 0 (Spec.entriesOf (Walk.trailUp (now (map .entry)) (now (lines .entry)) (now (image .entry)))) (Spec.toldIn (now (trace .entry))))
-        × (now (image .exit) ≡ Walk.imageUp (now (map .entry)) (now (lines .entry)) (now (image .entry))) ⌝ }
-{
-    let s = powered(image, map);
-    judge_steps(s, image, map, lines, trace)
-}
-
 // The same over the first line words of the buffer.
-fn judge_first(image: &mut [u8], map: &[u8], lines: &[u16], count: u16, trace: &[u8]) -> Verdict
-    requires { ⌜ (count ≤ length (now lines)) × (runWhy benchBoard (now image) (now map) (take count (now lines)) ≡ 0) ⌝ }
-    ensures { λ r. ⌜ (r ≡ Spec.compared 0 (Spec.entriesOf (Walk.trailUp (now (map .entry)) (take count (now (lines .entry))) (now (image .entry)))) (Spec.toldIn (now (trace .entry))))
-        × (now (image .exit) ≡ Walk.imageUp (now (map .entry)) (take count (now (lines .entry))) (now (image .entry))) ⌝ }
+fn judge_first(
+    s: State,
+    image: &mut [u8],
+    map: &[u8],
+    lines: &[u16],
+    count: u16,
+    trace: &[u8],
+) -> Verdict
+    requires { ⌜ (count ≤ length (now lines)) × Good (now map) (now image) (take count (now lines)) ⌝ }
+    ensures { λ r. ⌜ (r ≡ Spec.compared 0 (Spec.entriesOf (Walk.trail (now (map .entry)) (take count (now (lines .entry))) s (now (image .entry)))) (Spec.toldIn (now (trace .entry))))
+        × (now (image .exit) ≡ Walk.imageOn (now (map .entry)) (take count (now (lines .entry))) s (now (image .entry))) ⌝ }
 {
     let n = count as usize;
-    judge_up(image, map, &lines[..n], trace)
+    judge_steps(s, image, map, &lines[..n], trace)
 }
 
 // The refusal of a trace, or 0: it is cut inside its count; inside a state, or bytes are left over.
@@ -197,7 +192,7 @@ pub fn check(
     map: &mut [u8],
     lines: &mut [u16],
 ) -> Checked
-    ensures { λ r. ⌜ Spec.left (Spec.checkedPage r) (now (image .exit)) (now (map .exit)) (now (lines .exit))
+    ensures { λ r. ⌜ left (Spec.checkedPage r) (now (image .exit), now (map .exit), now (lines .exit))
         ≡ Spec.checkOf (now (input .entry)) (now (trace .entry)) (now (image .entry)) (now (map .entry)) (now (lines .entry)) ⌝ }
 {
     let why = job::refusal(image.len(), map.len(), lines.len(), input);
@@ -208,10 +203,10 @@ pub fn check(
     if cut != 0 {
         return Checked::Refused(cut);
     }
-    match job::read_job(input, image, map, lines) {
-        Answer::Lines(count) => Checked::Done(judge_first(image, map, lines, count, trace)),
-        Answer::Refused(number) => Checked::Refused(number),
-    }
+    let begun = begin(input, image, map, lines);
+    let s = begun.state;
+    let count = begun.count;
+    Checked::Done(judge_first(s, image, map, lines, count, trace))
 }
 
 // ---- the trace made
@@ -248,38 +243,39 @@ fn put_entry(out: &mut [u8], at: usize, entry: [u16; 10])
 
 // Steps over the line words and puts an entry after each.
 fn put_steps(s: State, image: &mut [u8], map: &[u8], lines: &[u16], out: &mut [u8])
-    requires { ⌜ runWhy benchBoard (now image) (now map) (now lines) ≡ 0 ⌝ }
+    requires { ⌜ Good (now map) (now image) (now lines) ⌝ }
     ensures { λ _. ⌜ (now (out .exit) ≡ sets (now (out .entry)) 2 (bytesIn (Spec.joined (Spec.entriesOf (Walk.trail (now (map .entry)) (now (lines .entry)) s (now (image .entry)))))))
         × (now (image .exit) ≡ Walk.imageOn (now (map .entry)) (now (lines .entry)) s (now (image .entry))) ⌝ }
 {
+    let mut log = [0u16; 32];
+    let sheet = door::sheet();
     let mut state = s;
     let mut i: usize = 0;
     while i < lines.len() {
-        state = stepped(state, image, map, lines[i]);
+        state = stepped(state, image, map, &mut log, lines[i], &sheet);
         put_entry(out, 2 + i * 20, entry_of(state));
         i += 1;
     }
 }
 
-// The same from power-up, after the count.
-fn put_up(image: &mut [u8], map: &[u8], lines: &[u16], count: u16, out: &mut [u8])
-    requires { ⌜ runWhy benchBoard (now image) (now map) (now lines) ≡ 0 ⌝ }
-    ensures { λ _. ⌜ (now (out .exit) ≡ sets (now (out .entry)) 0 (bytesIn (count ∷ Spec.joined (Spec.entriesOf (Walk.trailUp (now (map .entry)) (now (lines .entry)) (now (image .entry)))))))
-        × (now (image .exit) ≡ Walk.imageUp (now (map .entry)) (now (lines .entry)) (now (image .entry))) ⌝ }
+// The count, then the entries.
+fn put_all(s: State, image: &mut [u8], map: &[u8], lines: &[u16], count: u16, out: &mut [u8])
+    requires { ⌜ Good (now map) (now image) (now lines) ⌝ }
+    ensures { λ _. ⌜ (now (out .exit) ≡ sets (now (out .entry)) 0 (bytesIn (count ∷ Spec.joined (Spec.entriesOf (Walk.trail (now (map .entry)) (now (lines .entry)) s (now (image .entry)))))))
+        × (now (image .exit) ≡ Walk.imageOn (now (map .entry)) (now (lines .entry)) s (now (image .entry))) ⌝ }
 {
     put_word(out, 0, count);
-    let s = powered(image, map);
     put_steps(s, image, map, lines, out);
 }
 
 // The same over the first line words of the buffer.
-fn put_first(image: &mut [u8], map: &[u8], lines: &[u16], count: u16, out: &mut [u8])
-    requires { ⌜ (count ≤ length (now lines)) × (runWhy benchBoard (now image) (now map) (take count (now lines)) ≡ 0) ⌝ }
-    ensures { λ _. ⌜ (now (out .exit) ≡ sets (now (out .entry)) 0 (bytesIn (count ∷ Spec.joined (Spec.entriesOf (Walk.trailUp (now (map .entry)) (take count (now (lines .entry))) (now (image .entry)))))))
-        × (now (image .exit) ≡ Walk.imageUp (now (map .entry)) (take count (now (lines .entry))) (now (image .entry))) ⌝ }
+fn put_first(s: State, image: &mut [u8], map: &[u8], lines: &[u16], count: u16, out: &mut [u8])
+    requires { ⌜ (count ≤ length (now lines)) × Good (now map) (now image) (take count (now lines)) ⌝ }
+    ensures { λ _. ⌜ (now (out .exit) ≡ sets (now (out .entry)) 0 (bytesIn (count ∷ Spec.joined (Spec.entriesOf (Walk.trail (now (map .entry)) (take count (now (lines .entry))) s (now (image .entry)))))))
+        × (now (image .exit) ≡ Walk.imageOn (now (map .entry)) (take count (now (lines .entry))) s (now (image .entry))) ⌝ }
 {
     let n = count as usize;
-    put_up(image, map, &lines[..n], count, out);
+    put_all(s, image, map, &lines[..n], count, out);
 }
 
 // Makes the trace of a job at the front of the lent bytes, and answers the number of its bytes. A refusal is the job's own, or else 10
@@ -291,7 +287,7 @@ pub fn make(
     map: &mut [u8],
     lines: &mut [u16],
 ) -> Made
-    ensures { λ r. ⌜ Spec.put (now (out .exit)) (Spec.left (Spec.madePage r) (now (image .exit)) (now (map .exit)) (now (lines .exit)))
+    ensures { λ r. ⌜ left (Spec.madePage r) (now (out .exit), now (image .exit), now (map .exit), now (lines .exit))
         ≡ Spec.makeOf (now (input .entry)) (now (out .entry)) (now (image .entry)) (now (map .entry)) (now (lines .entry)) ⌝ }
 {
     let why = job::refusal(image.len(), map.len(), lines.len(), input);
@@ -301,11 +297,9 @@ pub fn make(
     if out.len() < LONGEST {
         return Made::Refused(number::OUTPUT_SHORT);
     }
-    match job::read_job(input, image, map, lines) {
-        Answer::Lines(count) => {
-            put_first(image, map, lines, count, out);
-            Made::Bytes(2 + count as usize * 20)
-        }
-        Answer::Refused(number) => Made::Refused(number),
-    }
+    let begun = begin(input, image, map, lines);
+    let s = begun.state;
+    let count = begun.count;
+    put_first(s, image, map, lines, count, out);
+    Made::Bytes(2 + count as usize * 20)
 }

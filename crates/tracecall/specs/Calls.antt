@@ -1,4 +1,4 @@
--- What the exported check leaves: the number that it answers, and the bytes lent for the verdict. 0 is no refusal; another length than six is refused before all else.
+-- What the exported check leaves: the number that it answers, and the bytes lent for the verdict. Another length than six is refused before all else.
 use Prim.Native.Nat.{ℕ}
 use mathlib.Core.Bool.{cond}
 use mathlib.Core.List.{List, [], _∷_}
@@ -6,35 +6,26 @@ use lib.Dec.{eqb}
 use lib.ListN.{length}
 use Rattle.words.specs.Words.{bytesIn}
 use Rattle.refusal.specs.Numbers.{noState}
-use Rattle.refusal.specs.Page.{Page, refused, refusedAt, answered, first, unless}
+use Rattle.refusal.specs.Page.{answered, Left, left, call, first, Told, reading}
 use Rattle.job.specs.Job.{whyJob}
-use Rattle.trace.specs.declared.Verdict.{Verdict}
-use Rattle.trace.specs.declared.Verdict.the-variants.{Accepted, Wrong, Missing, Extra}
-use Rattle.trace.specs.Trace.{whyTrace, verdictOf}
+use Rattle.trace.specs.Trace.{whyTrace, verdictOf, VerdictPage, accepted, wrong, missing, extra, verdictPage}
 
 -- three words: the kind, 0 accepted, 1 a wrong field, 2 a missing or an extra step; the step; the field. 0 where there is none
-abbrev pub verdictWords : Verdict → List ℕ
-verdictWords Accepted = 0 ∷ 0 ∷ 0 ∷ []
-verdictWords (Wrong step field right) = 1 ∷ step ∷ field ∷ []
-verdictWords (Missing step) = 2 ∷ step ∷ 0 ∷ []
-verdictWords (Extra step) = 2 ∷ step ∷ 0 ∷ []
+abbrev pub verdictWords : VerdictPage → List ℕ
+verdictWords accepted = 0 ∷ 0 ∷ 0 ∷ []
+verdictWords (wrong step field right) = 1 ∷ step ∷ field ∷ []
+verdictWords (missing step) = 2 ∷ step ∷ 0 ∷ []
+verdictWords (extra step) = 2 ∷ step ∷ 0 ∷ []
 
--- the buffers for the job are the call's own, so only the job and the trace are refused
-abbrev pub checkPage : List ℕ → List ℕ → Page Verdict
-checkPage job t = let why = first (whyJob job) (whyTrace t) in unless why (answered (verdictOf job t)) (refused why)
+-- the buffers for the job are the call's own, so nothing but the verdict is lent, and only the job and the trace are refused
+abbrev pub nothing : Unit {0}
+nothing = tt
 
-pub record Went : Type 0 where
-  pub number : ℕ
-  pub verdict : List ℕ
+abbrev pub checkLeft : List ℕ → List ℕ → Left VerdictPage (Unit {0})
+checkLeft job t = call (first (whyJob job) (whyTrace t)) (left (answered (verdictPage (verdictOf job t))) nothing) nothing
 
-abbrev pub went : ℕ → List ℕ → Went
-went n b = record { number = n; verdict = b }
+abbrev pub verdictIn : VerdictPage → Unit {0} → List ℕ
+verdictIn v none = bytesIn (verdictWords v)
 
--- the verdict's bytes, and the bytes as lent at a refusal
-abbrev pub wentFrom : List ℕ → Page Verdict → Went
-wentFrom b (answered v) = went 0 (bytesIn (verdictWords v))
-wentFrom b (refused why) = went why b
-wentFrom b (refusedAt why place) = went why b
-
-unfoldable pub checkCall : List ℕ → List ℕ → List ℕ → Went
-checkCall job t b = cond (eqb (length b) 6) (wentFrom b (checkPage job t)) (went noState b)
+unfoldable pub checkCall : List ℕ → List ℕ → List ℕ → Told (List ℕ)
+checkCall job t b = reading verdictIn (λ none. b) (call (cond (eqb (length b) 6) 0 noState) (checkLeft job t) nothing)

@@ -8,6 +8,8 @@ ghost use mathlib.Core.Path.{_≡_};
 ghost use mathlib.Core.List.{[], _∷_};
 ghost use lib.ListN.{length};
 ghost use Rattle.words.specs.Words.{bytesIn};
+ghost use Rattle.refusal.specs.Page.{told};
+ghost use Rattle.trace.specs.Trace.{verdictPage};
 ghost use Rattle.tracecall.specs.Calls as Spec;
 
 // Three words, low byte first.
@@ -19,7 +21,7 @@ fn three(a: u16, b: u16, c: u16) -> [u8; 6]
 
 // The kind, the step and the field.
 fn verdict_bytes(found: Verdict) -> [u8; 6]
-    ensures { λ r. ⌜ r ≡ bytesIn (Spec.verdictWords found) ⌝ }
+    ensures { λ r. ⌜ r ≡ bytesIn (Spec.verdictWords (verdictPage found)) ⌝ }
 {
     match found {
         Verdict::Accepted => three(0, 0, 0),
@@ -31,7 +33,7 @@ fn verdict_bytes(found: Verdict) -> [u8; 6]
 
 fn put_verdict(b: &mut [u8], found: Verdict)
     requires { ⌜ length (now b) ≡ 6 ⌝ }
-    ensures { λ _. ⌜ now (b .exit) ≡ bytesIn (Spec.verdictWords found) ⌝ }
+    ensures { λ _. ⌜ now (b .exit) ≡ bytesIn (Spec.verdictWords (verdictPage found)) ⌝ }
 {
     let from = verdict_bytes(found);
     bytes::copy(&from, b);
@@ -40,7 +42,7 @@ fn put_verdict(b: &mut [u8], found: Verdict)
 // Checks a trace of a job; or 21, the job's own refusal, or 29. The image, the map and the line words are the call's own.
 #[no_mangle]
 pub extern "C" fn wd16_check_trace(job: &[u8], trace: &[u8], verdict: &mut [u8]) -> u8
-    ensures { λ r. ⌜ Spec.went r (now (verdict .exit)) ≡ Spec.checkCall (now (job .entry)) (now (trace .entry)) (now (verdict .entry)) ⌝ }
+    ensures { λ r. ⌜ told r (now (verdict .exit)) ≡ Spec.checkCall (now (job .entry)) (now (trace .entry)) (now (verdict .entry)) ⌝ }
 {
     if verdict.len() != 6 {
         return NO_STATE;

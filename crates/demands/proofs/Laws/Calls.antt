@@ -3,23 +3,16 @@ use Prim.Native.Nat.{ℕ, zero, suc}
 use mathlib.Core.List.{List}
 use mathlib.Core.Path.{_≡_, refl, ap, _∙_}
 use Rattle.board.specs.Work.{Agree, Untouched}
-use Rattle.refusal.specs.Page.{Page, refused, refusedAt, answered, Left, call, first, Told, tells, reading}
+use Rattle.refusal.specs.Page.{Page, refused, refusedAt, answered, Left, call, Told, tells, reading}
 use Rattle.machine.specs.Blind.{Blind}
 use Rattle.machine.proofs.Laws.Blind.{SameLeft}
 use Rattle.demands.specs.Terms.{Numbered}
 
--- ---- demand 1
+-- ---- demand 1, for the text
 
 -- a number that is the definition's, and buffers that are
 pub numbered : {why number : ℕ} {AsLent As : Type 0} (n : ℕ) → n ≡ number → (AsLent → As) → Numbered why number AsLent → Numbered why n As
 numbered n e f h = record { numberIs = e ∙ h .numberIs; unchanged = λ z. f (h .unchanged (λ k. z (e ∙ k))) }
-
--- two refusals in a row: `bad` of the lent bytes, `why` of the call; what is right is an answer
-pub reading-numbered : {A C : Type 0} (bytes : A → List ℕ → C) (kept : List ℕ → C) (m : List ℕ) (right : Left A (List ℕ)) (bad why : ℕ) {x : Told C}
-    → reading bytes kept right .number ≡ 0 → x ≡ reading bytes kept (call bad (call why right m) m) → Numbered (first bad why) (x .number) (x .lent ≡ kept m)
-reading-numbered bytes kept m right zero zero h e = record { numberIs = ap (λ z. z .number) e ∙ h; unchanged = λ n. absurd (n (ap (λ z. z .number) e ∙ h)) }
-reading-numbered bytes kept m right zero (suc why) h e = record { numberIs = ap (λ z. z .number) e; unchanged = λ n. ap (λ z. z .lent) e }
-reading-numbered bytes kept m right (suc bad) why h e = record { numberIs = ap (λ z. z .number) e; unchanged = λ n. ap (λ z. z .lent) e }
 
 -- ---- demand 3
 

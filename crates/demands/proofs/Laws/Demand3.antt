@@ -1,7 +1,7 @@
 -- The theorems that specs/Demand3.antt states.
 use Prim.Native.Nat.{ℕ}
 use mathlib.Core.Bool.{cond}
-use mathlib.Core.List.{List, []}
+use mathlib.Core.List.{List}
 use mathlib.Core.Path.{_≡_, refl, sym, ap, _∙_}
 use lib.ListN.{length}
 use Rattle.board.specs.Work.{Agree}
@@ -10,7 +10,7 @@ use Rattle.state.specs.declared.Settings.{Settings}
 use Rattle.state.specs.State.{heard}
 use Rattle.step.specs.Step.{After, stepOf}
 use Rattle.refusal.specs.Numbers.{noState}
-use Rattle.refusal.specs.Page.{refused, answered, left}
+use Rattle.refusal.specs.Page.{answered, left}
 use Rattle.refusal.proofs.Laws.Page.{answered-one}
 use Rattle.machine.specs.Numbers.{TurnPage, turnPage}
 use Rattle.machine.specs.Entry.{poweredPage, powerUpPage, steppedPage, stepPage, finishedPage, runPage}
@@ -20,10 +20,9 @@ use Rattle.firmware.specs.Layout.{stateFrom, settingsFrom, refusedUp, refusedSt
 use Rattle.firmware.specs.Calls.{upIn, stepIn, runIn, powerUpCall, stepCall, runCall}
 use Rattle.listing.proofs.Laws.Calls.{one-listed}
 use Rattle.listing.proofs.Laws.Alike.{call-alike}
-use Rattle.trace.specs.Trace.{whyCheck, checkOf, whyMake, put, makeOf}
-use Rattle.trace.specs.Trace as Trace
-use Rattle.trace.proofs.Laws.Right.{one-check, one-make}
-use Rattle.demands.proofs.Laws.Pages.{same-unless}
+use Rattle.trace.specs.Trace.{verdictOf, verdictPage, whyCheck, buffersAfter, checkOf, whyMake, madeOf, makeOf}
+use Rattle.trace.proofs.Laws.Right.{checked-one, made-one}
+use Rattle.demands.proofs.Laws.Pages.{same-call}
 use Rattle.demands.proofs.Laws.Calls.{call-blind}
 use Rattle.demands.proofs.Laws.Blanks.{blanked, fitted, counted}
 use Rattle.demands.proofs.Laws.Demand2.{step-is, run-is, wd16-step-is, wd16-run-is}
@@ -73,16 +72,16 @@ module _ (input i₁ i₂ m₁ m₂ l₁ l₂ : List ℕ) (hi : length i₁ ≡ 
   unfolding checkOf
   check-blind t r q i₁′ m₁′ l₁′ i₂′ m₂′ l₂′ e d =
       let why = whyCheck input t (length i₁) (length m₁) (length l₁) in
-      let h = same-unless (λ z. z .page) why _ (Trace.left (refused why) i₁ m₁ l₁) (Trace.left (refused why) i₂ m₂ l₂) refl e (rw (← hi, ← hm, ← hl) at d) in
-      (one-check r q [] [] [] [] [] [] (ap (λ z. Trace.left z [] [] []) (h .0)) .0, λ z. (ap (λ z. z .image) (h .1 z), ap (λ z. z .map) (h .1 z), ap (λ z. z .lines) (h .1 z)))
+      let right = left (answered (verdictPage (verdictOf input t))) (buffersAfter input) in
+      let h = same-call {C = ℕ} (λ z. 0) why right (i₁, m₁, l₁) (i₂, m₂, l₂) refl e (rw (← hi, ← hm, ← hl) at d) in
+      (checked-one r q (h .0), λ z. (ap (λ z. z .lent .0) (h .2 z), ap (λ z. z .lent .1) (h .2 z), ap (λ z. z .lent .2) (h .2 z)))
 
   pub make-blind : MakeBlind input i₁ i₂ m₁ m₂ l₁ l₂ hi hm hl
   unfolding makeOf
   make-blind out r q out₁ out₂ i₁′ m₁′ l₁′ i₂′ m₂′ l₂′ e d =
       let why = whyMake input (length out) (length i₁) (length m₁) (length l₁) in
-      let h = same-unless (λ z. put (z .bytes) (Trace.left (z .rest .page) [] [] [])) why _ (put out (Trace.left (refused why) i₁ m₁ l₁)) (put out (Trace.left (refused why) i₂ m₂ l₂)) refl e (rw (← hi, ← hm, ← hl) at d) in
-      let one = one-make r q out₁ [] [] [] out₂ [] [] [] (h .0) in
-      (one .0, one .1, λ z. (ap (λ z. z .rest .image) (h .1 z), ap (λ z. z .rest .map) (h .1 z), ap (λ z. z .rest .lines) (h .1 z)))
+      let h = same-call (λ z. z .0) why (madeOf input out) (out, i₁, m₁, l₁) (out, i₂, m₂, l₂) refl e (rw (← hi, ← hm, ← hl) at d) in
+      (made-one r q (h .0), h .1, λ z. (ap (λ z. z .lent .1) (h .2 z), ap (λ z. z .lent .2) (h .2 z), ap (λ z. z .lent .3) (h .2 z)))
 
 -- ---- a step by its accesses, and a run's count
 

@@ -12,7 +12,7 @@ fill-requires : tie.Need-fill-requires
 fill-requires c κs = read-lengths _ _ _ _ (sym (c .before .before .before .before .refusal .ensures) ∙ c .before .before .before .if1 .left)
 
 returns-2 : tie.Need-returns-2
-returns-2 c = read-filled _ _ _ _ _ _ _ _ (sym (c .before .before .before .before .before .before .before .before .before .before .before .refusal .ensures) ∙ c .before .before .before .before .before .before .before .before .before .before .if1 .left) (c .before .before .before .before .before .before .fill .ensures)
+returns-2 c = read-filled _ _ _ _ (sym (c .before .before .before .before .before .before .before .before .before .before .before .refusal .ensures) ∙ c .before .before .before .before .before .before .before .before .before .before .if1 .left) (c .before .before .before .before .before .before .fill .ensures)
 
 pub read-job-spec : {M : Type 1} → statement M
 read-job-spec =

@@ -133,12 +133,12 @@ told-none false e = refl
 
 pub run-not-refused : (b t m map w lines b′ t′ m′ : List ℕ) → told 0 (b′, t′, m′) ≡ runCall b t m map w lines → (refusedRun b t w ≡ false) × (runWhy (settingsFrom w) m map lines ≡ 0)
 run-not-refused b t m map w lines b′ t′ m′ e =
-    let both = first-both (cond (refusedRun b t w) noState 0) (runWhy (settingsFrom w) m map lines) (sym (wd16-run-answers b t m map w lines 0 b′ t′ m′ e .numberIs)) in
+    let both = first-both (cond (refusedRun b t w) noState 0) (runWhy (settingsFrom w) m map lines) (sym (wd16-run-answers b t m map w lines (told 0 (b′, t′, m′)) e .numberIs)) in
     (told-none (refusedRun b t w) (both .0), both .1)
 
 pub step-not-refused : (b m map w : List ℕ) (line : ℕ) (b′ m′ : List ℕ) → told 0 (b′, m′) ≡ stepCall b m map w line → (refusedStep b w ≡ false) × (stepWhy (settingsFrom w) m map line ≡ 0)
 step-not-refused b m map w line b′ m′ e =
-    let both = first-both (cond (refusedStep b w) noState 0) (stepWhy (settingsFrom w) m map line) (sym (wd16-step-answers b m map w line 0 b′ m′ e .numberIs)) in
+    let both = first-both (cond (refusedStep b w) noState 0) (stepWhy (settingsFrom w) m map line) (sym (wd16-step-answers b m map w line (told 0 (b′, m′)) e .numberIs)) in
     (told-none (refusedStep b w) (both .0), both .1)
 
 -- with another tally's buffer it isn't refused either

@@ -9,22 +9,22 @@ use lib.ListN.{length}
 use Rattle.words.specs.Words.{wordAt, bytesIn}
 use Rattle.words.proofs.Laws.{word-again}
 use Rattle.refusal.specs.Numbers.{noState}
-use Rattle.refusal.specs.Page.{refused, answered, first, unless}
+use Rattle.refusal.specs.Page.{answered, left, call, first, told, reading}
 use Rattle.refusal.proofs.Laws.Page.{first-both}
 use Rattle.job.specs.Job.{whyJob}
 use Rattle.trace.specs.declared.Verdict.{Verdict}
 use Rattle.trace.specs.declared.Verdict.the-variants.{Accepted, Wrong, Missing, Extra}
-use Rattle.trace.specs.Trace.{stepsOf, rightTrace, traceBytes, toldIn, whyTrace, compared, verdictOf}
+use Rattle.trace.specs.Trace.{stepsOf, rightTrace, traceBytes, toldIn, whyTrace, compared, verdictOf, verdictPage}
 use Rattle.trace.specs.First.{AtStep, EndsAt, Says}
 use Rattle.trace.proofs.Laws.Bytes.{told-again, taken-again, bytes-back}
 use Rattle.trace.proofs.Laws.Right.{compared-self}
 use Rattle.trace.proofs.Laws.First.{verdict-says}
-use Rattle.tracecall.specs.Calls.{verdictWords, checkPage, went, wentFrom, checkCall}
+use Rattle.tracecall.specs.Calls.{verdictWords, nothing, checkLeft, verdictIn, checkCall}
 use Rattle.laws.specs.Traces.{accepts, Wd16Accepts, Tells, accepted, wrong, missing, extra, Wd16Tells}
 
 -- ---- the words of a verdict
 
-verdict-word : (v : Verdict) → (wordAt (bytesIn (verdictWords v)) 0 ≡ 0 → v ≡ Accepted)
+verdict-word : (v : Verdict) → (wordAt (bytesIn (verdictWords (verdictPage v))) 0 ≡ 0 → v ≡ Accepted)
 verdict-word Accepted e = refl
 verdict-word (Wrong step field right) e = absurd (omega (arith, e))
 verdict-word (Missing step) e = absurd (omega (arith, e))
@@ -33,10 +33,10 @@ verdict-word (Extra step) e = absurd (omega (arith, e))
 none-off : (n : ℕ) → n - 0 ≡ n
 none-off n = omega arith
 
-tells-of : (rs ts : List (List ℕ)) (v : Verdict) → Says 0 rs ts v → Tells rs ts (bytesIn (verdictWords v))
+tells-of : (rs ts : List (List ℕ)) (v : Verdict) → Says 0 rs ts v → Tells rs ts (bytesIn (verdictWords (verdictPage v)))
 tells-of rs ts Accepted h = accepted refl h
 tells-of rs ts (Wrong k f x) h =
-    wrong x refl (subst (λ (n : ℕ). AtStep rs ts n (wordAt (bytesIn (verdictWords (Wrong k f x))) 4) x) (sym (word-again k))
+    wrong x refl (subst (λ (n : ℕ). AtStep rs ts n (wordAt (bytesIn (verdictWords (verdictPage (Wrong k f x)))) 4) x) (sym (word-again k))
     (subst (λ (j : ℕ). AtStep rs ts k j x) (sym (word-again f)) (subst (λ (n : ℕ). AtStep rs ts n f x) (none-off k) (h .1))))
 tells-of rs ts (Missing k) h = missing refl (subst (λ (n : ℕ). EndsAt ts rs n) (none-off k ∙ sym (word-again k)) (h .1)) refl
 tells-of rs ts (Extra k) h = extra refl (subst (λ (n : ℕ). EndsAt rs ts n) (none-off k ∙ sym (word-again k)) (h .1)) refl
@@ -47,16 +47,16 @@ pub wd16-tells : Wd16Tells
 unfolding checkCall
 wd16-tells job t b b′ e = by (eqb (length b) 6) e
   where
-    page-by : (why : ℕ) → went 0 b′ ≡ wentFrom b (unless why (answered (verdictOf job t)) (refused why)) → Tells (rightTrace job) (toldIn t) b′
-    page-by zero e = subst (λ (x : List ℕ). Tells (rightTrace job) (toldIn t) x) (sym (ap (λ z. z .verdict) e)) (tells-of (rightTrace job) (toldIn t) (verdictOf job t) (verdict-says job t))
+    page-by : (why : ℕ) → told 0 b′ ≡ reading verdictIn (λ none. b) (call why (left (answered (verdictPage (verdictOf job t))) nothing) nothing) → Tells (rightTrace job) (toldIn t) b′
+    page-by zero e = subst (λ (x : List ℕ). Tells (rightTrace job) (toldIn t) x) (sym (ap (λ z. z .lent) e)) (tells-of (rightTrace job) (toldIn t) (verdictOf job t) (verdict-says job t))
     page-by (suc why) e = let z : 0 ≡ suc why = ap (λ z. z .number) e in absurd (omega arith)
 
-    by : (x : Bool) → went 0 b′ ≡ cond x (wentFrom b (checkPage job t)) (went noState b) → Tells (rightTrace job) (toldIn t) b′
+    by : (x : Bool) → told 0 b′ ≡ reading verdictIn (λ none. b) (call (cond x 0 noState) (checkLeft job t) nothing) → Tells (rightTrace job) (toldIn t) b′
     by true e = page-by (first (whyJob job) (whyTrace t)) e
     by false e = let z : 0 ≡ noState = ap (λ z. z .number) e in absurd (omega arith)
 
 -- what is left where neither the job nor the trace is refused
-call-is : (job t b : List ℕ) → length b ≡ 6 → first (whyJob job) (whyTrace t) ≡ 0 → checkCall job t b ≡ went 0 (bytesIn (verdictWords (verdictOf job t)))
+call-is : (job t b : List ℕ) → length b ≡ 6 → first (whyJob job) (whyTrace t) ≡ 0 → checkCall job t b ≡ told 0 (bytesIn (verdictWords (verdictPage (verdictOf job t))))
 unfolding checkCall
 call-is job t b l e = rw (l, e)
 
@@ -64,7 +64,7 @@ number-none : (job t b : List ℕ) → length b ≡ 6 → checkCall job t b .num
 unfolding checkCall
 number-none job t b l e = by (first (whyJob job) (whyTrace t)) (rw l at e)
   where
-    by : (why : ℕ) → wentFrom b (unless why (answered (verdictOf job t)) (refused why)) .number ≡ 0 → why ≡ 0
+    by : (why : ℕ) → reading verdictIn (λ none. b) (call why (left (answered (verdictPage (verdictOf job t))) nothing) nothing) .number ≡ 0 → why ≡ 0
     by zero e = refl
     by (suc why) e = e
 
@@ -75,7 +75,7 @@ wd16-accepts job t b number b′ e taken l bytes = (only, when)
     only a =
         let why = number-none job t b l (sym (ap (λ z. z .number) e) ∙ a .0) in
         let page = e ∙ call-is job t b l why in
-        let v : verdictOf job t ≡ Accepted = verdict-word (verdictOf job t) (ap (λ z. wordAt z 0) (sym (ap (λ z. z .verdict) page)) ∙ a .1) in
+        let v : verdictOf job t ≡ Accepted = verdict-word (verdictOf job t) (ap (λ z. wordAt z 0) (sym (ap (λ z. z .lent) page)) ∙ a .1) in
         let same : rightTrace job ≡ toldIn t = subst (λ (x : Verdict). Says 0 (rightTrace job) (toldIn t) x) v (verdict-says job t) in
         bytes-back t bytes (first-both (whyJob job) (whyTrace t) why .1) ∙ ap traceBytes (sym same)
 
@@ -84,5 +84,5 @@ wd16-accepts job t b number b′ e taken l bytes = (only, when)
         let none : whyTrace t ≡ 0 = ap whyTrace d ∙ taken-again (stepsOf job) in
         let why : first (whyJob job) (whyTrace t) ≡ 0 = rw (taken, none) in
         let v : verdictOf job t ≡ Accepted = ap (λ x. compared 0 (rightTrace job) (toldIn x)) d ∙ ap (λ x. compared 0 (rightTrace job) x) (told-again (stepsOf job)) ∙ compared-self 0 (rightTrace job) in
-        let page = e ∙ call-is job t b l why ∙ ap (λ x. went 0 (bytesIn (verdictWords x))) v in
-        (ap (λ z. z .number) page, ap (λ z. wordAt (z .verdict) 0) page)
+        let page = e ∙ call-is job t b l why ∙ ap (λ x. told 0 (bytesIn (verdictWords (verdictPage x)))) v in
+        (ap (λ z. z .number) page, ap (λ z. wordAt (z .lent) 0) page)

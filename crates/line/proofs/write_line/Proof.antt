@@ -1,5 +1,6 @@
 -- The parts of the line stand one after the other; each has its room, since the buffer has 61 characters.
-use Rattle.letters.proofs.Laws.Laid.{then, written-is, written-none}
+use Rattle.letters.proofs.Laws.Laid.{then}
+use Rattle.line.proofs.Laws.Printed.{printed-is, printed-none}
 use Rattle.line.proofs.Laws.Lengths.{field-length, fields-length}
 use Rattle.line.proofs.Laws.{mode-length, line-length}
 use Rattle.line.specs.Line.{lineText}
@@ -9,7 +10,7 @@ use Rattle.line.proofs.write_line.Statement.{statement}
 use Rattle.line.proofs.write_line.Tie as tie
 
 returns : tie.Need-returns
-returns c = let a = c .before .before .args in written-none _ _ (omega (arith, line-length (a .regs) (a .ps) (a .mode) (a .blanks) (a .place) (a .address), c .if1 .taken))
+returns c = let a = c .before .before .args in printed-none _ _ (omega (arith, line-length (a .regs) (a .ps) (a .mode) (a .blanks) (a .place) (a .address), c .if1 .taken))
 
 field-at-requires : tie.Need-field-at-requires
 field-at-requires c κs = omega (arith, c .before .before .before .put-registers .kept .0, c .before .before .before .put-registers .ensures .count, fields-length (c .before .before .before .before .before .before .before .args .regs) 8, c .before .before .before .before .before .if1 .left)
@@ -27,7 +28,7 @@ returns-2 : tie.Need-returns-2
 unfolding lineText
 returns-2 c =
     let a = c .before .before .before .before .before .before .before .before .before .before .before .before .before .before .before .before .before .before .before .before .before .before .args in
-    written-is (lineText (a .regs) (a .ps) (a .mode) (a .blanks) (a .place) (a .address)) _ _ _
+    printed-is (lineText (a .regs) (a .ps) (a .mode) (a .blanks) (a .place) (a .address)) _ _ _
     (omega (arith, line-length (a .regs) (a .ps) (a .mode) (a .blanks) (a .place) (a .address), c .before .before .before .before .before .before .before .before .before .before .before .before .before .before .before .before .before .before .before .before .if1 .left))
     (then _ _ _ _ _ _ _ (then _ _ _ _ _ _ _ (then _ _ _ _ _ _ _ (then _ _ _ _ _ _ _
     (c .before .before .before .before .before .before .before .before .before .before .before .before .before .before .before .before .before .before .put-registers .ensures) (c .before .before .before .before .before .before .before .before .before .before .before .before .before .before .field-at .ensures)) (c .before .before .before .before .before .before .before .before .before .before .mode-at .ensures)) (c .before .before .before .before .before .before .field-at2 .ensures)) (c .before .before .first-at .ensures))

@@ -1,6 +1,7 @@
 -- The name, then the digits; both have room.
 use borrow.Author.Needs.{needs}
-use Rattle.letters.proofs.Laws.Laid.{then, written-is, written-none}
+use Rattle.letters.proofs.Laws.Laid.{then}
+use Rattle.line.proofs.Laws.Printed.{printed-is, printed-none}
 use Rattle.line.proofs.Laws.{name-length, refused-length, digits-few}
 use Rattle.line.specs.Line.{refusedText}
 use native.Mathlib.Omega.{arith}
@@ -12,7 +13,7 @@ add-if1 : tie.Need-add-if1
 add-if1 c = omega (arith, c .digits-of .ensures, digits-few (c .before .before .args .number))
 
 returns : tie.Need-returns
-returns c = written-none _ _ (omega (arith, refused-length (c .before .before .before .args .number), c .before .digits-of .ensures, c .if1 .taken))
+returns c = printed-none _ _ (omega (arith, refused-length (c .before .before .before .args .number), c .before .digits-of .ensures, c .if1 .taken))
 
 put-name-requires : tie.Need-put-name-requires
 put-name-requires c κs = omega (arith, c .before .if1 .left)
@@ -26,7 +27,7 @@ same-length c = c .before .before .decimal-at .kept .0 ∙ c .before .before .be
 returns-2 : tie.Need-returns-2
 unfolding refusedText
 returns-2 c =
-    written-is (refusedText (c .before .before .before .before .before .before .before .before .before .before .before .args .number)) _ _ _
+    printed-is (refusedText (c .before .before .before .before .before .before .before .before .before .before .before .args .number)) _ _ _
     (omega (arith, refused-length (c .before .before .before .before .before .before .before .before .before .before .before .args .number), c .before .before .before .before .before .before .before .before .before .digits-of .ensures, c .before .before .before .before .before .before .before .before .if1 .left))
     (then _ _ _ _ _ _ _ (c .before .before .before .before .before .before .put-name .ensures) (c .before .before .decimal-at .ensures))
 

@@ -8,7 +8,7 @@ use borrow.Author.Tests.{le-ltb}
 use lib.Dec.{eqb, leb, ltb}
 use lib.ListN.{length, getD}
 use Rattle.letters.specs.Over.{over}
-use Rattle.refusal.specs.Page.{refused, answered, unless}
+use Rattle.refusal.specs.Page.{call}
 use Rattle.words.specs.Words.{wordAt}
 use Rattle.board.specs.Work.{fitted, Agree}
 use Rattle.line.specs.Line.{fields}
@@ -16,7 +16,7 @@ use Rattle.optext.specs.Line.{taken}
 use Rattle.listing.specs.declared.Found.{Found}
 use Rattle.listing.specs.declared.Found.the-variants.{Nothing, Cut, Whole}
 use Rattle.listing.specs.Listing.{stands, allStand, wordsAt, foundAt, lineOf, movesOn, lineAt, nextAt, linesFrom, listingOf}
-use Rattle.listing.specs.Calls.{left, told, lineWhy, nextOf, lineCall}
+use Rattle.listing.specs.Calls.{lineWhy, lineIn, lineCall}
 use Rattle.listing.proofs.Laws.Joined.{good}
 
 pub and-true : (p q : Bool) → (p && q) ≡ true → (p ≡ true) × (q ≡ true)
@@ -112,7 +112,6 @@ module _ (map m n : List ℕ) (g : Agree map m n) where
     call-alike l a b = rw l (split (lineWhy (length n) map a last (length b)) refl)
       where
         split : (why : ℕ) → lineWhy (length n) map a last (length b) ≡ why
-            → unless why (left (answered (told (length (lineAt map m last a)) (nextOf last (nextAt map m last a)))) (over (lineAt map m last a) b)) (left (refused why) b)
-            ≡ unless why (left (answered (told (length (lineAt map n last a)) (nextOf last (nextAt map n last a)))) (over (lineAt map n last a) b)) (left (refused why) b)
+            → call why (lineIn m map a last b) b ≡ call why (lineIn n map a last b) b
         split zero e = let h = good (length n) map a last (length b) e .even in rw (line-same a h, next-same a h) refl
         split (suc why) e = refl

@@ -10,8 +10,8 @@ use lib.ListN.{length, take}
 use Rattle.letters.specs.Over.{over}
 use Rattle.letters.proofs.Laws.Laid.{wrote-take}
 use Rattle.refusal.specs.Numbers.{noStretch}
-use Rattle.refusal.specs.Page.{refused, answered, unless}
-use Rattle.refusal.proofs.Laws.Page.{first-both, apart, answered-one}
+use Rattle.refusal.specs.Page.{answered, left}
+use Rattle.refusal.proofs.Laws.Page.{answered-one, call-right, first-both}
 use Rattle.refusal.specs.Refusal.{boardRefusal}
 use Rattle.refusal.proofs.Laws.Refusal.{neither}
 use Rattle.words.specs.Words.{wordAt}
@@ -19,7 +19,7 @@ use Rattle.board.specs.Work.{fitted}
 use Rattle.optext.specs.Line.{taken}
 use Rattle.listing.specs.declared.Found.the-variants.{Nothing, Cut, Whole}
 use Rattle.listing.specs.Listing.{allStand, foundAt, movesOn, lineAt, nextAt, linesFrom, listingOf}
-use Rattle.listing.specs.Calls.{Next, goesOn, ends, Told, told, Left, left, badStretch, lineWhy, nextOf, lineCall}
+use Rattle.listing.specs.Calls.{Next, goesOn, ends, Lined, lined, badStretch, lineWhy, nextOf, lineIn, lineCall}
 use Rattle.listing.specs.Joined.{Lines, final, more}
 
 -- ---- the listing, line by line
@@ -105,24 +105,17 @@ module _ (image map : List ℕ) (last : ℕ) where
     pub line : take n e ≡ lineAt map image last a
     pub next : x ≡ nextOf last (nextAt map image last a)
 
-  pub called : (a n : ℕ) (x : Next) (b e : List ℕ) → left (answered (told n x)) e ≡ lineCall image map a last b → Called a n x b e
+  pub called : (a n : ℕ) (x : Next) (b e : List ℕ) → left (answered (lined n x)) e ≡ lineCall image map a last b → Called a n x b e
   unfolding lineCall
-  called a n x b e h = split (lineWhy (length image) map a last (length b)) refl h
-    where
-      l : List ℕ
-      l = lineAt map image last a
-
-      split : (why : ℕ) → lineWhy (length image) map a last (length b) ≡ why
-          → left (answered (told n x)) e ≡ unless why (left (answered (told (length l) (nextOf last (nextAt map image last a)))) (over l b)) (left (refused why) b)
-          → Called a n x b e
-      split zero w h =
-          let t : told n x ≡ told (length l) (nextOf last (nextAt map image last a)) = answered-one (ap (λ (z : Left). z .page) h) in
-          record {
-            stretch = good (length image) map a last (length b) w;
-            line = wrote-take l b e n (record { bytes = ap (λ (z : Left). z .text) h; count = ap (λ (z : Told). z .count) t });
-            next = ap (λ (z : Told). z .next) t;
-          }
-      split (suc why) w h = absurd (apart (ap (λ (z : Left). z .page) h))
+  called a n x b e h =
+      let l = lineAt map image last a in
+      let done = call-right (lineWhy (length image) map a last (length b)) (lineIn image map a last b) b h in
+      let t : lined n x ≡ lined (length l) (nextOf last (nextAt map image last a)) = answered-one (ap (λ z. z .page) (done .1)) in
+      record {
+        stretch = good (length image) map a last (length b) (done .0);
+        line = wrote-take l b e n (record { bytes = ap (λ z. z .lent) (done .1); count = ap (λ (z : Lined). z .count) t });
+        next = ap (λ (z : Lined). z .next) t;
+      }
 
   ends-past : (p : ℕ) → ends ≡ nextOf last p → last < p
   ends-past p e = go (ltb last p) refl (ap number e)

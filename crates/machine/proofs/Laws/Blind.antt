@@ -32,11 +32,11 @@ powered-same : {map : List ℕ} {x y : Up} → SameUp map x y → SameLeft map (
 powered-same h = record { page = rw (h .state); agree = h .agree }
 
 -- refused or not
-call-same : {A : Type 0} {map : List ℕ} (m n : List ℕ) (why : ℕ) {x y : Left A (List ℕ)} → Agree map m n → SameLeft map x y → SameLeft map (call why x m) (call why y n)
+pub call-same : {A : Type 0} {map : List ℕ} (m n : List ℕ) (why : ℕ) {x y : Left A (List ℕ)} → Agree map m n → SameLeft map x y → SameLeft map (call why x m) (call why y n)
 call-same m n zero g h = h
 call-same m n (suc k) g h = record { page = refl; agree = g }
 
-call-untouched : {A : Type 0} (map m : List ℕ) (why : ℕ) (x : Left A (List ℕ)) → Untouched map m (x .lent) → Untouched map m (call why x m .lent)
+pub call-untouched : {A : Type 0} (map m : List ℕ) (why : ℕ) (x : Left A (List ℕ)) → Untouched map m (x .lent) → Untouched map m (call why x m .lent)
 call-untouched map m zero x h = h
 call-untouched map m (suc k) x h = λ a e. refl
 

@@ -48,6 +48,21 @@ module _ {A B : Type 0} (why : ℕ) (right : Left A B) (lent : B) where
       by zero d = (refl, d)
       by (suc k) d = absurd (apart (ap (λ z. z .page) d))
 
+  -- a refusal tells that number, and everything is as lent
+  pub call-told : {a : A} {b : B} {n : ℕ} → right .page ≡ answered a → left (refused n) b ≡ call why right lent → (n ≡ why) × (n ≡ 0 → ⊥) × (b ≡ lent)
+  call-told {a} {b} {n} h e = by why e
+    where
+      by : (k : ℕ) → left (refused n) b ≡ call k right lent → (n ≡ k) × (n ≡ 0 → ⊥) × (b ≡ lent)
+      by zero d = absurd (apart (sym h ∙ sym (ap (λ z. z .page) d)))
+      by (suc k) d =
+          let number : n ≡ suc k = refused-one (ap (λ z. z .page) d) in
+          (number, λ z. omega arith, ap (λ z. z .lent) d)
+
+-- two refusals in a row
+pub call-first : {A B : Type 0} (a b : ℕ) (right : Left A B) (lent : B) → call (first a b) right lent ≡ call a (call b right lent) lent
+call-first zero b right lent = refl
+call-first (suc a) b right lent = refl
+
 -- ---- ONE OUTCOME: what can be read back is one to one, and so is a page with what is left
 pub one : {A B : Type 0} {f : A → B} (back : B → A) → ((x : A) → back (f x) ≡ x) → (x y : A) → f x ≡ f y → x ≡ y
 one back again x y e = sym (again x) ∙ ap back e ∙ again y

@@ -4,9 +4,11 @@ use borrow.Author.Needs.{needs}
 use Rattle.runjob.proofs.run_first.Statement.{statement}
 use Rattle.runjob.proofs.run_first.Tie as tie
 
-slice-aggregate-run-up : tie.Need-slice-aggregate-run-up
-slice-aggregate-run-up c = sym (length-take-le _ _ (c .before .before .before .before .before .before .before .pre .0))
+slice-aggregate-run : tie.Need-slice-aggregate-run
+slice-aggregate-run c = sym (length-take-le _ _ (c .before .before .before .before .before .before .pre .0))
+
+returns : tie.Need-returns
+returns c = rw (c .before .before .before .before .bench-board .ensures) at (c .before .before .run .ensures)
 
 pub run-first-spec : {M : Type 1} → statement M
-run-first-spec =
-    tie.close (tie.spec slice-aggregate-run-up (λ c κs. search needs) (λ c. search needs) (λ c. search needs) (λ c. search needs))
+run-first-spec = tie.close (tie.spec (λ c κs. search needs) slice-aggregate-run (λ c κs. search needs) (λ c. search needs) returns)

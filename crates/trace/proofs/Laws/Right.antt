@@ -11,16 +11,16 @@ use borrow.Author.Tests.{eqb-true, eq-eqb}
 use Rattle.words.specs.Words.{byteAt}
 use Rattle.letters.specs.Over.{over}
 use Rattle.step.specs.Step.{After}
-use Rattle.refusal.specs.Page.{refused, answered, unless}
-use Rattle.refusal.proofs.Laws.Page.{apart, answered-one, first-both}
-use Rattle.job.specs.Job.{whyRead, mapOf, linesOf}
+use Rattle.refusal.specs.Page.{Page, refused, refusedAt, answered, left}
+use Rattle.refusal.proofs.Laws.Page.{apart, answered-one, first-both, call-right, one, one-call}
+use Rattle.job.specs.Job.{whyRead}
 use Rattle.trace.specs.declared.Verdict.{Verdict}
 use Rattle.trace.specs.declared.Verdict.the-variants.{Accepted, Wrong, Missing, Extra}
 use Rattle.trace.specs.declared.Checked.{Checked}
 use Rattle.trace.specs.declared.Checked.the-variants as Checked
 use Rattle.trace.specs.declared.Made.{Made}
 use Rattle.trace.specs.declared.Made.the-variants as Made
-use Rattle.trace.specs.Trace.{entryOf, entriesOf, stepsOf, rightTrace, imageAfter, traceBytes, wordsFrom, entriesFrom, toldIn, whyTrace, orElse, differ, compared, verdictOf, Left, left, checkedPage, whyCheck, checkOf, madePage, whyMake, put, makeOf}
+use Rattle.trace.specs.Trace.{entryOf, entriesOf, stepsOf, rightTrace, traceBytes, wordsFrom, entriesFrom, toldIn, whyTrace, orElse, differ, compared, verdictOf, VerdictPage, accepted, wrong, missing, extra, verdictPage, checkedPage, whyCheck, buffersAfter, checkOf, madePage, whyMake, madeOf, makeOf}
 use Rattle.trace.proofs.Laws.Bytes.{right-ten, words-length, told-again, taken-again, bytes-back}
 
 -- ---- entries that are the same, and only those, are accepted
@@ -73,19 +73,30 @@ module _ (input t : List ℕ) where
   right-accepted : t ≡ traceBytes (rightTrace input) → (whyTrace t ≡ 0) × (verdictOf input t ≡ Accepted)
   right-accepted e = rw e (taken-again (stepsOf input), ap (λ z. compared 0 (rightTrace input) z) (told-again (stepsOf input)) ∙ compared-self 0 (rightTrace input))
 
--- what is right where nothing is refused
-taken : {A : Type 0} (why : ℕ) {p : A} {i m l : List ℕ} (i′ m′ l′ : List ℕ) (x : Left A) → left (answered p) i m l ≡ unless why x (left (refused why) i′ m′ l′) → (why ≡ 0) × (left (answered p) i m l ≡ x)
-taken zero i′ m′ l′ x e = (refl, e)
-taken (suc why) i′ m′ l′ x e = absurd (apart (ap (λ z. z .page) e))
+-- a verdict, from its page
+abbrev verdictFrom : VerdictPage → Verdict
+verdictFrom accepted = Accepted
+verdictFrom (wrong step field right) = Wrong step field right
+verdictFrom (missing step) = Missing step
+verdictFrom (extra step) = Extra step
+
+verdict-back : (v : Verdict) → verdictFrom (verdictPage v) ≡ v
+verdict-back Accepted = refl
+verdict-back (Wrong step field right) = refl
+verdict-back (Missing step) = refl
+verdict-back (Extra step) = refl
+
+verdict-one : (v w : Verdict) → verdictPage v ≡ verdictPage w → v ≡ w
+verdict-one = one verdictFrom verdict-back
 
 -- ACCEPTED IF AND ONLY IF IT IS THE MANUAL'S TRACE: of what the check answers to a job that is not refused and a trace of bytes
 module _ (input t image map lines : List ℕ) (job : whyRead (length image) (length map) (length lines) input ≡ 0) (bytes : (i : ℕ) → byteAt t i < 256)
-    (r : Checked) (image′ map′ lines′ : List ℕ) (met : left (checkedPage r) image′ map′ lines′ ≡ checkOf input t image map lines) where
+    (r : Checked) (x : List ℕ × List ℕ × List ℕ) (met : left (checkedPage r) x ≡ checkOf input t image map lines) where
   pub accepted-only : r ≡ Checked.Done Accepted → t ≡ traceBytes (rightTrace input)
   unfolding checkOf
   accepted-only d =
-      let h = taken (whyCheck input t (length image) (length map) (length lines)) image map lines (left (answered (verdictOf input t)) (imageAfter input) (mapOf input) (linesOf input)) (rw d at met) in
-      let v : verdictOf input t ≡ Accepted = sym (answered-one (ap (λ z. z .page) (h .1))) in
+      let h = call-right (whyCheck input t (length image) (length map) (length lines)) (left (answered (verdictPage (verdictOf input t))) (buffersAfter input)) (image, map, lines) (rw d at met) in
+      let v : verdictOf input t ≡ Accepted = sym (verdict-one Accepted (verdictOf input t) (answered-one (ap (λ z. z .page) (h .1)))) in
       accepted-right input t bytes (first-both (whyRead (length image) (length map) (length lines) input) (whyTrace t) (h .0) .1) v
 
   pub accepted-if : t ≡ traceBytes (rightTrace input) → r ≡ Checked.Done Accepted
@@ -94,49 +105,54 @@ module _ (input t image map lines : List ℕ) (job : whyRead (length image) (len
       let h = right-accepted input t e in
       done r (ap (λ z. z .page) (rw (job, h .0, h .1) at met))
     where
-      done : (r : Checked) → checkedPage r ≡ answered Accepted → r ≡ Checked.Done Accepted
-      done (Checked.Done v) e = ap Checked.Done (answered-one e)
+      done : (r : Checked) → checkedPage r ≡ answered accepted → r ≡ Checked.Done Accepted
+      done (Checked.Done v) e = ap Checked.Done (verdict-one v Accepted (answered-one e))
       done (Checked.Refused why) e = absurd (apart (sym e))
 
 -- ---- WHAT IS MADE IS ACCEPTED
 
 pub made-accepted : (input out image map lines : List ℕ) (n : ℕ) (out′ image′ map′ lines′ : List ℕ)
-    → put out′ (left (madePage (Made.Bytes n)) image′ map′ lines′) ≡ makeOf input out image map lines
+    → left (madePage (Made.Bytes n)) (out′, image′, map′, lines′) ≡ makeOf input out image map lines
     → (i m l : List ℕ) → length i ≡ length image → length m ≡ length map → length l ≡ length lines
-    → checkOf input (take n out′) i m l .page ≡ answered Accepted
+    → checkOf input (take n out′) i m l .page ≡ answered accepted
 unfolding makeOf checkOf over
-made-accepted input out image map lines n out′ image′ map′ lines′ e i m l hi hm hl = split (whyMake input (length out) (length image) (length map) (length lines)) refl e
-  where
-    t : List ℕ
-    t = traceBytes (rightTrace input)
-
-    split : (why : ℕ) → whyMake input (length out) (length image) (length map) (length lines) ≡ why
-        → put out′ (left (answered n) image′ map′ lines′) ≡ unless why (put (over t out) (left (answered (length t)) (imageAfter input) (mapOf input) (linesOf input))) (put out (left (refused why) image map lines))
-        → unless (whyCheck input (take n out′) (length i) (length m) (length l)) (left (answered (verdictOf input (take n out′))) (imageAfter input) (mapOf input) (linesOf input)) (left (refused (whyCheck input (take n out′) (length i) (length m) (length l))) i m l) .page ≡ answered Accepted
-    split zero why e =
-        let size : n ≡ length t = answered-one (ap (λ z. z .rest .page) e) in
-        let bytes : out′ ≡ over t out = ap (λ z. z .bytes) e in
-        let same : take n out′ ≡ t = rw (size, bytes) (take-append-seam t _) in
-        let h = right-accepted input (take n out′) same in
-        rw (hi, hm, hl, first-both (whyRead (length image) (length map) (length lines) input) _ why .0, h .0, h .1)
-    split (suc why) w e = absurd (apart (ap (λ z. z .rest .page) e))
+made-accepted input out image map lines n out′ image′ map′ lines′ e i m l hi hm hl =
+    let t = traceBytes (rightTrace input) in
+    let made = call-right (whyMake input (length out) (length image) (length map) (length lines)) (madeOf input out) (out, image, map, lines) e in
+    let size : n ≡ length t = answered-one (ap (λ z. z .page) (made .1)) in
+    let bytes : out′ ≡ over t out = ap (λ z. z .lent .0) (made .1) in
+    let same : take n out′ ≡ t = rw (size, bytes) (take-append-seam t _) in
+    let h = right-accepted input (take n out′) same in
+    rw (hi, hm, hl, first-both (whyRead (length image) (length map) (length lines) input) _ (made .0) .0, h .0, h .1)
 
 -- ---- ONE OUTCOME
 
-checked-one : (r q : Checked) → checkedPage r ≡ checkedPage q → r ≡ q
-checked-one (Checked.Done v) (Checked.Done w) e = ap Checked.Done (answered-one e)
-checked-one (Checked.Done v) (Checked.Refused why) e = absurd (apart e)
-checked-one (Checked.Refused why) (Checked.Done w) e = absurd (apart (sym e))
-checked-one (Checked.Refused why) (Checked.Refused more) e = let i : why ≡ more = cc in ap Checked.Refused i
+abbrev checkedOf : Page VerdictPage → Checked
+checkedOf (answered p) = Checked.Done (verdictFrom p)
+checkedOf (refused why) = Checked.Refused why
+checkedOf (refusedAt why at) = Checked.Refused why
 
-made-one : (r q : Made) → madePage r ≡ madePage q → r ≡ q
-made-one (Made.Bytes n) (Made.Bytes k) e = ap Made.Bytes (answered-one e)
-made-one (Made.Bytes n) (Made.Refused why) e = absurd (apart e)
-made-one (Made.Refused why) (Made.Bytes k) e = absurd (apart (sym e))
-made-one (Made.Refused why) (Made.Refused more) e = let i : why ≡ more = cc in ap Made.Refused i
+checked-back : (r : Checked) → checkedOf (checkedPage r) ≡ r
+checked-back (Checked.Done v) = ap Checked.Done (verdict-back v)
+checked-back (Checked.Refused why) = refl
 
-pub one-check : (r q : Checked) (i m l i′ m′ l′ : List ℕ) → left (checkedPage r) i m l ≡ left (checkedPage q) i′ m′ l′ → (r ≡ q) × (i ≡ i′) × (m ≡ m′) × (l ≡ l′)
-one-check r q i m l i′ m′ l′ e = (checked-one r q (ap (λ z. z .page) e), ap (λ z. z .image) e, ap (λ z. z .map) e, ap (λ z. z .lines) e)
+pub checked-one : (r q : Checked) → checkedPage r ≡ checkedPage q → r ≡ q
+checked-one = one checkedOf checked-back
 
-pub one-make : (r q : Made) (o i m l o′ i′ m′ l′ : List ℕ) → put o (left (madePage r) i m l) ≡ put o′ (left (madePage q) i′ m′ l′) → (r ≡ q) × (o ≡ o′) × (i ≡ i′) × (m ≡ m′) × (l ≡ l′)
-one-make r q o i m l o′ i′ m′ l′ e = (made-one r q (ap (λ z. z .rest .page) e), ap (λ z. z .bytes) e, ap (λ z. z .rest .image) e, ap (λ z. z .rest .map) e, ap (λ z. z .rest .lines) e)
+abbrev madeFrom : Page ℕ → Made
+madeFrom (answered n) = Made.Bytes n
+madeFrom (refused why) = Made.Refused why
+madeFrom (refusedAt why at) = Made.Refused why
+
+made-back : (r : Made) → madeFrom (madePage r) ≡ r
+made-back (Made.Bytes n) = refl
+made-back (Made.Refused why) = refl
+
+pub made-one : (r q : Made) → madePage r ≡ madePage q → r ≡ q
+made-one = one madeFrom made-back
+
+pub one-check : (r q : Checked) (x y : List ℕ × List ℕ × List ℕ) → left (checkedPage r) x ≡ left (checkedPage q) y → (r ≡ q) × (x ≡ y)
+one-check = one-call checkedPage checked-one
+
+pub one-make : (r q : Made) (x y : List ℕ × List ℕ × List ℕ × List ℕ) → left (madePage r) x ≡ left (madePage q) y → (r ≡ q) × (x ≡ y)
+one-make = one-call madePage made-one

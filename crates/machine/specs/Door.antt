@@ -1,0 +1,34 @@
+-- The inner door: what is asked for where a board is known to be good, and what is promised then.
+use Prim.Native.Nat.{ℕ, _≤_}
+use mathlib.Core.List.{List}
+use mathlib.Core.Path.{_≡_}
+use lib.ListN.{length}
+use Rattle.board.specs.Exec.{Lent, Board, beside}
+use Rattle.plate.specs.Plate.{table}
+use Rattle.state.specs.declared.State.{State}
+use Rattle.state.specs.declared.Settings.{Settings}
+use Rattle.state.specs.State.{heard}
+use Rattle.step.specs.declared.Turn.{Turn}
+use Rattle.step.specs.Step.{stepOf, turnOf}
+use Rattle.machine.specs.declared.Ran.{Ran}
+use Rattle.machine.specs.Run.{runOf, ranOf}
+
+-- ---- a run: the map, the image and the line words have their lengths
+
+pub record Good (map image lines : List ℕ) : Type 0 where
+  pub lent : Lent map image
+  pub few : length lines ≤ 4096
+
+pub record Runs (settings : Settings) (map lines : List ℕ) (s : State) (m : List ℕ) (r : Ran) (n : List ℕ) : Type 0 where
+  pub same : ranOf r n ≡ runOf settings map lines s m
+  pub lent : Lent map n
+
+-- ---- a step: besides, there are the log and the plate, which last for as many steps as are wanted
+
+pub record Plated (map image log sheet : List ℕ) : Type 0 where
+  pub board : Board map (beside image log)
+  pub plate : sheet ≡ table
+
+pub record Steps (settings : Settings) (map : List ℕ) (line : ℕ) (s : State) (m : List ℕ) (r : Turn) (n log : List ℕ) : Type 0 where
+  pub same : turnOf r n ≡ stepOf map (heard settings line) s m
+  pub board : Board map (beside n log)

@@ -1,0 +1,61 @@
+// The inner door, for crates of ours: a run and a step over a board that is known to be good. Nothing is looked at again, and a step
+// is lent its log and its plate.
+use super::First;
+use super::Ran;
+use super::Stage;
+use super::Tally;
+use super::runs::leg;
+use super::runs::run_on;
+use state::Settings;
+use state::State;
+use step::Cause;
+use step::Turn;
+ghost use mathlib.Core.Path.{_≡_};
+ghost use Rattle.plate.specs.Plate.{table};
+ghost use Rattle.machine.specs.Door as Spec;
+
+// A run over line words.
+pub fn run(s: State, image: &mut [u8], map: &[u8], settings: Settings, lines: &[u16]) -> Ran
+    requires { ⌜ Spec.Good (now map) (now image) (now lines) ⌝ }
+    ensures { λ r. ⌜ Spec.Runs settings (now (map .entry)) (now (lines .entry)) s (now (image .entry)) r (now (image .exit)) ⌝ }
+{
+    let last = run_on(s, image, map, settings, lines);
+    last.ran
+}
+
+// The plate, laid out.
+pub fn sheet() -> [u8; 256]
+    ensures { λ r. ⌜ r ≡ table ⌝ }
+{
+    plate::PLATE
+}
+
+// One step over a line word.
+pub fn step(
+    s: State,
+    image: &mut [u8],
+    map: &[u8],
+    log: &mut [u16; 32],
+    settings: Settings,
+    line: u16,
+    sheet: &[u8; 256],
+) -> Turn
+    requires { ⌜ Spec.Plated (now map) (now image) (now log) (now sheet) ⌝ }
+    ensures { λ r. ⌜ Spec.Steps settings (now (map .entry)) line s (now (image .entry)) r (now (image .exit)) (now (log .exit)) ⌝ }
+{
+    let lines = [line];
+    let tally = Tally {
+        blanks: 0,
+        first: First::Never,
+    };
+    let from = Stage {
+        state: s,
+        tally,
+        cause: Cause::Nothing,
+        at: 0,
+    };
+    let stage = leg(from, image, map, log, settings, &lines, sheet);
+    let state = stage.state;
+    let cause = stage.cause;
+    Turn { state, cause }
+}
