@@ -76,17 +76,19 @@ def plain(outer):
 # ---- instructions
 
 def programs():
-    """The programs of compare/programs.txt: name, pages, words."""
-    found = []
+    """The programs of compare/programs.txt whose line words are quiet: name, pages, words."""
+    found, heard = [], set()
     for line in (ROOT / "compare" / "programs.txt").read_text(encoding="utf-8").splitlines():
         words = re.split("[;#]", line)[0].split()
         if words[:1] == ["program"]:
             found.append((words[1], [], []))
         elif words[:1] == ["pages"]:
             found[-1][1].extend(words[1:])
+        elif words[:1] == ["lines"]:
+            heard.add(found[-1][0])
         elif words and "=" in words[0]:
             found[-1][2].extend(word.split("=") for word in words)
-    return found
+    return [program for program in found if program[0] not in heard]
 
 
 def programs_in_c():
