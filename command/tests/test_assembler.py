@@ -57,7 +57,7 @@ class Refused(Case):
         self.ends(1, "", said, "asm", "--unproved", stdin=source.encode())
 
     def test_unknown_text(self):
-        operands = "an operand is needed, R1, @R1, (R1)+, @(R1)+, -(R1), @-(R1), 1234(R1), @1234(R1), #1234 or @#1234"
+        operands = "@R1, (R1)+, @(R1)+, -(R1), @-(R1), 1234(R1), @1234(R1), #1234, @#1234 or a label"
         self.place("NOP\nLOOP: NOPE\n", 2, 10, "24 (31): the text is whole before this; a comment begins with ; or with # between blanks")
         self.place("MVO R0,R1", 1, 2, "24 (9): MVO is no mnemonic; MOV is one")
         self.place("MOV #7,R0", 1, 7, "24 (30): four hex digits are needed: #0007")
@@ -66,7 +66,14 @@ class Refused(Case):
         self.place("MOV R0,r1", 1, 8, "24 (30): letters are upper case")
         self.place("MOV R0", 1, 7, "24 (32): the line ends too early: something is missing after it")
         self.place("NOP #comment", 1, 4, "24 (31): the text is whole before this; a comment begins with ; or with # between blanks")
-        self.place("JMP R9", 1, 5, f"24 (30): {operands}")
+        self.place("JMP R9", 1, 5, f"24 (30): an operand is needed, {operands}")
+        self.place("MOV R9,R1", 1, 6, f"24 (30): an operand is needed, R1, {operands}")
+        self.place("SOB R1,4", 1, 8, "24 (30): two hex digits are needed: 04")
+        self.place("SOB R1,40", 1, 8, "24 (30): two hex digits are needed, 00 to 3F, or a label")
+        self.place("BR 4", 1, 5, "24 (32): two hex digits are needed: 04")
+        self.place("ADDI 11,R1", 1, 7, "24 (30): two hex digits are needed, 01 to 10")
+        self.place("LCC R1", 1, 5, "24 (30): a hex digit is needed, 0 to F")
+        self.place("IAK R9", 1, 6, "24 (30): a register is needed, R0 to R5, SP or PC")
         self.place(".WORD 7", 1, 7, "24: four hex digits are needed: .WORD 0007")
         self.place(".ORG", 1, 5, "24: four hex digits are needed: .ORG 0080")
         self.place(".BYTE 7", 1, 1, "24: .WORD and .ORG begin with a dot, and nothing else", 5)

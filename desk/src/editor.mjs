@@ -40,7 +40,7 @@ export class Editor {
   tell(words, place) {
     this.place = place;
     this.area.setAttribute("aria-invalid", "true");
-    this.wrong.hidden = false;
+    this.wrong.hidden = false, this.wrong.classList.toggle("nowhere", place === null);
     this.wrong.textContent = place === null ? words : `line ${place.line}, column ${place.column}: ${words}`;
     this.number();
     if (place !== null) this.show(place);
@@ -65,7 +65,7 @@ export class Editor {
 
   scrolled() {
     this.gutter.scrollTop = this.area.scrollTop;
-    const line = this.place?.line ?? 0;
-    this.wrong.style.top = `${Math.max(2, PADDING + line * LINE - this.area.scrollTop + 4)}px`;
+    const under = this.place === null ? null : Math.max(2, PADDING + this.place.line * LINE - this.area.scrollTop + 4);
+    this.wrong.style.top = under === null ? "auto" : `${under}px`, this.wrong.style.bottom = under === null ? "4px" : "auto";
   }
 }

@@ -2,13 +2,12 @@
 import { grouped } from "./words.mjs";
 import { linesIn } from "./text.mjs";
 
-const MOST_TEXT = 4 << 20, MOST_BYTES = 1310702;
+const MOST_SAVED = 4 << 20, MOST_TEXT = 1 << 20, MOST_TRACE = 1310702; // bytes
 
 // { kind: job | bytes | saved | trace, name, text or bytes }, or { wrong } in words.
 export async function readFile(file, isTrace) {
-  const most = isTrace ? MOST_BYTES : MOST_TEXT;
-  if (file.size > most)
-    return { wrong: `${file.name} has ${grouped(file.size)} bytes, and the desk takes ${grouped(most)} at most: nothing was read.` };
+  const most = isTrace ? MOST_TRACE : MOST_SAVED;
+  if (file.size > most) return { wrong: tooBig(file, most) };
   if (file.size === 0) return { wrong: `${file.name} is empty.` };
   const bytes = new Uint8Array(await file.arrayBuffer()), name = file.name;
   if (isTrace || name.endsWith(".trace")) return { kind: "trace", name, bytes };
@@ -22,5 +21,10 @@ export async function readFile(file, isTrace) {
     const place = `line ${before.length}, column ${before.at(-1).length + 1}`;
     return { wrong: `${name}, ${place}: no text: a byte is not ${wide === null ? "UTF-8" : "UTF-16"}.` };
   }
-  return { kind: /^\s*\{/.test(text) ? "saved" : "job", name, text };
+  if (/^\s*\{/.test(text)) return { kind: "saved", name, text };
+  return text.length > MOST_TEXT ? { wrong: tooBig(file, MOST_TEXT) } : { kind: "job", name, text };
+}
+
+function tooBig(file, most) {
+  return `${file.name} has ${grouped(file.size)} bytes, and the desk takes ${grouped(most)} at most: nothing was read.`;
 }

@@ -37,7 +37,10 @@ function patched(words, patch) {
   return merged.concat(added.slice(n));
 }
 
-const entries = (pairs) => pairs.map(([address, value]) => ({ address, value, place: null }));
+// The words of a source as entries of a job, each with the place of its line.
+function entries({ source, all, pairs }, inPatch) {
+  return pairs.map(([address, value]) => ({ address, value, inPatch, assembled: true, get place() { return source.placeOf(address, all); } }));
+}
 
 // { bytes, lines .., scans, board, labels, starts } of a text and the text of a patch, or a TextError; `inPatch` tells whose line.
 export function jobOf(text, patchText, library, words) {
@@ -54,7 +57,8 @@ export function jobOf(text, patchText, library, words) {
   const ownPairs = own.pairs(labels), assembled = new Set(ownPairs.map(([address]) => address));
   const twice = job.words.find((one) => assembled.has(one.address));
   if (twice) throw new TextError(`an assembler line has a word at ${hex(twice.address)} too`, twice.place);
-  const all = patched(patched(job.words, entries(ownPairs)), entries(beside.pairs));
+  const mine = entries({ source: own, all: told.all, pairs: ownPairs }, false);
+  const all = patched(patched(job.words, mine), entries(beside, true));
   const sections = { pages: job.pages, words: all, lines: job.lines, readOnly: job.readOnly };
   const starts = [...job.words.filter((one) => one.begins).map((one) => one.address), ...told.addresses, ...beside.addresses];
   const made = { sections, bytes: wholeBytes(sections, job), scans: job.scans, board: job.board, labels, starts, patch: beside.pairs };
@@ -66,9 +70,21 @@ export function jobOf(text, patchText, library, words) {
 export function patchOf(text, library, words) {
   try {
     const source = new Source(linesIn(text).map((line, n) => ({ text: line, line: n + 1 })), library, words), told = source.labels();
-    return { labels: told.values, addresses: told.addresses, pairs: source.pairs(told.values), lines: source.lines };
+    const pairs = source.pairs(told.values);
+    return { source, labels: told.values, addresses: told.addresses, all: told.all, pairs, lines: source.lines };
   } catch (why) {
     if (why instanceof TextError) why.inPatch = true;
+    throw why;
+  }
+}
+
+// Whether a text has lines of the assembler alone: a patch, and no job.
+export function isPatch(text) {
+  try {
+    const { source, pages, words, lines, readOnly, rest, cuts, scans, boardPlaces } = readLines(text);
+    return source.length > 0 && [pages, words, lines, readOnly ?? [], rest, cuts, scans, boardPlaces].every((one) => one.length === 0);
+  } catch (why) {
+    if (why instanceof TextError) return false;
     throw why;
   }
 }
@@ -87,8 +103,10 @@ export function wholeBytes(sections, job) {
 function refuseByNumber(made, job, library, words) {
   const why = library.jobRefusal(made.bytes);
   if (why !== 0) {
-    const place = placeOf(made.sections, why, library) ?? job.rest[0]?.place ?? job.cuts[0]?.place ?? null;
-    throw new TextError(`refused: ${words.refusal(why)}`, place);
+    const entry = entryOf(made.sections, why, library), place = entry?.place ?? job.rest[0]?.place ?? job.cuts[0]?.place ?? null;
+    const refused = new TextError(`refused: ${words.refusal(why)}${entry?.assembled ? `: ${hex(entry.address)}` : ""}`, place);
+    refused.inPatch = entry?.inPatch === true;
+    throw refused;
   }
   const refused = boardRefusal(library, job.board);
   if (refused === 0) return;
@@ -103,7 +121,7 @@ function boardRefusal(library, board) {
 }
 
 // The entry at which the library's reader stops: the last of the fewest entries, in the order of reading, that it refuses alike.
-function placeOf(sections, why, library) {
+function entryOf(sections, why, library) {
   const order = SECTIONS.flatMap((name) => (sections[name] ?? []).map((one) => [name, one]));
   const alike = (count) => {
     const part = { pages: [], words: [], lines: [], readOnly: null };
@@ -117,7 +135,7 @@ function placeOf(sections, why, library) {
     if (alike(middle)) high = middle;
     else low = middle;
   }
-  return order[high - 1]?.[1].place ?? null;
+  return order[high - 1]?.[1] ?? null;
 }
 
 // Numbers in runs: 00-0F 20, or 0000 x12 0008.

@@ -8,7 +8,7 @@ export class JobText {
   constructor() {
     this.pages = [], this.words = [], this.lines = [], this.readOnly = null;
     this.rest = [], this.cuts = [];
-    this.scans = [];
+    this.scans = [], this.saidLines = new Map();
     this.source = []; // the assembler's lines: text and line number
     this.board = [...BENCH_BOARD], this.boardPlaces = [];
     this.begun = false;
@@ -31,17 +31,18 @@ export class JobText {
 
   // pages 00 04 10-1F
   takePages(words) {
-    this.pages = joined(this.pages, pagesOf(words.slice(1)), words);
+    add(this.pages, pagesOf(words.slice(1)), words);
   }
 
   // read-only 10-1F
   takeReadOnly(words) {
-    this.readOnly = joined(this.readOnly ?? [], pagesOf(words.slice(1)), words);
+    this.readOnly ??= [];
+    add(this.readOnly, pagesOf(words.slice(1)), words);
   }
 
   // lines 0000 x12 0008
   takeLines(words) {
-    this.lines = joined(this.lines, lineWordsOf(words.slice(1)), words);
+    add(this.lines, lineWordsOf(words.slice(1)), words);
   }
 
   // 0080 = 09BF START; a label stands for its address, once it is known
@@ -56,7 +57,7 @@ export class JobText {
       if (isLabel(word.text)) return { value: 0, label: word.text, address, begins, place: word.place };
       return { value: number(word, 0xFFFF), address, begins, place: word.place };
     });
-    this.words = joined(this.words, entries, words);
+    add(this.words, entries, words);
   }
 
   // bytes 00 FF, after the last section
@@ -75,8 +76,14 @@ export class JobText {
     const named = words.findIndex((word) => word.text === "lines"), at = named < 0 ? words.length : named;
     if (at !== CHANNELS + 1)
       throw new TextError(`a scan has ${CHANNELS} channels; here are ${at - 1}`, words[at > CHANNELS + 1 ? CHANNELS + 1 : at - 1].place);
-    const channels = words.slice(1, at).map(channelOf), lines = lineWordsOf(words.slice(at + 1)).map((one) => one.value);
-    this.scans.push({ channels, lines, line: words[0].place.line });
+    this.scans.push({ channels: words.slice(1, at).map(channelOf), lines: this.scanLines(words.slice(at + 1)), line: words[0].place.line });
+  }
+
+  // The line words of a scan; scans that say the same have the same list.
+  scanLines(words) {
+    const said = words.map((word) => word.text).join(" ");
+    if (!this.saidLines.has(said)) this.saidLines.set(said, lineWordsOf(words).map((one) => one.value));
+    return this.saidLines.get(said);
   }
 
   takeMicrom(words) {
@@ -113,9 +120,9 @@ const KINDS = Object.assign(Object.create(null), {
   "microm": "takeMicrom", "jumpers": "takeJumpers", "external": "takeExternal",
 });
 
-function joined(section, entries, words) {
+function add(section, entries, words) {
   if (section.length + entries.length > MOST_ENTRIES) throw new TextError(`more than ${MOST_ENTRIES} entries in a section`, words[0].place);
-  return section.concat(entries);
+  for (const one of entries) section.push(one);
 }
 
 // A reading in tenths of a degree, or null for no card.

@@ -17,7 +17,7 @@ import { CAUSE, MODE, hex } from "./layout.mjs";
 import { joinedText } from "./patching.mjs";
 import { readFile } from "./files.mjs";
 import { makeTabs, openTab } from "./tabs.mjs";
-import { textOf } from "./job.mjs";
+import { isPatch, patchOf, textOf } from "./job.mjs";
 
 const GIVEN = globalThis.GIVEN, MOST_TO_A_STOP = 1e9, MOST_STEPS = 1e9, BETWEEN_PROGRESS = 300; // milliseconds
 const FIRST = "card-pulled.txt";
@@ -80,19 +80,28 @@ function assemble() {
   show();
 }
 
-// What is opened: a job's text or bytes, a saved desk, or a trace of the job.
+// What is opened: a job's text or bytes, a patch, a saved desk, or a trace of the job.
 async function opened(file, isTrace = false) {
   if (runner.running) return tell("Stop the run first.", true);
   const read = await readFile(file, isTrace);
   if (read.wrong) return tell(read.wrong, true);
   if (read.kind === "trace") return openTab("trace"), trace.check(read.name, read.bytes);
   if (read.kind === "saved") return back(read);
+  if (read.kind === "job" && isPatch(read.text)) return openedPatch(read);
   const text = read.kind === "job" ? read.text : textOfBytes(read);
   if (text === null) return;
   job.text = text, patch.text = "";
   load(read.name);
   if (desk.text !== text) tell(`${at("told").textContent} The desk still has ${desk.name}.`, true);
   else openTab(desk.scans.length > 0 ? "recorder" : "job");
+}
+
+// A patch stands in its tab, and goes into the image of the job that is on the desk once it is assembled.
+function openedPatch({ name, text }) {
+  patch.text = text;
+  openTab("patch");
+  if (trying(patch, name, () => patchOf(text, library, words)))
+    tell(`${name} is a patch, and stands in the tab Patch: Assemble puts it into the image of ${desk.name}.`);
 }
 
 // A job's bytes are laid out by the library, beside the desk, and shown as text.

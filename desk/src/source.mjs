@@ -2,13 +2,12 @@
 // A line may be indented, and its blanks may be tabs or many. ; begins a comment, and so does # at the line's beginning or between
 // blanks. A label may stand for the word of .WORD: it is put into digits from the assembler's own table of labels.
 import { MOST_SOURCE_LINES, SOURCE_LINE, hex } from "./layout.mjs";
+import { diagnosed } from "./needed.mjs";
 import { grouped } from "./words.mjs";
 import { LABEL, TextError, isHex, isLabel, placed } from "./text.mjs";
 
 const WORD_OF_LABEL = new RegExp(`^(?:${LABEL}: )?\\.WORD (${LABEL})$`);
 const GIVEN_LABEL = new RegExp(`^(${LABEL}):`);
-const OPERANDS = "R1, @R1, (R1)+, @(R1)+, -(R1), @-(R1), 1234(R1), @1234(R1), #1234 or @#1234";
-const ALIASES = [["BHIS ", "BCC "], ["BLO ", "BCS "], ["CALL ", "JSR PC,"], ["JMP ", "LEA PC,"]];
 
 // A line as the assembler takes it, with the column, from 1, of each of its characters in the line that it was.
 class SourceLine {
@@ -22,6 +21,11 @@ class SourceLine {
 
   place(at, width = 1) {
     return placed(this.line, at < this.columns.length ? this.columns[at] : this.columns.at(-1) + 1, Math.max(1, width));
+  }
+
+  // The place of all that stands after its label.
+  whole() {
+    return this.place(this.said, this.text.length - this.said);
   }
 
   // Whether the line comes to words, rather than to a label or an origin alone.
@@ -63,9 +67,14 @@ export class Source {
   // Lines of a text, and the library that assembles them.
   constructor(lines, library, words) {
     this.library = library, this.words = words;
-    this.lines = lines.map(sourceLine).filter((line) => line !== null);
-    if (this.lines.length > MOST_SOURCE_LINES)
-      throw new TextError(`36: a source has ${grouped(MOST_SOURCE_LINES)} lines at most`, this.lines[MOST_SOURCE_LINES].place(0));
+    this.lines = [];
+    for (const one of lines) {
+      const line = sourceLine(one);
+      if (line === null) continue;
+      if (this.lines.length === MOST_SOURCE_LINES)
+        throw new TextError(`36: a source has ${grouped(MOST_SOURCE_LINES)} lines at most`, line.place(0));
+      this.lines.push(line);
+    }
   }
 
   // The lines with digits for the labels of .WORD; before they are known, 0000.
@@ -96,6 +105,15 @@ export class Source {
     return told.pairs;
   }
 
+  // The place of the line that has the word at an address; `all` are the lines' addresses.
+  placeOf(address, all) {
+    let found = null;
+    this.lines.forEach((line, n) => {
+      if (line.hasWords() && all[n] <= address && (found === null || all[found] <= all[n])) found = n;
+    });
+    return this.lines[found]?.whole() ?? null;
+  }
+
   // ---- what is wrong with a line, and where; the number is the assembler's
 
   refused(why, at) {
@@ -103,7 +121,7 @@ export class Source {
     if (why === 24) return this.unknown(line);
     if (why === 25) return this.again(line);
     if (why === 26 || why === 27) return this.labelled(why, line);
-    return new TextError(`${why}: ${this.words.of("refusal", why)}`, line.place(line.said, line.text.length - line.said));
+    return new TextError(`${why}: ${this.words.of("refusal", why)}`, line.whole());
   }
 
   unknown(line) {
@@ -113,19 +131,8 @@ export class Source {
     if (head !== "" && text !== "" && line.text[line.said - 1] !== " ")
       return new TextError("24: a blank stands after a label's colon", line.place(line.said));
     if (text[0] === ".") return directive(line, text);
-    const { why, column } = this.furthest(text);
-    return new TextError(`24 (${why}): ${needed(why, text, column)}`, line.place(line.said + column));
-  }
-
-  // The library's number and column for the text of an op code. It has no labels and aliases: each label stands as a branch's field
-  // or as a relative operand, whichever gets further.
-  furthest(text) {
-    const tries = ["00", "0000(PC)"].map((stands) => {
-      const { plain, columns } = plainText(text, stands), { why, column } = this.library.readText(plain);
-      if (why === 0) return { why: 30, column: Math.min(text.length, text.indexOf(" ") + 1) };
-      return { why, column: columns[column] ?? text.length };
-    });
-    return tries[1].column > tries[0].column ? tries[1] : tries[0];
+    const { why, column, words } = diagnosed(this.library, text);
+    return new TextError(`24 (${why}): ${words}`, line.place(line.said + column));
   }
 
   again(line) {
@@ -145,24 +152,6 @@ export class Source {
   }
 }
 
-// The text with what stands for its labels and an alias's own name, and for each character the column in the text.
-function plainText(text, stands) {
-  let plain = "";
-  const columns = [], add = (part, column) => { for (const character of part) plain += character, columns.push(column); };
-  const alias = ALIASES.find(([name]) => text.startsWith(name));
-  if (alias) add(alias[1], 0);
-  const operands = new RegExp(`(?<=[ ,]@?)(${LABEL})(?=[ ,]|$)`, "g");
-  let at = alias ? alias[0].length : 0;
-  for (const found of text.matchAll(operands)) {
-    if (!isLabel(found[1]) || ["SP", "PC"].includes(found[1]) || found.index < at) continue;
-    for (; at < found.index; at++) add(text[at], at);
-    add(stands, at);
-    at += found[1].length;
-  }
-  for (; at < text.length; at++) add(text[at], at);
-  return { plain, columns };
-}
-
 function directive(line, text) {
   const name = text.split(" ")[0], value = text.slice(name.length + 1);
   if (name !== ".WORD" && name !== ".ORG")
@@ -170,19 +159,4 @@ function directive(line, text) {
   const example = isHex(value) && value.length <= 4 ? value.toUpperCase().padStart(4, "0") : "0080";
   const at = Math.min(line.said + name.length + 1, line.text.length);
   return new TextError(`24: four hex digits are needed: ${name} ${example}`, line.place(at, value.length));
-}
-
-// What is needed at the column of an op code's text.
-function needed(why, text, column) {
-  if (why === 9) return `${text.split(" ")[0]} is no mnemonic${/[a-z]/.test(text) ? "; letters are upper case" : ""}`;
-  if (why === 31) return "the text is whole before this; a comment begins with ; or with # between blanks";
-  if (why === 32) return "the line ends too early: something is missing after it";
-  const begin = Math.max(text.lastIndexOf(",", column - 1), text.lastIndexOf(" ", column - 1)) + 1;
-  const [, sign, digits, rest] = /^(@?#?)([0-9A-Fa-f]{0,8})(.*)$/.exec(text.slice(begin).split(/[, ]/)[0]);
-  const immediate = sign.endsWith("#"), indexed = rest.startsWith("(") && !rest.startsWith("()");
-  if ((immediate || indexed) && (digits !== "" || immediate) && !/^[0-9A-F]{4}$/.test(digits))
-    return `four hex digits are needed: ${sign}${digits.toUpperCase().slice(-4).padStart(4, "0")}${rest}`;
-  if (/[a-z]/.test(text[column] ?? "")) return "letters are upper case";
-  if (text[column] === " ") return "no blank stands here";
-  return `an operand is needed, ${OPERANDS}`;
 }

@@ -12,6 +12,7 @@ import { nextScan, reports, tableOf } from "../src/recorder.mjs";
 import { TextError } from "../src/text.mjs";
 import { Words } from "../src/words.mjs";
 import { more } from "./logic_runs.mjs";
+import { textChecks } from "./logic_texts.mjs";
 
 process.chdir(new URL("../..", import.meta.url).pathname);
 const asked = ["desk/build.py", "--module", process.argv[2], "--given"];
@@ -177,6 +178,7 @@ function listingAround() {
 async function main() {
   lines(), listings(), tables(), refusals(), listingAround();
   checks += await more({ given, words, newDesk, snapshot });
+  checks += textChecks({ given, words, newDesk });
   console.log(`${checks} checks, all right`);
 }
 

@@ -1,8 +1,6 @@
 // The part of logic.mjs that runs: stops, steps taken back, the recorder's pictures, traces, files saved and read.
 import assert from "node:assert";
 import fs from "node:fs";
-import { joinedText } from "../src/patching.mjs";
-import { jobOf, textOf } from "../src/job.mjs";
 import { CAUSE, PAGE, STATE, hex, wordAt } from "../src/layout.mjs";
 import { picture } from "../src/picture.mjs";
 import { averageDegrees, gaps, limitOf, nextScan, over } from "../src/recorder.mjs";
@@ -187,33 +185,6 @@ export async function more({ given, words, newDesk, snapshot: of }) {
     same("nothing is changed by those", was, snapshot(fresh));
   }
 
-  // A job with its patch and its board is one text, and reads to the same job; a job's bytes give a text that reads to them.
-  function texts() {
-    const text = ["pages 00", "0012 = 0090 0080 0080 # vectors", ".ORG 0080", "START: MOV #0005,R1", "AGAIN: ADD R1,R0", "INC R2",
-      "SOB R1,AGAIN", "DONE: BR DONE", "lines 0000 x17", ""].join("\n");
-    const patch = "ST: .ORG 0014\n.WORD 1234\n.ORG 0082\n.WORD 0009\n.ORG 0088\nNOP", board = [0, 1, 2, 0x2F];
-    const joined = (job, beside, on) => joinedText(job, beside, on, desk.library, words);
-    const read = (job, beside = "") => jobOf(job, beside, desk.library, words);
-    const inHex = ({ bytes }) => Buffer.from(bytes).toString("hex"), again = read(joined(text, patch, board));
-    same("one text", inHex(read(text, patch)), inHex(again));
-    same("its board", board, again.board);
-    same("its labels", 0x84, again.labels.get("AGAIN"));
-    const twice = ".ORG 00A0\nDONE: BR DONE\nAGAIN: BR AGAIN";
-    same("labels that both give", inHex(read(text, twice)), inHex(read(joined(text, twice, [1, 3, 3, 0]))));
-    const never = thrown(() => joined("pages 00\nMOV: BR MOV", ".ORG 00A0\nMOV: MOV R0,R1", [1, 3, 3, 0]));
-    same("what doesn't go into one", "the job and its patch don't go into one text", never.slice(0, 44));
-    for (const name of Object.keys(given.samples).filter((one) => !one.startsWith("refused"))) {
-      load(name);
-      const made = textOf(desk.library.image, desk.library.map, desk.lines);
-      const kept = { image: desk.library.image.slice(), map: desk.library.map.slice(), lines: desk.lines };
-      desk.load("again", made);
-      same(`${name}: image from its bytes`, kept.image, desk.library.image.slice());
-      same(`${name}: map and lines from its bytes`, [kept.map, kept.lines], [desk.library.map.slice(), desk.lines]);
-      const right = read(...given.samples[name]), [job, beside] = given.samples[name];
-      same(`${name} saved`, inHex(right), inHex(read(joined(job, beside, right.board))));
-    }
-  }
-
   // A million steps, in slices, and stopped in between.
   async function million() {
     load("sob.txt");
@@ -225,6 +196,6 @@ export async function more({ given, words, newDesk, snapshot: of }) {
   }
 
   await runs(), await stops(), await writes(), await backwards();
-  recorder(), traces(), await lunch(), texts(), await million();
+  recorder(), traces(), await lunch(), await million();
   return checks;
 }

@@ -20,6 +20,13 @@ export function fileParts({ browser, reads, holds, click, fill, choose, tab, idl
     await reads("told", /^The patch: line 2, column 8: 26: no line gives the label AWAY\. Nothing was changed\.$/);
     await fill("patch-editor textarea", ".ORG 0084\nAGAIN: SOB R1,AGAIN"), await click("assemble");
     await reads("told", /^1 word of the patch put into the image\.$/);
+    await fill("patch-editor textarea", ".ORG 0084\nSOB R1,4"), await click("assemble");
+    await reads("told", /^The patch: line 2, column 8: 24 \(30\): two hex digits are needed: 04\. Nothing was changed\.$/);
+    await give("file", "own.asm", fs.readFileSync("jobs/patch.asm"));
+    await reads("told", /^own\.asm is a patch, and stands in the tab Patch: Assemble puts it into the image of card-pulled\.txt\.$/);
+    await click("assemble"), await reads("told", /^7 words of the patch put into the image\./);
+    await give("file", "bad.asm", "NOP\nNOPE");
+    await reads("told", /^bad\.asm: line 2, column 4: 24 \(31\): .* Nothing was changed\.$/);
     await fill("patch-editor textarea", ".ORG 4000\nNOP"), await click("assemble");
     await reads("told", /^Nothing is fitted at 4000/);
     await fill("patch-editor textarea", ".ORG 0080\nMOV #0007,R1"), await click("assemble");
@@ -51,6 +58,8 @@ export function fileParts({ browser, reads, holds, click, fill, choose, tab, idl
     await reads("told", /^cut\.bin is no job: refused, 11, /);
     await give("file", "strange.txt", Buffer.from([0x70, 0xFF, 0x70]));
     await reads("told", /^strange\.txt, line 1, column 2: no text: a byte is not UTF-8\.$/);
+    await give("file", "long.txt", "pages 00\n".repeat(120000));
+    await reads("told", /^long\.txt has 1,080,000 bytes, and the desk takes 1,048,576 at most: nothing was read\.$/);
     const big = path.join(browser.folder, "big.bin");
     fs.closeSync(fs.openSync(big, "w")), fs.truncateSync(big, 100 << 20);
     const begun = Date.now();
