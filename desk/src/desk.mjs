@@ -3,6 +3,7 @@ import { BENCH_BOARD, CAUSE, LINE, MODE, PAGE, REGISTERS, STATE, even, hex, page
 import { History } from "./history.mjs";
 import { Log, changesIn, changedWords } from "./log.mjs";
 import { jobOf, patchOf } from "./job.mjs";
+import { TextError } from "./text.mjs";
 import { isBlank } from "./words.mjs";
 
 const KEPT = ["state", "image", "map", "settings", "recorder"];
@@ -26,7 +27,9 @@ export class Desk {
     this.library.recorder.fill(0);
     this.plugged = this.library.map.slice();
     this.taken = 0, this.scansMade = 0, this.rows = [], this.switches = 0, this.useOwn = true;
-    this.scans = made.scans, this.labels = made.labels, this.starts = new Set(made.starts.map(even));
+    this.scans = made.scans, this.labels = made.labels;
+    this.written = new Set(made.starts.map(even)); // where lines of the text and of the patch begin
+    this.starts = new Set(this.written); // and where steps began
     this.history = new History();
     this.log.clear();
     this.powerUp("loaded and powered up");
@@ -56,14 +59,15 @@ export class Desk {
 
   kept() {
     const buffers = KEPT.map((name) => [name, this.library[name].slice()]);
-    const { taken, steps, scansMade } = this;
-    return { ...Object.fromEntries(buffers), plugged: this.plugged.slice(), taken, steps, scansMade, rows: this.rows.length };
+    const { taken, steps, scansMade, job, patch, labels, written } = this, plugged = this.plugged.slice();
+    return { ...Object.fromEntries(buffers), plugged, taken, steps, scansMade, rows: this.rows.length, job, patch, labels, written };
   }
 
   bring(kept) {
     for (const name of KEPT) this.library[name].set(kept[name]);
     this.plugged.set(kept.plugged);
     this.taken = kept.taken, this.steps = kept.steps, this.scansMade = kept.scansMade, this.rows.length = kept.rows;
+    this.job = kept.job, this.patch = kept.patch, this.labels = kept.labels, this.written = kept.written;
   }
 
   // From here on what changes is marked.
@@ -210,6 +214,12 @@ export class Desk {
     this.done(`page ${hex(page, 2)} ${map[page] === PAGE.unfitted ? "pulled" : "plugged in"}`);
   }
 
+  // Whether every card is as the job has it.
+  hasItsCards() {
+    this.library.jobRefusal(this.job.bytes);
+    return this.library.map.every((kind, page) => kind === this.library.trialMap[page]);
+  }
+
   // Makes a fitted page read-only, or writable again.
   protect(page) {
     const { map } = this.library;
@@ -249,10 +259,23 @@ export class Desk {
     const missing = pairs.filter(([address]) => this.library.map[pageOf(address)] === PAGE.unfitted).map(([address]) => address);
     if (missing.length > 0) return { missing, count: pairs.length };
     for (const [address, word] of pairs) putWord(this.library.image, address, word);
-    this.patch = source;
+    this.patch = source, this.job = this.jobWith(source);
     this.labels = new Map([...this.labels, ...labels]);
-    addresses.forEach((address) => this.starts.add(even(address)));
+    const over = new Set(pairs.map(([address]) => address)), begin = addresses.map(even);
+    this.written = new Set([...[...this.written].filter((address) => !over.has(address)), ...begin]);
+    this.starts = new Set([...[...this.starts].filter((address) => !over.has(address)), ...begin]);
     this.done(`a patch of ${pairs.length} words put into the image`);
     return { missing, count: pairs.length };
+  }
+
+  // The job with a patch that was put into the image; where that makes none, as on a card that the job's text doesn't fit, the job as
+  // it was.
+  jobWith(patch) {
+    try {
+      return this.reread(this.text, patch);
+    } catch (why) {
+      if (why instanceof TextError) return { ...this.job, unpatched: true };
+      throw why;
+    }
   }
 }

@@ -42,7 +42,7 @@ function entries({ source, all, pairs }, inPatch) {
   return pairs.map(([address, value]) => ({ address, value, inPatch, assembled: true, get place() { return source.placeOf(address, all); } }));
 }
 
-// { bytes, lines .., scans, board, labels, starts } of a text and the text of a patch, or a TextError; `inPatch` tells whose line.
+// { bytes, scans, board, labels, starts .. } of a text and the text of a patch, or a TextError; `inPatch` tells whose line.
 export function jobOf(text, patchText, library, words) {
   const job = readLines(text);
   if (!job.begun && patchText.trim() === "") throw new TextError("no line of the text says anything");
@@ -60,8 +60,10 @@ export function jobOf(text, patchText, library, words) {
   const mine = entries({ source: own, all: told.all, pairs: ownPairs }, false);
   const all = patched(patched(job.words, mine), entries(beside, true));
   const sections = { pages: job.pages, words: all, lines: job.lines, readOnly: job.readOnly };
-  const starts = [...job.words.filter((one) => one.begins).map((one) => one.address), ...told.addresses, ...beside.addresses];
-  const made = { sections, bytes: wholeBytes(sections, job), scans: job.scans, board: job.board, labels, starts, patch: beside.pairs };
+  const over = new Set(beside.pairs.map(([address]) => address)), begin = job.words.filter((one) => one.begins).map((one) => one.address);
+  const starts = [...[...begin, ...told.addresses].filter((address) => !over.has(address)), ...beside.addresses];
+  const bytes = wholeBytes(sections, job), { scans, board } = job;
+  const made = { sections, bytes, scans, board, labels, starts, patch: beside.pairs, patched: over.size, unpatched: false };
   refuseByNumber(made, job, library, words);
   return made;
 }

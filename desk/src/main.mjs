@@ -16,7 +16,8 @@ import { bringBack, savedText } from "./saved.mjs";
 import { CAUSE, MODE, hex } from "./layout.mjs";
 import { joinedText } from "./patching.mjs";
 import { readFile } from "./files.mjs";
-import { makeTabs, openTab } from "./tabs.mjs";
+import { makeAlarm, makeDrop, makeKeys, makeLeaving } from "./window.mjs";
+import { makeTabs, openTab, tabNow } from "./tabs.mjs";
 import { isPatch, patchOf, textOf } from "./job.mjs";
 
 const GIVEN = globalThis.GIVEN, MOST_TO_A_STOP = 1e9, MOST_STEPS = 1e9, BETWEEN_PROGRESS = 300; // milliseconds
@@ -30,6 +31,10 @@ const job = new Editor(at("job-editor"), "text of the job", () => load());
 const patch = new Editor(at("patch-editor"), "text of the patch", () => assemble(), ".ORG 0080\nLOOP: SOB R0,LOOP");
 const processor = new ProcessorView(desk, stops, show), board = new BoardView(desk, stops, show);
 const recorder = new RecorderView(desk, about, show, repeat), trace = new TraceView(desk, show);
+
+let safe = ""; // what was done, when it was last loaded, saved or brought back
+
+const done = () => JSON.stringify([desk.steps, desk.log.entries.length, job.text, patch.text]);
 
 function show() {
   processor.show(), board.show(), recorder.show();
@@ -58,7 +63,8 @@ function load(name = desk.name) {
   job.clear(), patch.clear(), trace.clear();
   processor.from = null;
   recorder.limits = {};
-  const what = `${name}${desk.job.patch.length === 0 ? "" : ` with its patch of ${counted(desk.job.patch.length, "word")}`} is loaded`;
+  safe = done();
+  const what = `${name}${desk.job.patched === 0 ? "" : ` with its patch of ${counted(desk.job.patched, "word")}`} is loaded`;
   const locked = desk.mode === MODE.locked;
   tell(`${what}${locked ? ", and locked at power-up: the board can't fetch where it begins" : " and powered up"}.`, locked);
   show();
@@ -119,24 +125,30 @@ function textOfBytes({ name, bytes }) {
 function back({ name, text }) {
   let kept;
   if (!trying(null, name, () => { kept = bringBack(desk, text, GIVEN); })) return;
-  job.text = desk.text, patch.text = desk.patch;
+  job.text = kept.open.job, patch.text = kept.open.patch;
   stops.set(kept.stops), recorder.limits = kept.limits;
+  trace.clear(), openTab(kept.open.tab);
   processor.from = null;
-  tell(`${name}: the desk is as it was saved, after ${counted(desk.steps, "step")}.`);
+  safe = done();
+  const scans = desk.scans.length === 0 ? "" : ` and ${grouped(desk.scansMade)} of ${counted(desk.scans.length, "scan")}`;
+  tell(`${name}: the desk is as it was saved, with ${desk.name} after ${counted(desk.steps, "step")}${scans}.`);
   show();
 }
 
 function saveJob() {
   let text;
+  const cards = desk.hasItsCards() ? "" : " Cards that were pulled or plugged in by hand are not in it: its line pages is as it was.";
   if (trying(job, "The job", () => { text = joinedText(job.text, patch.text, [...library.settings], library, words); })) {
     download(desk.name.replace(/\.\w+$/, "") + (desk.scans.length > 0 ? ".scans" : ".txt"), text, "text/plain");
-    tell("The job is saved with its patch and its board, as one text.");
-  }
+    tell(`The job is saved with its patch and its board, as one text.${cards}`);
+  } else if (cards !== "") tell(`${at("told").textContent}${cards} Save desk for later keeps all of it.`, true);
 }
 
 function lunch() {
-  download(`${desk.name.replace(/\.\w+$/, "")}.desk.json`, savedText(desk, stops, recorder.limits, GIVEN), "application/json");
-  tell("The desk is saved as it stands. Open the file to go on.");
+  const name = `${desk.name.replace(/\.\w+$/, "")}.desk.json`, open = { job: job.text, patch: patch.text, tab: tabNow() };
+  download(name, savedText(desk, stops, recorder.limits, open, GIVEN), "application/json");
+  tell(`The desk is saved as it stands, as ${name} among the downloads. Open… that file to go on.`);
+  safe = done();
 }
 
 // ---- steps and runs
@@ -202,29 +214,7 @@ function runCount() {
   return run(Number(text), null);
 }
 
-// ---- keys, files dropped
-
-function makeKeys(tabs) {
-  const keys = { s: "step", b: "back", r: "run", u: "until", p: "power", "?": "keys" };
-  document.addEventListener("keydown", (event) => {
-    if (event.key === "Escape" && runner.running) return runner.stop();
-    const typing = /^(INPUT|TEXTAREA|SELECT)$/.test(event.target.tagName) && event.target.type !== "checkbox";
-    if (runner.running || typing || event.ctrlKey || event.altKey || event.metaKey || at("help").open) return;
-    const tab = tabs[Number(event.key) - 1];
-    if (tab) openTab(tab), at(`to-${tab}`).focus();
-    else if (event.key.toLowerCase() in keys) event.preventDefault(), at(keys[event.key.toLowerCase()]).click();
-  });
-}
-
-function makeDrop() {
-  document.addEventListener("dragover", (event) => (event.preventDefault(), document.body.classList.add("drop")));
-  document.addEventListener("dragleave", () => document.body.classList.remove("drop"));
-  document.addEventListener("drop", (event) => {
-    event.preventDefault();
-    document.body.classList.remove("drop");
-    if (event.dataTransfer.files[0]) opened(event.dataTransfer.files[0]);
-  });
-}
+// ---- the page
 
 function chooser(button, input, isTrace) {
   at(button).onclick = () => at(input).click();
@@ -233,13 +223,6 @@ function chooser(button, input, isTrace) {
     if (file) await opened(file, isTrace);
     at(input).value = "";
   };
-}
-
-// What the page did not foresee is told, never silent.
-function makeAlarm() {
-  const alarm = (why) => tell(`The page made a mistake, and not the job: ${why?.message ?? why}. Save the desk and open it again.`, true);
-  addEventListener("error", (event) => alarm(event.error ?? event.message));
-  addEventListener("unhandledrejection", (event) => alarm(event.reason));
 }
 
 function start() {
@@ -255,7 +238,7 @@ function start() {
   at("power").onclick = () => (desk.powerUp(), tell("Powered up; the job's line words begin anew."), processor.from = null, show());
   at("keys").onclick = () => at("help").showModal();
   at("load").onclick = () => load(), at("assemble").onclick = assemble, at("save-job").onclick = saveJob, at("lunch").onclick = lunch;
-  makeKeys(makeTabs()), makeDrop();
+  makeKeys(makeTabs(), runner), makeDrop(opened), makeLeaving(() => done() !== safe);
   const first = FIRST in GIVEN.samples ? FIRST : Object.keys(GIVEN.samples)[0];
   at("sample").value = first;
   sample(first);

@@ -4,11 +4,12 @@ import { lineRuns } from "./job.mjs";
 import { History } from "./history.mjs";
 import { TextError, lineWordsOf, wordsIn } from "./text.mjs";
 
-const KIND = "hitchbriar desk", FORMAT = 1;
+const KIND = "hitchbriar desk", FORMAT = 2;
 
-// The text of the file. `given` has the version of the page and the layout of the library's buffers.
-export function savedText(desk, stops, limits, given) {
-  const { library } = desk, bytes = (name) => hexOf(library[name]);
+// The text of the file. `given` has the version of the page and the layout of the library's buffers; `open` the texts of the job and of
+// the patch as they stand in their tabs, loaded or not, and the tab that is open.
+export function savedText(desk, stops, limits, open, given) {
+  const { library, job } = desk, bytes = (name) => hexOf(library[name]);
   return JSON.stringify({
     kind: KIND, format: FORMAT, layout: given.layout, version: given.version,
     name: desk.name, text: desk.text, patch: desk.patch, lines: lineRuns(desk.lines), taken: desk.taken, steps: desk.steps,
@@ -17,11 +18,13 @@ export function savedText(desk, stops, limits, given) {
     plugged: Array.from(desk.plugged).join(""), switches: desk.switches, useOwn: desk.useOwn,
     scans: desk.scans.map(({ channels, lines, line }) => ({ channels, lines: lineRuns(lines), line })),
     scansMade: desk.scansMade, rows: desk.rows,
-    labels: [...desk.labels], starts: [...desk.starts], stops, limits,
+    labels: [...desk.labels], starts: [...desk.starts], written: [...desk.written], hit: desk.hit, log: desk.log.entries,
+    job: { bytes: hexOf(job.bytes), patched: job.patched, unpatched: job.unpatched }, stops, limits, open,
   }, null, 1) + "\n";
 }
 
-// Puts a saved desk back; throws a TextError where the file is none, and then nothing is changed. Answers the stops and limits.
+// Puts a saved desk back; throws a TextError where the file is none, and then nothing is changed. Answers the stops, the limits and what
+// was open.
 export function bringBack(desk, text, given) {
   const file = parsed(text, given), { library } = desk;
   const lent = { state: bytesFrom(file.state, "state"), image: bytesFrom(file.image, "image"), map: digits(file.map, "map"),
@@ -33,15 +36,15 @@ export function bringBack(desk, text, given) {
     switches: whole(file.switches, "switches"), useOwn: file.useOwn === true, scans: list(file.scans, "scans").map(scanFrom),
     scansMade: whole(file.scansMade, "scansMade"), rows: list(file.rows, "rows").map(channels),
     labels: new Map(list(file.labels, "labels").map(labelled)), starts: new Set(addresses(file.starts, "starts")),
+    written: new Set(addresses(file.written, "written")), hit: file.hit === null ? null : whole(file.hit, "hit"), job: jobFrom(file.job),
   };
-  const stops = stopsFrom(file.stops), limits = limitsFrom(file.limits);
+  const stops = stopsFrom(file.stops), limits = limitsFrom(file.limits), log = list(file.log, "log").map(entryFrom), open = openFrom(file.open);
   if (next.taken > next.lines.length || next.scansMade > next.scans.length) throw wrong("taken or scansMade");
-  const job = desk.reread(next.text, next.patch);
   for (const [name, bytes] of Object.entries(lent)) library[name].set(bytes);
-  Object.assign(desk, next, { job, history: new History(), hit: null });
-  desk.log.clear();
+  Object.assign(desk, next, { history: new History() });
+  desk.log.entries = log;
   desk.done("brought back from a file");
-  return { stops, limits };
+  return { stops, limits, open };
 }
 
 function parsed(text, given) {
@@ -119,6 +122,23 @@ function limitsFrom(limits) {
   const good = ([channel, limit]) => Number(channel) < CHANNELS && Number.isInteger(limit);
   if (typeof limits !== "object" || limits === null || !Object.entries(limits).every(good)) throw wrong("limits");
   return limits;
+}
+
+// The job's bytes, as the check of a trace takes them.
+function jobFrom(job) {
+  const { bytes, patched, unpatched } = job ?? {};
+  if (typeof bytes !== "string" || bytes.length > 2 * SIZES.job || !/^([0-9A-F]{2})*$/.test(bytes)) throw wrong("job");
+  return { bytes: Uint8Array.from(bytes.match(/../g) ?? [], (two) => parseInt(two, 16)), patched: whole(patched, "job"), unpatched: unpatched === true };
+}
+
+// A line of what happened.
+function entryFrom(entry) {
+  const { step, at, words, bad, changes } = entry ?? {}, place = at === null ? null : addresses([at], "log")[0];
+  return { step: whole(step, "log"), at: place, words: word(words, "log"), bad: bad === true, changes: word(changes, "log") };
+}
+
+function openFrom(open) {
+  return { job: word(open?.job, "open"), patch: word(open.patch, "open"), tab: word(open.tab, "open") };
 }
 
 function lineWords(text) {

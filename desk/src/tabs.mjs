@@ -1,7 +1,10 @@
 // The tabs: one section at a time.
 import { at, made } from "./elements.mjs";
 
+export const tabNow = () => document.body.dataset.open;
+
 export function openTab(name) {
+  if (!at(`tab-${name}`)) return;
   document.body.dataset.open = name;
   for (const section of document.querySelectorAll("[data-tab]")) section.hidden = section.id !== `tab-${name}`;
   for (const tab of document.querySelectorAll("[role=tab]")) {

@@ -160,10 +160,12 @@ export async function more({ given, words, newDesk, snapshot: of }) {
     }
     const stops = new Stops();
     stops.addresses.add(0x90);
-    const file = savedText(desk, stops, { 4: 50 }, given), fresh = newDesk();
+    const open = { job: "half a job", patch: "half a patch", tab: "patch" };
+    const file = savedText(desk, stops, { 4: 50 }, open, given), fresh = newDesk();
     load("example.txt", fresh);
     const kept = bringBack(fresh, file, given);
-    same("stops and limits", { stops: stops.toJSON(), limits: { 4: 50 } }, kept);
+    same("stops, limits, and what was open", { stops: stops.toJSON(), limits: { 4: 50 }, open }, kept);
+    same("what happened, and its blank", [desk.log.entries, desk.hit], [fresh.log.entries.slice(0, -1), fresh.hit]);
     for (const one of [fresh, other]) {
       for (let n = 0; n < 3; n++) one.step();
       while (nextScan(one) !== null);
@@ -172,17 +174,38 @@ export async function more({ given, words, newDesk, snapshot: of }) {
     same("and the pictures' readings", other.rows, fresh.rows);
     const was = snapshot(fresh), changed = (change) => JSON.stringify({ ...JSON.parse(file), ...change });
     const lost = (change) => thrown(() => bringBack(fresh, changed(change), given));
-    const other99 = `a saved desk of another layout: format 1, layout 99; this page has format 1, layout ${given.layout}`;
+    const other99 = `a saved desk of another layout: format 2, layout 99; this page has format 2, layout ${given.layout}`;
     same("another layout", other99, lost({ layout: 99 }));
     same("another kind", "no saved desk: it does not say that it is one", lost({ kind: "shopping list" }));
     same("a bad map", `the saved desk is refused: ${words.refusal(3)}`, lost({ map: "9".repeat(256) }));
     same("a short image", "the saved desk's image can't be read", lost({ image: "00" }));
     same("no list", "the saved desk's rows can't be read", lost({ rows: [[1, 2]] }));
     const bad = [["stops", 3], ["stops", { causes: [], addresses: ["x"], writes: [] }], ["limits", { 99: 5 }], ["labels", [[1]]],
-      ["starts", [-1]], ["scans", [{}]], ["steps", -1], ["text", 5], ["lines", "zz"]];
+      ["starts", [-1]], ["written", 1], ["hit", "C0"], ["job", { bytes: "0" }], ["log", [{}]], ["open", null], ["scans", [{}]], ["steps", -1], ["text", 5], ["lines", "zz"]];
     for (const [name, value] of bad) same(`a bad ${name}`, true, /can't be read|not a hex number/.test(lost({ [name]: value })));
     same("a cut file", "no saved desk", thrown(() => bringBack(fresh, file.slice(0, 900), given)).slice(0, 13));
     same("nothing is changed by those", was, snapshot(fresh));
+  }
+
+  // A patch on a card that was plugged in by hand makes no job, but it runs, it is saved, and it is undone.
+  function patchOnACard() {
+    load("example.txt");
+    const plain = makeTrace(desk);
+    same("its cards are the job's", true, desk.hasItsCards());
+    desk.pull(0x10), desk.assemble(".ORG 1000\nHERE: BR HERE");
+    same("and one more", false, desk.hasItsCards());
+    same("the trace is of the job without it", [true, Buffer.from(plain)], [desk.job.unpatched, Buffer.from(makeTrace(desk))]);
+    const open = { job: desk.text, patch: desk.patch, tab: "cards" }, fresh = newDesk();
+    load("sob.txt", fresh), bringBack(fresh, savedText(desk, new Stops(), {}, open, given), given);
+    same("it is brought back", [snapshot(), ".ORG 1000\nHERE: BR HERE"], [snapshot(fresh), fresh.patch]);
+    same("with its job", [true, Buffer.from(plain)], [fresh.job.unpatched, Buffer.from(makeTrace(fresh))]);
+    load("example.txt"), desk.assemble(".ORG 0080\nMOVI 08,SP");
+    const patched = makeTrace(desk);
+    same("a patch of the job is in its trace", [1, "0008"], [desk.job.patched, hex(wordAt(patched, 2 + 12))]);
+    load("example.txt", fresh), bringBack(fresh, savedText(desk, new Stops(), {}, open, given), given);
+    same("after lunch too", Buffer.from(patched), Buffer.from(makeTrace(fresh)));
+    desk.back();
+    same("and not once it is undone", ["", Buffer.from(plain)], [desk.patch, Buffer.from(makeTrace(desk))]);
   }
 
   // A million steps, in slices, and stopped in between.
@@ -196,6 +219,6 @@ export async function more({ given, words, newDesk, snapshot: of }) {
   }
 
   await runs(), await stops(), await writes(), await backwards();
-  recorder(), traces(), await lunch(), await million();
+  recorder(), traces(), await lunch(), patchOnACard(), await million();
   return checks;
 }

@@ -191,7 +191,7 @@ async function wholePage(width) {
 
 try {
   await browser.open(page, 1280, 860);
-  const tools = { browser, reads, holds, click, fill, choose, tab, idle, shot, give };
+  const tools = { page, browser, reads, holds, click, fill, choose, tab, idle, shot, give };
   for (const part of [stepping, keys, cards, memory, stops, lines, ...fileParts(tools), long])
     await part().catch((why) => { throw new Error(`${part.name}: ${why.message}`, { cause: why }); });
   const all = await browser.run(`[...document.querySelectorAll("button[id], input[id], select[id]")].map((e) => e.id)`);

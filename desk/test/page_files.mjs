@@ -3,7 +3,7 @@ import assert from "node:assert";
 import fs from "node:fs";
 import path from "node:path";
 
-export function fileParts({ browser, reads, holds, click, fill, choose, tab, idle, shot, give }) {
+export function fileParts({ page, browser, reads, holds, click, fill, choose, tab, idle, shot, give }) {
   async function texts() {
     await choose("sample", "card-pulled.txt"), await tab("job");
     await fill("job-editor textarea", "pages 00\n0016 = 0080\n0080 = zz\n"), await click("load");
@@ -39,7 +39,10 @@ export function fileParts({ browser, reads, holds, click, fill, choose, tab, idl
     await reads("told", /^'40' is not an External Address Register/);
     await fill("external", "2F"), await reads("told", /^External Address Register set to 2F/);
     await reads("status", /PS 09/);
-    await click("save-job");
+    await tab("cards"), await click("page-40"), await click("save-job");
+    await reads("told", /^The job is saved .* Cards that were pulled or plugged in by hand are not in it: its line pages is as it was\.$/);
+    await click("back"), await click("save-job");
+    await reads("told", /^The job is saved with its patch and its board, as one text\.$/);
     const text = fs.readFileSync(await browser.given("card-pulled.txt"), "utf8");
     assert.match(text, /microm no\njumpers up 1 halt 2\nexternal 2F\n; the patch\n\.ORG 0000\n\.ORG 0080\nMOV #0007,R1\n$/);
     assert.match(text, /; under the patch: START: MOV #0003,R1\nSTART:\n/);
@@ -73,7 +76,7 @@ export function fileParts({ browser, reads, holds, click, fill, choose, tab, idl
   async function traces() {
     await choose("sample", "example.txt"), await tab("trace"), await click("check");
     await give("trace-file", "wrong.trace", fs.readFileSync("jobs/example-wrong.trace"));
-    await reads("told", /^wrong\.trace is wrong at step 1: PS is 8F00, right is 0F00\.$/);
+    await reads("told", /^wrong\.trace is wrong at step 1: PS is 8F00, right is 0F00 \(the job example\.txt\)\.$/);
     await reads("beside", /theirs.*8F00.*ours.*0F00/);
     await shot("trace");
     await click("show-step"), await reads("told", /^The desk stands before step 1/);
@@ -105,15 +108,24 @@ export function fileParts({ browser, reads, holds, click, fill, choose, tab, idl
     await browser.send("Emulation.setEmulatedMedia", { media: "" });
   }
 
+  // Whether the page is left without asking.
+  const leaves = () => browser.run("dispatchEvent(new Event('beforeunload', { cancelable: true }))");
+
   async function lunch() {
+    await tab("patch"), await fill("patch-editor textarea", "HALF: MOV #00"), await tab("recorder");
+    assert.strictEqual(await leaves(), false);
     await click("step"), await click("lunch");
+    assert.strictEqual(await leaves(), true);
     const all = () => browser.run("[...document.querySelectorAll('#registers input')].map((e) => e.value).join()");
     const file = await browser.given("pulled-card.desk.json"), registers = await all();
-    await choose("sample", "example.txt");
+    await browser.open(page, 1280, 860);
     await give("file", "lunch.json", fs.readFileSync(file));
-    await reads("told", /^lunch\.json: the desk is as it was saved, after 147 steps\.$/);
+    await reads("told", /^lunch\.json: the desk is as it was saved, with pulled-card\.scans after 147 steps and 12 of 12 scans\.$/);
     assert.strictEqual(await all(), registers);
+    await reads("log", /brought back from a file.*Scan 5: no card in channel 4/);
+    assert.strictEqual(await browser.run("document.querySelector('#tab-recorder').hidden"), false);
     await reads("report", /481\/86\.0114\.0/);
+    assert.strictEqual(await browser.run("document.querySelector('#patch-editor textarea').value"), "HALF: MOV #00");
     await give("file", "torn.json", fs.readFileSync(file, "utf8").slice(0, 500));
     await reads("told", /^torn\.json: no saved desk: .* Nothing was changed\.$/);
   }
