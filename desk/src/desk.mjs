@@ -153,9 +153,10 @@ export class Desk {
     return 0;
   }
 
-  // Where a step begins, and what stands there.
+  // Where a step begins, what stands there, and what stands after it.
   here() {
-    return { at: this.pc, text: this.library.listLine(even(this.pc)).text, wasHalted: this.mode === MODE.powerFail };
+    const { text, next } = this.library.listLine(even(this.pc));
+    return { at: this.pc, text, next, wasHalted: this.mode === MODE.powerFail };
   }
 
   // Runs the steps of a part again from its kept state, the last by itself, and answers where that began.
@@ -180,7 +181,8 @@ export class Desk {
     this.starts.add(even(from.at));
     this.hit = this.told === null ? null : pageOf(this.told);
     const bad = isBlank(this.cause) || this.cause === CAUSE.lock;
-    this.log.add(this.steps - 1, from.at, this.inWords(from.text, from.wasHalted), bad, changesIn(this.before, this.library));
+    const straight = this.cause === CAUSE.nothing ? this.pc : from.next, changes = changesIn(this.before, this.library, straight);
+    this.log.add(this.steps - 1, from.at, this.inWords(from.text, from.wasHalted), bad, changes);
   }
 
   // What the last step was.
@@ -189,6 +191,12 @@ export class Desk {
     const doing = this.cause === CAUSE.blankOpCode ? `${text}: ` : "";
     const where = this.told === null ? "" : `: ${this.words.blank(this.told, this.library.map)}`;
     return `${doing}${this.words.cause(this.cause)}${where}`;
+  }
+
+  // Where the last step began, if it met a blank or locked; else null.
+  get badAt() {
+    const last = this.log.entries.findLast((entry) => entry.at !== null);
+    return last?.bad && last.step === this.steps - 1 ? even(last.at) : null;
   }
 
   // Takes the last step back, or what was done since it; answers in words what was undone, "" for a step, or null for nothing.

@@ -52,6 +52,13 @@ export function wayOf(desk, row) {
     for (let n = 0; n < 7; n++) putWord(tried, 2 * n, 2);
     target = goes(tried);
   }
-  const label = labelAt(desk, target), taken = now === target ? ", taken now" : ", not taken now";
-  return { target, now, words: `→ ${hex(target)}${label === "" ? "" : ` ${label}`}${row.address === even(desk.pc) ? taken : ""}` };
+  const label = labelAt(desk, target), within = opCodeAround(desk, target), taken = now === target ? ", taken now" : ", not taken now";
+  const where = within !== null ? `, inside the op code at ${hex(within)}` : label === "" ? "" : ` ${label}`;
+  return { target, now, bad: within !== null, words: `→ ${hex(target)}${where}${row.address === even(desk.pc) ? taken : ""}` };
+}
+
+// Where the op code begins that an address is a later word of, by the lines of the text and of the patch; null where it is of none.
+function opCodeAround(desk, address) {
+  const covers = (at) => desk.written.has(at) && 2 * desk.library.listLine(at).words.length > address - at;
+  return desk.written.has(address) ? null : [address - 2, address - 4].find(covers) ?? null;
 }

@@ -36,13 +36,15 @@ export function changedWords(before, after) {
   return found;
 }
 
-// What a step changed, in a line: R2=C000 N=1 000E:=4F08. PC moves with every op code, and is shown elsewhere.
-export function changesIn(before, after) {
+// What a step changed, in a line: R2=C000 PC=0090 N=1 000E:=4F08. PC is told where it is not `straight`, at the next op code.
+export function changesIn(before, after, straight) {
   const parts = [];
   for (let n = 0; n < 7; n++) {
     const now = wordAt(after.state, 2 * n);
     if (wordAt(before.state, 2 * n) !== now) parts.push(`${REGISTERS[n]}=${hex(now)}`);
   }
+  const pc = wordAt(after.state, STATE.pc);
+  if (pc !== straight) parts.push(`PC=${hex(pc)}`);
   const was = before.state[STATE.indicators], is = after.state[STATE.indicators];
   for (const [name, bit] of INDICATORS) if ((was ^ is) & bit) parts.push(`${name}=${is & bit ? 1 : 0}`);
   if (before.state[STATE.i2] !== after.state[STATE.i2]) parts.push(`I2=${after.state[STATE.i2]}`);

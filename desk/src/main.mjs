@@ -82,7 +82,7 @@ function assemble() {
   patch.clear();
   if (told.missing.length > 0)
     return tell(`Nothing is fitted at ${hex(told.missing[0])}, where the patch has a word: nothing was changed.`, true);
-  tell(`${counted(told.count, "word")} of the patch put into the image.`);
+  tell(`${counted(told.count, "word")} of the patch put into the image. PC is where it was: Power up begins anew.`);
   show();
 }
 
@@ -189,12 +189,13 @@ async function run(most, asked) {
   const from = desk.steps, place = desk.pc;
   busy(true);
   at("stop").focus();
+  at("progress").removeAttribute("value"); // how far a run to a stop is, nobody knows
   let next = 0; // when it is told again how far the run is: not too often for who listens to it
   const end = await runner.run(most, asked, (done) => {
-    at("progress").max = Math.min(most, 1e6 * Math.ceil((done + 1) / 1e6)), at("progress").value = done;
+    if (asked === null) at("progress").max = most, at("progress").value = done;
     if (performance.now() < next) return;
     next = performance.now() + BETWEEN_PROGRESS;
-    tell(`${grouped(done)} steps${most < MOST_TO_A_STOP ? ` of ${grouped(most)}` : ""} …`);
+    tell(asked === null ? `${grouped(done)} steps of ${grouped(most)} …` : `${grouped(done)} steps and no stop yet: Stop or Esc ends the run.`);
   });
   busy(false);
   processor.from = null;
@@ -235,7 +236,7 @@ function start() {
   at("step").onclick = step, at("back").onclick = stepBack;
   at("run").onclick = runCount, at("until").onclick = () => run(MOST_TO_A_STOP, stops), at("stop").onclick = () => runner.stop();
   at("count").onkeydown = (event) => { if (event.key === "Enter") runCount(); };
-  at("power").onclick = () => (desk.powerUp(), tell("Powered up; the job's line words begin anew."), processor.from = null, show());
+  at("power").onclick = () => (desk.powerUp(), tell("Powered up: memory and cards stay as they are, the job's line words begin anew."), processor.from = null, show());
   at("keys").onclick = () => at("help").showModal();
   at("load").onclick = () => load(), at("assemble").onclick = assemble, at("save-job").onclick = saveJob, at("lunch").onclick = lunch;
   makeKeys(makeTabs(), runner), makeDrop(opened), makeLeaving(() => done() !== safe);

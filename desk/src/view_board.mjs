@@ -46,7 +46,7 @@ export class BoardView {
     this.pages.forEach((button, page) => {
       const kind = desk.library.map[page], hit = page === desk.hit;
       button.className = `${["", "fitted", "rom"][kind]}${hit ? " hit" : ""}`;
-      const words = `page ${hex(page, 2)}: ${desk.words.of("page", kind)}${hit ? ", the blank is here" : ""}`;
+      const words = `page ${hex(page, 2)}: ${desk.words.of("page", kind)}${hit ? ", the last blank was here" : ""}`;
       button.title = words;
       button.setAttribute("aria-label", words);
     });

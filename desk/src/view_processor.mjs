@@ -2,7 +2,7 @@
 import { INDICATORS, LINE, MODE, REGISTERS, STATE, even, hex, wordAt } from "./layout.mjs";
 import { at, hexFrom, made, pressed, tell } from "./elements.mjs";
 import { rowsAround, wayOf } from "./listing.mjs";
-import { grouped } from "./words.mjs";
+import { counted, grouped } from "./words.mjs";
 
 const ROWS = 14, LOGGED = 200;
 const SWITCHES = [["i0", LINE.i0], ["i1", LINE.i1], ["i3", LINE.i3], ["fail", LINE.powerFail]];
@@ -51,7 +51,9 @@ export class ProcessorView {
     this.cells.forEach((cell, n) => {
       cell.value = hex(desk.register(n));
       cell.classList.remove("wrong");
-      cell.parentElement.className = wordAt(before.state, 2 * n) === desk.register(n) ? "" : "changed";
+      const changed = wordAt(before.state, 2 * n) !== desk.register(n);
+      cell.parentElement.className = changed ? "changed" : "";
+      cell.setAttribute("aria-label", `${REGISTERS[n]}${changed ? ", changed" : ""}`);
     });
     const flags = INDICATORS.map(([name, bit]) => {
       const changed = (before.state[STATE.indicators] ^ state[STATE.indicators]) & bit;
@@ -60,7 +62,7 @@ export class ProcessorView {
     const held = state[STATE.mark] ? ", held for one op code" : "";
     const enable = made("span", { textContent: `I2 ${state[STATE.i2]}${held}`, title: "the interrupt enable" });
     at("status").replaceChildren(made("span", { textContent: `PS ${hex(desk.library.statusWord())}` }), ...flags, enable);
-    at("mode").textContent = `After ${grouped(desk.steps)} steps: ${desk.words.mode(desk.mode)}.`;
+    at("mode").textContent = `${counted(desk.steps, "step")} made, the next is step ${grouped(desk.steps)}: ${desk.words.mode(desk.mode)}.`;
     at("mode").className = desk.mode === MODE.locked ? "over" : "";
     for (const [id, bit] of SWITCHES) pressed(at(id), (desk.switches & bit) !== 0);
     at("device").value = desk.switches >> 8;
@@ -77,14 +79,22 @@ export class ProcessorView {
   listLine(row) {
     const { desk, stops } = this, { address, label } = row, at = hex(address);
     const now = address === even(desk.pc), stop = stops.addresses.has(address), none = row.text === "----", way = wayOf(desk, row);
+    const bad = address === desk.badAt;
     const words = none ? "---- nothing is fitted" : row.text, part = (className, textContent) => made("span", { className, textContent });
-    const said = `${now ? "PC, " : ""}${stop ? "stop, " : ""}${at} ${label} ${words} ${way?.words ?? ""}`;
-    const line = made("button", { className: `line${now ? " now" : ""}${none ? " none" : ""}`, "data-address": at });
+    const said = `${now ? "PC, " : ""}${stop ? "stop, " : ""}${bad ? "the last step, " : ""}${at} ${label} ${words} ${way?.words ?? ""}`;
+    const line = made("button", { className: `line${now ? " now" : ""}${none ? " none" : ""}${bad ? " bad" : ""}`, "data-address": at });
     line.setAttribute("aria-pressed", String(stop)), line.setAttribute("aria-label", said);
-    line.append(part("mark", `${now ? "▸" : ""}${stop ? "●" : ""}`), part("label", label), part("", at), part("", row.words.join(" ")),
-      made("span", {}, words, part("way", way === null ? "" : `  ${way.words}`)));
-    line.onclick = () => (stops.addresses.delete(address) || stops.addresses.add(address), this.refresh());
+    line.append(part("mark", `${now ? "▸" : bad ? "✕" : ""}${stop ? "●" : ""}`), part("label", label), part("", at), part("", row.words.join(" ")),
+      made("span", {}, words, part(`way${way?.bad ? " over" : ""}`, way === null ? "" : `  ${way.words}`)));
+    line.onclick = () => this.toggleStop(address);
     return line;
+  }
+
+  toggleStop(address) {
+    const { addresses } = this.stops, was = addresses.delete(address);
+    if (!was) addresses.add(address);
+    tell(was ? `No stop at ${hex(address)} any more.` : `Run to a stop ends at ${hex(address)} now.`);
+    this.refresh();
   }
 
   showLog() {

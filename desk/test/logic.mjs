@@ -170,6 +170,18 @@ function listingAround() {
   desk.setRegister(7, 0x82);
   const [cut, here] = rowsAround(desk, null, 9);
   same("PC in the midst of an op code", [".WORD B5C2", 0x82], [cut.text, here.address]);
+  load("sob.txt"), desk.assemble(".ORG 0088\nSOB R1,04");
+  const way = () => wayOf(desk, rowsAround(desk, 0x88, 1)[0]).words;
+  same("into an op code", "→ 0082, inside the op code at 0080", way());
+  for (let n = 0; n < 5; n++) desk.step();
+  same("and still, once a step began there", "→ 0082, inside the op code at 0080", way());
+  same("where a step went", ["R1=0004 PC=0082", "R2=0001"], desk.log.entries.slice(-3, -1).map((one) => one.changes).reverse());
+  desk.assemble(".ORG 0080\nNOP\nNOP");
+  same("at an op code of a patch", "→ 0082", way());
+  load("card-pulled.txt");
+  for (let n = 0; n < 3; n++) desk.step();
+  same("the line that met the blank", 0x86, desk.badAt);
+  desk.step(), same("is not marked after the next step", null, desk.badAt);
   load("sob.txt");
   rowsAround(desk, null, 9).forEach((row) => wayOf(desk, row));
   same("nothing is changed by looking", true, desk.history.parts.at(-1).steps === 0 && desk.steps === 0);

@@ -57,6 +57,8 @@ async function stepping() {
   await holds("reg-PC", "0090");
   await reads("log", /MOV @R2,R0: a bus error in an op code: nothing is fitted at C000, page C0/);
   assert.strictEqual(await browser.run("document.querySelector('#page-C0').className.trim()"), "hit");
+  assert.strictEqual(await browser.run("document.querySelector('#list .bad').dataset.address"), "0086");
+  await reads("mode", /^3 steps made, the next is step 3: running\.$/);
   await shot("step");
   await click("back");
   await holds("reg-PC", "0086");
@@ -146,7 +148,7 @@ async function stops() {
   await click("at-interrupt"), await choose("sample", "halt-switch.txt"), await click("at-switch"), await runs("until");
   await reads("told", /^The halt option was taken/);
   await click("at-switch");
-  await browser.click("#list .line");
+  await browser.click("#list .line"), await reads("told", /^Run to a stop ends at [0-9A-F]{4} now\.$/);
   assert.match(await browser.text("stops"), /at [0-9A-F]{4}/);
   await click("clear-stops");
   await fill("from", "0016"), await click("goto");
@@ -175,7 +177,8 @@ async function long() {
   assert.strictEqual(await browser.run("document.querySelector('#progress').hidden"), false);
   await click("stop"), await idle();
   await reads("told", /^Stopped after [0-9,]+ steps; no step met a blank\.$/);
-  await click("until"), await browser.until("!document.querySelector('#stop').disabled");
+  await click("until"), await browser.until("/ steps and no stop yet: Stop or Esc/.test(document.querySelector('#told').textContent)");
+  assert.strictEqual(await browser.run("document.querySelector('#progress').hasAttribute('value')"), false);
   await browser.key("Escape"), await idle();
   await reads("told", /^Stopped after/);
 }

@@ -19,7 +19,7 @@ export function fileParts({ page, browser, reads, holds, click, fill, choose, ta
     await fill("patch-editor textarea", ".ORG 0084\nSOB R1,AWAY"), await click("assemble");
     await reads("told", /^The patch: line 2, column 8: 26: no line gives the label AWAY\. Nothing was changed\.$/);
     await fill("patch-editor textarea", ".ORG 0084\nAGAIN: SOB R1,AGAIN"), await click("assemble");
-    await reads("told", /^1 word of the patch put into the image\.$/);
+    await reads("told", /^1 word of the patch put into the image\. PC is where it was: Power up begins anew\.$/);
     await fill("patch-editor textarea", ".ORG 0084\nSOB R1,4"), await click("assemble");
     await reads("told", /^The patch: line 2, column 8: 24 \(30\): two hex digits are needed: 04\. Nothing was changed\.$/);
     await give("file", "own.asm", fs.readFileSync("jobs/patch.asm"));
