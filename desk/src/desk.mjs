@@ -4,7 +4,7 @@ import { History } from "./history.mjs";
 import { Log, changesIn, changedWords } from "./log.mjs";
 import { jobOf, patchOf } from "./job.mjs";
 import { TextError } from "./text.mjs";
-import { isBlank } from "./words.mjs";
+import { counted, isBlank } from "./words.mjs";
 
 const KEPT = ["state", "image", "map", "settings", "recorder"];
 
@@ -272,7 +272,7 @@ export class Desk {
     const over = new Set(pairs.map(([address]) => address)), begin = addresses.map(even);
     this.written = new Set([...[...this.written].filter((address) => !over.has(address)), ...begin]);
     this.starts = new Set([...[...this.starts].filter((address) => !over.has(address)), ...begin]);
-    this.done(`a patch of ${pairs.length} words put into the image`);
+    this.done(`a patch of ${counted(pairs.length, "word")} put into the image`);
     return { missing, count: pairs.length };
   }
 

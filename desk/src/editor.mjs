@@ -18,6 +18,7 @@ export class Editor {
       if (event.key === "Enter" && event.ctrlKey) event.preventDefault(), go();
     };
     this.place = null;
+    this.changed = () => {}; // what is to be done when the text is another
   }
 
   get text() {
@@ -34,6 +35,7 @@ export class Editor {
     this.wrong.hidden = true;
     this.area.removeAttribute("aria-invalid");
     this.number();
+    this.changed();
   }
 
   // What is wrong, beside its line.

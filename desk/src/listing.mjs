@@ -58,7 +58,7 @@ export function wayOf(desk, row) {
 }
 
 // Where the op code begins that an address is a later word of, by the lines of the text and of the patch; null where it is of none.
-function opCodeAround(desk, address) {
+export function opCodeAround(desk, address) {
   const covers = (at) => desk.written.has(at) && 2 * desk.library.listLine(at).words.length > address - at;
   return desk.written.has(address) ? null : [address - 2, address - 4].find(covers) ?? null;
 }

@@ -2,6 +2,7 @@
 import { Desk } from "./desk.mjs";
 import { Editor } from "./editor.mjs";
 import { howEnded } from "./ended.mjs";
+import { opCodeAround } from "./listing.mjs";
 import { Library } from "./library.mjs";
 import { Runner } from "./running.mjs";
 import { Stops } from "./stops.mjs";
@@ -38,8 +39,15 @@ const done = () => JSON.stringify([desk.steps, desk.log.entries.length, job.text
 
 function show() {
   processor.show(), board.show(), recorder.show();
-  at("job-name").textContent = desk.name;
-  document.title = `${desk.name} · Hitchbriar desk`;
+  at("name").textContent = document.title = desk.name;
+  showTexts();
+}
+
+// Whether what stands in the tabs Job and Patch is what the desk has; and the sample, as long as it is one.
+function showTexts() {
+  at("job-name").textContent = job.text === desk.text ? `${desk.name} is on the desk` : `not loaded yet: the desk has ${desk.name}`;
+  at("patch-name").textContent = patch.text.trim() === "" ? "" : patch.text === desk.patch ? "in the image. " : "not assembled yet. ";
+  at("sample").value = job.text === GIVEN.samples[desk.name]?.[0] ? desk.name : "";
 }
 
 // ---- jobs and files
@@ -59,7 +67,9 @@ function trying(editor, what, work) {
 }
 
 function load(name = desk.name) {
-  if (!trying(job, name, () => desk.load(name, job.text, patch.text))) return;
+  const other = name !== desk.name;
+  if (!trying(job, name, () => desk.load(name, job.text, patch.text))) return showTexts();
+  if (other) stops.forget();
   job.clear(), patch.clear(), trace.clear();
   processor.from = null;
   recorder.limits = {};
@@ -159,9 +169,15 @@ function step() {
   processor.from = null;
   const last = desk.log.entries.at(-1);
   if (desk.cause === CAUSE.lock) tell("The processor is locked up: only Power up helps.", true);
-  else if (desk.told === null) tell(`Step ${grouped(desk.steps - 1)} at ${was}: ${last.words}. ${last.changes}`);
+  else if (desk.told === null) tell(`Step ${grouped(desk.steps - 1)} at ${was}: ${last.words}. ${last.changes}${within()}`, within() !== "");
   else tell(`A blank: ${blank()}. What stands at ${was} was dropped, and PC is where location 0012 points.`, true);
   show();
+}
+
+// That PC has come into the midst of an op code, as the text has it.
+function within() {
+  const around = opCodeAround(desk, desk.pc);
+  return around === null ? "" : `. PC is inside the op code at ${hex(around)}.`;
 }
 
 function stepBack() {
@@ -230,7 +246,8 @@ function start() {
   makeAlarm();
   at("about").textContent = about.replace("Hitchbriar ", "");
   at("about").className = GIVEN.proved ? "proved" : "unproved";
-  for (const name of Object.keys(GIVEN.samples)) at("sample").append(new Option(name, name));
+  at("sample").append(new Option("none: an own job", "", true), ...Object.keys(GIVEN.samples).map((name) => new Option(name, name)));
+  job.changed = patch.changed = showTexts;
   at("sample").onchange = () => sample(at("sample").value);
   chooser("open", "file", false), chooser("check", "trace-file", true);
   at("step").onclick = step, at("back").onclick = stepBack;
@@ -240,9 +257,7 @@ function start() {
   at("keys").onclick = () => at("help").showModal();
   at("load").onclick = () => load(), at("assemble").onclick = assemble, at("save-job").onclick = saveJob, at("lunch").onclick = lunch;
   makeKeys(makeTabs(), runner), makeDrop(opened), makeLeaving(() => done() !== safe);
-  const first = FIRST in GIVEN.samples ? FIRST : Object.keys(GIVEN.samples)[0];
-  at("sample").value = first;
-  sample(first);
+  sample(FIRST in GIVEN.samples ? FIRST : Object.keys(GIVEN.samples)[0]);
   tell(`${at("told").textContent} ${BEGINNING}`);
 }
 

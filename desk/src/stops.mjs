@@ -18,6 +18,11 @@ export class Stops {
     return this.addresses.size > 0 || this.writes.size > 0;
   }
 
+  // Leaves the addresses, which are another job's.
+  forget() {
+    this.addresses.clear(), this.writes.clear();
+  }
+
   toJSON() {
     return { causes: [...this.causes], addresses: [...this.addresses], writes: [...this.writes] };
   }

@@ -148,7 +148,7 @@ export class BoardView {
     at("add-write").onclick = add("stop-write", () => stops.writes);
     for (const [id, button] of [["stop-address", "add-address"], ["stop-write", "add-write"]])
       at(id).onkeydown = (event) => { if (event.key === "Enter") at(button).click(); };
-    at("clear-stops").onclick = () => (stops.addresses.clear(), stops.writes.clear(), this.refresh());
+    at("clear-stops").onclick = () => (stops.forget(), this.refresh());
     for (const name of Object.keys(UNTIL))
       at(`at-${name}`).onchange = () => (at(`at-${name}`).checked ? stops.causes.add(name) : stops.causes.delete(name));
   }

@@ -154,6 +154,8 @@ async function stops() {
   await fill("from", "0016"), await click("goto");
   await reads("list", /^0016/);
   await click("follow"), await reads("list", /▸/);
+  await browser.click("#list .line"), await choose("sample", "sob.txt");
+  await reads("stops", /^$/);
 }
 
 async function lines() {
@@ -204,7 +206,14 @@ try {
     await browser.open(page, width, height, mobile);
     const tabs = await browser.run(`[...document.querySelectorAll("[role=tab]")].map((e) => e.id.slice(3))`);
     for (const one of tabs) await tab(one), await wholePage(width);
-    await tab("cards"), await runs("until"), await shot(name, mobile);
+    await choose("sample", "sob.txt"), await tab("patch"), await fill("patch-editor textarea", ".ORG 0088\nSOB R1,04");
+    await reads("patch-name", /^not assembled yet/), await click("assemble"), await reads("patch-name", /^in the image/);
+    const { top, bottom } = await browser.run("document.querySelector('#told').getBoundingClientRect().toJSON()");
+    assert(top >= 0 && bottom <= height, "what is told is in sight");
+    for (let n = 0; n < 4; n++) await click("step");
+    await reads("told", /^Step 3 at 0088: SOB R1,04\. R1=0004 PC=0082\. PC is inside the op code at 0080\.$/);
+    await reads("list", /SOB R1,04 {2}→ 0082, inside the op code at 0080/), await shot(`${name}-sob`, mobile);
+    await choose("sample", "card-pulled.txt"), await tab("cards"), await runs("until"), await shot(name, mobile);
   }
   assert.deepStrictEqual(browser.errors, []);
   assert.deepStrictEqual(browser.asked.filter((url) => !/^(file|blob|data|about):/.test(url)), []);

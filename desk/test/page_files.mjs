@@ -10,6 +10,9 @@ export function fileParts({ page, browser, reads, holds, click, fill, choose, ta
     await reads("told", /^card-pulled\.txt: line 3, column 8: 'zz' is not a hex number, 0 to FFFF\. Nothing was changed\.$/);
     assert.match(await browser.run("document.querySelector('#job-editor .wrong').textContent"), /^line 3, column 8: 'zz'/);
     assert.strictEqual(await browser.run("getSelection().toString()"), "zz");
+    await reads("job-name", /^not loaded yet: the desk has card-pulled\.txt$/), await holds("sample", "");
+    await choose("sample", "card-pulled.txt"), await reads("job-name", /^card-pulled\.txt is on the desk$/), await tab("job");
+    await fill("job-editor textarea", "pages 00\n0016 = 0080\n0080 = zz\n"), await click("load");
     await shot("wrong-line");
     await holds("reg-PC", "0080");
     const loop = ["pages 00", "0016 = START", ".ORG 0080", "START: MOV #0003,R1", "LOOP: SOB R1,LOOP", "DONE: BR DONE", ""].join("\n");
@@ -48,6 +51,7 @@ export function fileParts({ page, browser, reads, holds, click, fill, choose, ta
     assert.match(text, /; under the patch: START: MOV #0003,R1\nSTART:\n/);
     await give("file", "again.txt", text);
     await reads("told", /^again\.txt is loaded/);
+    await reads("name", /^again\.txt$/), await holds("sample", "");
     await holds("external", "2F");
   }
 
@@ -103,7 +107,7 @@ export function fileParts({ page, browser, reads, holds, click, fill, choose, ta
     assert.strictEqual(await browser.run("window.printed"), true);
     await browser.send("Emulation.setEmulatedMedia", { media: "print" });
     const shown = (selector) => browser.run(`getComputedStyle(document.querySelector("${selector}")).display`);
-    assert.deepStrictEqual([await shown(".controls"), await shown("#report-title")], ["none", "block"]);
+    assert.deepStrictEqual([await shown(".top"), await shown("#report-title")], ["none", "block"]);
     await shot("print", true);
     await browser.send("Emulation.setEmulatedMedia", { media: "" });
   }
