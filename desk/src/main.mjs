@@ -39,15 +39,17 @@ const done = () => JSON.stringify([desk.steps, desk.log.entries.length, job.text
 
 function show() {
   processor.show(), board.show(), recorder.show();
-  at("name").textContent = document.title = desk.name;
+  document.title = `${desk.name} · Hitchbriar desk`;
   showTexts();
 }
 
-// Whether what stands in the tabs Job and Patch is what the desk has; and the sample, as long as it is one.
+// Whether what stands in the tabs Job and Patch is what the desk has; and which job that is, a sample or an own one.
 function showTexts() {
   at("job-name").textContent = job.text === desk.text ? `${desk.name} is on the desk` : `not loaded yet: the desk has ${desk.name}`;
   at("patch-name").textContent = patch.text.trim() === "" ? "" : patch.text === desk.patch ? "in the image. " : "not assembled yet. ";
-  at("sample").value = job.text === GIVEN.samples[desk.name]?.[0] ? desk.name : "";
+  const isSample = job.text === GIVEN.samples[desk.name]?.[0];
+  at("own-job").textContent = isSample ? "" : `${desk.name}${job.text === desk.text ? "" : ", text changed"}`, at("own-job").hidden = isSample;
+  at("sample").value = isSample ? desk.name : "";
 }
 
 // ---- jobs and files
@@ -75,8 +77,9 @@ function load(name = desk.name) {
   recorder.limits = {};
   safe = done();
   const what = `${name}${desk.job.patched === 0 ? "" : ` with its patch of ${counted(desk.job.patched, "word")}`} is loaded`;
-  const locked = desk.mode === MODE.locked;
-  tell(`${what}${locked ? ", and locked at power-up: the board can't fetch where it begins" : " and powered up"}.`, locked);
+  const locked = desk.mode === MODE.locked, powered = locked ? ", and locked at power-up: the board can't fetch where it begins" : " and powered up";
+  const scans = desk.scans.length === 0 ? "" : ` All scans, on the tab Recorder, makes its ${counted(desk.scans.length, "scan")}.`;
+  tell(`${what}${powered}.${scans}`, locked);
   show();
 }
 
@@ -196,9 +199,12 @@ function busy(on) {
 }
 
 async function repeat(work, progress) {
+  const asked = document.activeElement;
   busy(true);
+  at("stop").focus();
   await runner.repeat(work, progress);
   busy(false);
+  asked.focus();
 }
 
 async function run(most, asked) {
@@ -246,7 +252,7 @@ function start() {
   makeAlarm();
   at("about").textContent = about.replace("Hitchbriar ", "");
   at("about").className = GIVEN.proved ? "proved" : "unproved";
-  at("sample").append(new Option("none: an own job", "", true), ...Object.keys(GIVEN.samples).map((name) => new Option(name, name)));
+  at("samples").append(...Object.keys(GIVEN.samples).map((name) => new Option(name, name)));
   job.changed = patch.changed = showTexts;
   at("sample").onchange = () => sample(at("sample").value);
   chooser("open", "file", false), chooser("check", "trace-file", true);

@@ -72,9 +72,14 @@ export function gaps(rows, channel) {
   return found;
 }
 
+// The same in words: 5 to 8, 11.
+export function gapWords(rows, channel) {
+  return gaps(rows, channel).map(([first, last]) => (first === last ? `${first}` : `${first} to ${last}`)).join(", ");
+}
+
 // A channel in a sentence, for who can't see its picture.
 export function inWords(report, rows, channel, limit) {
-  const missing = gaps(rows, channel).map(([first, last]) => (first === last ? `${first}` : `${first} to ${last}`)).join(", ");
+  const missing = gapWords(rows, channel);
   const parts = [`Channel ${channel}: ${counted(report.readings, "reading")}`];
   if (report.readings > 0)
     parts.push(`from ${degrees(report.lowest)} to ${degrees(report.highest)} degrees, average ${averageDegrees(report)}`);

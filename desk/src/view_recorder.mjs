@@ -1,11 +1,11 @@
 // The recorder: a picture and a row for each channel, limits, and a page to print.
 import { CHANNELS } from "./layout.mjs";
 import { at, made, tell } from "./elements.mjs";
-import { averageDegrees, degrees, limitOf, nextScan, over, reports } from "./recorder.mjs";
+import { averageDegrees, degrees, gapWords, limitOf, nextScan, over, reports } from "./recorder.mjs";
 import { picture } from "./picture.mjs";
 import { counted, grouped } from "./words.mjs";
 
-const HEADS = ["channel", "readings", "blanks", "lowest", "highest", "average, tenths", "average, °C", "limit", ""];
+const HEADS = ["channel", "readings", "blanks", "lowest, °C", "highest, °C", "average, tenths", "average, °C", "limit, °C", ""];
 
 export class RecorderView {
   // `repeat` does work again and again without stopping the page.
@@ -16,7 +16,8 @@ export class RecorderView {
     at("channels").append(...this.figures.map((one) => one.element));
     at("scan").onclick = () => this.scan();
     at("scans-all").onclick = () => this.all();
-    at("print").onclick = () => this.print();
+    at("print").onclick = () => print();
+    addEventListener("beforeprint", () => { at("report-date").textContent = `Printed ${new Date().toLocaleString("en-GB")}.`; });
     at("limit-all").onchange = () => this.limit(at("limit-all"), [...Array(CHANNELS).keys()]);
   }
 
@@ -24,7 +25,7 @@ export class RecorderView {
     const drawn = made("div"), caption = made("span"), name = made("b", { textContent: `Channel ${channel} ` });
     const limit = made("input", { id: `limit-${channel}`, "aria-label": `limit of channel ${channel} in degrees` });
     limit.onchange = () => this.limit(limit, [channel]);
-    const head = made("figcaption", {}, made("label", { className: "no-print" }, "limit ", limit), name, caption);
+    const head = made("figcaption", {}, made("label", { className: "no-print" }, "limit °C ", limit), name, caption);
     return { drawn, caption, limit, element: made("figure", { id: `channel-${channel}` }, head, drawn) };
   }
 
@@ -37,13 +38,14 @@ export class RecorderView {
       if (limit === null) delete this.limits[channel];
       else this.limits[channel] = limit;
     }
-    tell(limit === null ? "The limit is taken away." : `The limit is ${degrees(limit)} °C.`);
     this.show();
-  }
-
-  print() {
-    at("report-date").textContent = `Printed ${new Date().toLocaleString("en-GB")}.`;
-    print();
+    const whose = channels.length === 1 ? `channel ${channels[0]}` : "every channel";
+    if (limit === null) return tell(`No limit for ${whose} any more.`);
+    const all = reports(this.desk.library), high = (channel) => over(all[channel], this.desk.rows, channel, limit);
+    const above = channels.filter((channel) => high(channel).readings > 0);
+    const found = channels.length === 1 ? judged(all[channels[0]], high(channels[0]))
+      : above.length === 0 ? "no reading over it" : `readings over it in ${above.length === 1 ? "channel" : "channels"} ${above.join(", ")}`;
+    tell(`At most ${degrees(limit)} °C for ${whose}: ${found}.`, above.length > 0);
   }
 
   scan() {
@@ -74,7 +76,7 @@ export class RecorderView {
     desk.done(`scans ${first} to ${desk.scansMade} made`);
     const asked = desk.scansMade - first + 1, refused = asked - (desk.rows.length - rows);
     const blanks = [...reports(desk.library).map((report) => report.blanks).entries()].filter(([, count]) => count > 0);
-    const missing = blanks.map(([channel, count]) => `channel ${channel} in ${counted(count, "scan")}`);
+    const missing = blanks.map(([channel, count]) => `channel ${channel} in ${counted(count, "scan")} (${gapWords(desk.rows, channel)})`);
     const why = refused > 0 ? ` ${counted(refused, "scan")} refused: What happened tells why.` : "";
     const cards = missing.length > 0 ? `No card: ${missing.join(", ")}.` : "Every channel had its card in every scan.";
     tell(`${counted(asked - refused, "scan")} made.${why} ${cards}`, missing.length > 0 || refused > 0);
@@ -86,11 +88,13 @@ export class RecorderView {
     const told = `${grouped(desk.scansMade)} of ${counted(desk.scans.length, "scan")} made`;
     at("scans").textContent = desk.scans.length === 0 ? "no scans in this job" : told;
     at("scan").disabled = at("scans-all").disabled = desk.scansMade === desk.scans.length;
+    if (document.activeElement?.disabled) at("print").focus(); // else no key would be heard
     at("channels").hidden = at("report").hidden = !any;
     all.forEach((report, channel) => this.showChannel(report, channel));
     const heads = HEADS.map((textContent) => made("th", { textContent, className: "number" }));
     at("report").replaceChildren(made("tr", {}, ...heads), ...all.map((report, channel) => this.row(report, channel)));
-    at("report-title").textContent = `Plug recorder: ${desk.name}, ${counted(desk.rows.length, "scan")}`;
+    const refused = desk.scansMade - desk.rows.length, lost = refused > 0 ? `; ${counted(refused, "scan")} refused, which count nothing` : "";
+    at("report-title").textContent = `Plug recorder: ${desk.name}, ${counted(desk.rows.length, "scan")}${lost}`;
     at("report-foot").textContent = `${this.about}. A missing card is a blank and counts to no average. Signed: ______________________`;
   }
 

@@ -117,8 +117,9 @@ export class Browser {
   }
 
   async key(key, code = key) {
-    const letter = key.length === 1, pressed = { key, code, windowsVirtualKeyCode: CODES[key] ?? key.toUpperCase().charCodeAt(0) };
-    await this.send("Input.dispatchKeyEvent", { type: letter ? "keyDown" : "rawKeyDown", ...pressed, ...(letter ? { text: key } : {}) });
+    const text = key === "Enter" ? "\r" : key.length === 1 ? key : null;
+    const pressed = { key, code, windowsVirtualKeyCode: CODES[key] ?? key.toUpperCase().charCodeAt(0) };
+    await this.send("Input.dispatchKeyEvent", { type: text === null ? "rawKeyDown" : "keyDown", ...pressed, ...(text === null ? {} : { text }) });
     await this.send("Input.dispatchKeyEvent", { type: "keyUp", ...pressed });
   }
 

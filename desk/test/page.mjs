@@ -83,6 +83,8 @@ async function keys() {
   await holds("reg-PC", "0082");
   await browser.key("u"), await idle();
   await reads("told", /met a blank/);
+  await browser.key("1"), await browser.key("Tab");
+  assert.strictEqual(await browser.run("document.activeElement.id"), "page-C0", "the blank's page is the rack's first stop");
   await browser.key("p");
   await reads("told", /^Powered up/);
   await fill("count", "4");
@@ -95,6 +97,10 @@ async function keys() {
   await click("keys"), await browser.key("Escape");
   await browser.key("3");
   assert.strictEqual(await browser.run("document.querySelector('#tab-stops').hidden"), false);
+  await choose("sample", "pulled-card.scans"), await browser.run("document.querySelector('#scans-all').focus()");
+  await browser.key("Enter"), await idle(), await reads("told", /^12 scans made/);
+  await browser.key("3");
+  assert.strictEqual(await browser.run("document.querySelector('#tab-stops').hidden"), false, "keys are heard after all scans");
 }
 
 async function cards() {

@@ -11,6 +11,7 @@ export function fileParts({ page, browser, reads, holds, click, fill, choose, ta
     assert.match(await browser.run("document.querySelector('#job-editor .wrong').textContent"), /^line 3, column 8: 'zz'/);
     assert.strictEqual(await browser.run("getSelection().toString()"), "zz");
     await reads("job-name", /^not loaded yet: the desk has card-pulled\.txt$/), await holds("sample", "");
+    await reads("own-job", /^card-pulled\.txt, text changed$/);
     await choose("sample", "card-pulled.txt"), await reads("job-name", /^card-pulled\.txt is on the desk$/), await tab("job");
     await fill("job-editor textarea", "pages 00\n0016 = 0080\n0080 = zz\n"), await click("load");
     await shot("wrong-line");
@@ -51,7 +52,7 @@ export function fileParts({ page, browser, reads, holds, click, fill, choose, ta
     assert.match(text, /; under the patch: START: MOV #0003,R1\nSTART:\n/);
     await give("file", "again.txt", text);
     await reads("told", /^again\.txt is loaded/);
-    await reads("name", /^again\.txt$/), await holds("sample", "");
+    await reads("own-job", /^again\.txt$/), await holds("sample", "");
     await holds("external", "2F");
   }
 
@@ -93,18 +94,25 @@ export function fileParts({ page, browser, reads, holds, click, fill, choose, ta
   }
 
   async function recorder() {
+    await choose("sample", "refused.scans"), await click("scans-all"), await idle();
+    await reads("report-title", /^Plug recorder: refused\.scans, \d+ scans?; 3 scans refused, which count nothing$/);
     await choose("sample", "pulled-card.scans");
+    await reads("told", /^pulled-card\.scans is loaded and powered up\. All scans, on the tab Recorder, makes its 12 scans\.$/);
     await tab("recorder"), await click("scan"), await reads("told", /^Scan 1: all cards in/);
-    await click("scans-all"), await idle(), await reads("told", /^11 scans made\. No card: channel 4 in 4 scans\.$/);
-    await fill("limit-4", "5.0"), await reads("told", /^The limit is 5\.0 °C\.$/);
+    await click("scans-all"), await idle(), await reads("told", /^11 scans made\. No card: channel 4 in 4 scans \(5 to 8\)\.$/);
+    await fill("limit-4", "5.0");
+    await reads("told", /^At most 5\.0 °C for channel 4: average over the limit; no card in 4 scans\.$/);
     const said = await browser.run("document.querySelector('#channel-4 svg').getAttribute('aria-label')");
     assert.match(said, /8 readings; from 5\.9 to 6\.1 degrees, average 6\.01; no card in scan 5 to 8; limit 5\.0: 8 readings over it/);
     await reads("report", /4845\.96\.1481\/86\.015\.0average over the limit; no card in 4 scans/);
     await fill("limit-all", "warm"), await reads("told", /^'warm' is no limit/);
     await shot("recorder", true);
-    await fill("limit-all", "14"), await reads("report", /481\/86\.0114\.0readings within it; no card in 4 scans/);
+    await fill("limit-all", "13.2"), await reads("told", /^At most 13\.2 °C for every channel: readings over it in channel 15\.$/);
+    await fill("limit-all", "14"), await reads("told", /^At most 14\.0 °C for every channel: no reading over it\.$/);
+    await reads("report", /481\/86\.0114\.0readings within it; no card in 4 scans/);
     await browser.run("window.print = () => { window.printed = true; }"), await click("print");
     assert.strictEqual(await browser.run("window.printed"), true);
+    await browser.run("dispatchEvent(new Event('beforeprint'))"), await reads("report-date", /^Printed \d\d\/\d\d\/\d{4}, /);
     await browser.send("Emulation.setEmulatedMedia", { media: "print" });
     const shown = (selector) => browser.run(`getComputedStyle(document.querySelector("${selector}")).display`);
     assert.deepStrictEqual([await shown(".top"), await shown("#report-title")], ["none", "block"]);
