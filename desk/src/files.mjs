@@ -9,7 +9,8 @@ export async function readFile(file, isTrace) {
   const most = isTrace ? MOST_TRACE : MOST_SAVED;
   if (file.size > most) return { wrong: tooBig(file, most) };
   if (file.size === 0) return { wrong: `${file.name} is empty.` };
-  const bytes = new Uint8Array(await file.arrayBuffer()), name = file.name;
+  const { name } = file, bytes = await file.arrayBuffer().then((read) => new Uint8Array(read), () => null);
+  if (bytes === null) return { wrong: `${name} can't be read: is it a folder?` };
   if (isTrace || name.endsWith(".trace")) return { kind: "trace", name, bytes };
   const wide = bytes[0] === 0xFF && bytes[1] === 0xFE ? "utf-16le" : bytes[0] === 0xFE && bytes[1] === 0xFF ? "utf-16be" : null;
   if (wide === null && bytes.includes(0)) return { kind: "bytes", name, bytes };

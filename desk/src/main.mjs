@@ -171,7 +171,7 @@ function step() {
   if (why !== 0) return tell(`The step is refused: ${words.refusal(why)}.`, true);
   processor.from = null;
   const last = desk.log.entries.at(-1);
-  if (desk.cause === CAUSE.lock) tell("The processor is locked up: only Power up helps.", true);
+  if (desk.cause === CAUSE.lock) tell(`The processor is locked up${desk.told === null ? "" : `: ${blank()}`}. Only Power up helps.`, true);
   else if (desk.told === null) tell(`Step ${grouped(desk.steps - 1)} at ${was}: ${last.words}. ${last.changes}${within()}`, within() !== "");
   else tell(`A blank: ${blank()}. What stands at ${was} was dropped, and PC is where location 0012 points.`, true);
   show();

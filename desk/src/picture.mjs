@@ -1,7 +1,7 @@
 // The picture of a channel: readings as dots, missing cards as gaps, a limit as a line. A missing card is never a zero.
 import { degrees, gaps, inWords } from "./recorder.mjs";
 
-const WIDTH = 300, HEIGHT = 92, LEFT = 40, RIGHT = 6, TOP = 8, BOTTOM = 16, LETTER = 10, WORDS = 44;
+const WIDTH = 220, HEIGHT = 88, LEFT = 38, RIGHT = 6, TOP = 8, BOTTOM = 18, LETTER = 11, WORDS = 44;
 
 // The SVG of a channel over the scans that were made.
 export function picture(report, rows, channel, limit) {
@@ -17,7 +17,7 @@ export function picture(report, rows, channel, limit) {
     const value = row[channel], kind = limit !== null && value > limit ? "over" : "reading";
     if (value !== null) dots[kind] += `M${x(n).toFixed(1)} ${y(value).toFixed(1)}h.01`;
   });
-  const size = Math.max(2, Math.min(6, wide)).toFixed(1);
+  const size = Math.max(2, Math.min(5, wide)).toFixed(1);
   for (const [kind, path] of Object.entries(dots))
     if (path !== "") parts.push(`<path class="${kind}" stroke-width="${size}" d="${path}"/>`);
   parts.push(...scale([...(report.readings > 0 ? [report.highest, report.lowest] : []), ...(limit === null ? [] : [limit])], limit, y));

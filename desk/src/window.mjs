@@ -21,7 +21,9 @@ export function makeDrop(opened) {
   document.addEventListener("drop", (event) => {
     event.preventDefault();
     document.body.classList.remove("drop");
-    if (event.dataTransfer.files[0]) opened(event.dataTransfer.files[0]);
+    const { files } = event.dataTransfer;
+    if (files.length > 1) tell("One file at a time, please: nothing was read.", true);
+    else if (files.length === 1) opened(files[0]);
   });
 }
 

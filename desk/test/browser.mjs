@@ -130,9 +130,9 @@ export class Browser {
     await this.send("DOM.setFileInputFiles", { nodeId, files: [path.resolve(file)] });
   }
 
-  // Drops a file on the middle of the page.
-  async drop(file) {
-    const data = { items: [], files: [path.resolve(file)], dragOperationsMask: 1 };
+  // Drops files on the middle of the page.
+  async drop(...files) {
+    const data = { items: [], files: files.map((file) => path.resolve(file)), dragOperationsMask: 1 };
     const { x, y } = await this.run("({ x: innerWidth / 2, y: innerHeight / 2 })");
     for (const type of ["dragEnter", "dragOver", "drop"]) await this.send("Input.dispatchDragEvent", { type, x, y, data });
   }

@@ -98,6 +98,15 @@ export function textChecks({ given, words, newDesk }) {
     }
   }
 
-  texts(), operands(), places(), patches(), longTexts();
+  // No module is long, and none needs anything but the others.
+  function modules() {
+    for (const file of fs.readdirSync("desk/src")) {
+      const text = fs.readFileSync(`desk/src/${file}`, "utf8");
+      same(`${file} has 300 lines at most`, true, text.split("\n").length <= 300);
+      same(`${file} imports its neighbours`, [], [...text.matchAll(/^import .* from "(.*)";$/gm)].map((one) => one[1]).filter((one) => !/^\.\/\w+\.mjs$/.test(one)));
+    }
+  }
+
+  modules(), texts(), operands(), places(), patches(), longTexts();
   return checks;
 }

@@ -70,12 +70,16 @@ export function fileParts({ page, browser, reads, holds, click, fill, choose, ta
     await reads("told", /^long\.txt has 1,080,000 bytes, and the desk takes 1,048,576 at most: nothing was read\.$/);
     const big = path.join(browser.folder, "big.bin");
     fs.closeSync(fs.openSync(big, "w")), fs.truncateSync(big, 100 << 20);
-    const begun = Date.now();
-    await browser.run("document.querySelector('#told').textContent = ''");
-    await browser.drop(big);
-    await browser.until("document.querySelector('#told').textContent !== ''");
+    const begun = Date.now(), drop = async (...files) => {
+      await browser.run("document.querySelector('#told').textContent = ''"), await browser.drop(...files);
+      await browser.until("document.querySelector('#told').textContent !== ''");
+    };
+    await drop(big);
     await reads("told", /^big\.bin has 104,857,600 bytes, and the desk takes 4,194,304 at most: nothing was read\.$/);
     assert(Date.now() - begun < 3000, "a file of 100 MB takes seconds");
+    await drop("jobs"), await reads("told", /^jobs (can't be read: is it a folder\?|is empty\.)$/);
+    await drop("jobs/sob.txt", "jobs/patch.asm"), await reads("told", /^One file at a time, please: nothing was read\.$/);
+    await drop("jobs/sob.txt"), await reads("told", /^sob\.txt is loaded and powered up\.$/);
   }
 
   async function traces() {
