@@ -46,6 +46,7 @@ function show() {
 // Whether what stands in the tabs Job and Patch is what the desk has; and which job that is, a sample or an own one.
 function showTexts() {
   at("job-name").textContent = job.text === desk.text ? `${desk.name} is on the desk` : `not loaded yet: the desk has ${desk.name}`;
+  at("put-back").hidden = job.text === desk.text;
   at("patch-name").textContent = patch.text.trim() === "" ? "" : patch.text === desk.patch ? "in the image. " : "not assembled yet. ";
   const isSample = job.text === GIVEN.samples[desk.name]?.[0];
   at("own-job").textContent = isSample ? "" : `${desk.name}${job.text === desk.text ? "" : ", text changed"}`, at("own-job").hidden = isSample;
@@ -83,10 +84,20 @@ function load(name = desk.name) {
   show();
 }
 
-function sample(name) {
-  [job.text, patch.text] = GIVEN.samples[name];
+// Loads another text and patch; answers whether that was done. Where it was not, the text stands in its tab with what is wrong, and the
+// patch is the one that was there.
+function loadOther(name, text, beside) {
+  const kept = patch.text;
+  job.text = text, patch.text = beside;
   load(name);
-  if (desk.scans.length > 0 && desk.name === name) openTab("recorder");
+  if (desk.text === text && desk.name === name) return true;
+  patch.text = kept;
+  tell(`${at("told").textContent} The desk still has ${desk.name}.`, true);
+  return false;
+}
+
+function sample(name) {
+  if (loadOther(name, ...GIVEN.samples[name]) && desk.scans.length > 0) openTab("recorder");
 }
 
 function assemble() {
@@ -109,10 +120,7 @@ async function opened(file, isTrace = false) {
   if (read.kind === "job" && isPatch(read.text)) return openedPatch(read);
   const text = read.kind === "job" ? read.text : textOfBytes(read);
   if (text === null) return;
-  job.text = text, patch.text = "";
-  load(read.name);
-  if (desk.text !== text) tell(`${at("told").textContent} The desk still has ${desk.name}.`, true);
-  else openTab(desk.scans.length > 0 ? "recorder" : "job");
+  if (loadOther(read.name, text, "")) openTab(desk.scans.length > 0 ? "recorder" : "job");
 }
 
 // A patch stands in its tab, and goes into the image of the job that is on the desk once it is assembled.
@@ -261,6 +269,7 @@ function start() {
   at("count").onkeydown = (event) => { if (event.key === "Enter") runCount(); };
   at("power").onclick = () => (desk.powerUp(), tell("Powered up: memory and cards stay as they are, the job's line words begin anew."), processor.from = null, show());
   at("keys").onclick = () => at("help").showModal();
+  at("put-back").onclick = () => (job.text = desk.text, tell(`The text of ${desk.name} is as the desk has it.`));
   at("load").onclick = () => load(), at("assemble").onclick = assemble, at("save-job").onclick = saveJob, at("lunch").onclick = lunch;
   makeKeys(makeTabs(), runner), makeDrop(opened), makeLeaving(() => done() !== safe);
   sample(FIRST in GIVEN.samples ? FIRST : Object.keys(GIVEN.samples)[0]);

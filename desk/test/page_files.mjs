@@ -58,8 +58,13 @@ export function fileParts({ page, browser, reads, holds, click, fill, choose, ta
 
   async function files() {
     await click("open");
+    await tab("patch"), await fill("patch-editor textarea", "HALF: MOV #00");
+    const loaded = await browser.run("document.querySelector('#job-editor textarea').value");
     await give("file", "broken.txt", "pages 00\nlines 0004\n");
     await reads("told", /^broken\.txt: line 2, column 7: refused: 19, .* Nothing was changed\. The desk still has again\.txt\.$/);
+    assert.strictEqual(await browser.run("document.querySelector('#patch-editor textarea').value"), "HALF: MOV #00");
+    await click("put-back"), await reads("told", /^The text of again\.txt is as the desk has it\.$/);
+    assert.strictEqual(await browser.run("document.querySelector('#job-editor textarea').value"), loaded);
     await give("file", "job.bin", Buffer.from([1, 0, 0, 1, 0, 0x16, 0, 0x80, 0, 0, 0]));
     await reads("told", /^job\.bin is loaded and powered up\.$/);
     await give("file", "cut.bin", Buffer.from([1, 0, 0, 1]));
