@@ -5,6 +5,7 @@ import fs from "node:fs";
 import path from "node:path";
 import { Browser } from "./browser.mjs";
 import { fileParts } from "./page_files.mjs";
+import { taskParts } from "./page_tasks.mjs";
 
 const [page, pictures, command] = process.argv.slice(2);
 const browser = new Browser(command), used = new Set();
@@ -203,7 +204,7 @@ async function wholePage(width) {
 try {
   await browser.open(page, 1280, 860);
   const tools = { page, browser, reads, holds, click, fill, choose, tab, idle, shot, give };
-  for (const part of [stepping, keys, cards, memory, stops, lines, ...fileParts(tools), long])
+  for (const part of [stepping, keys, cards, memory, stops, lines, ...fileParts(tools), long, ...taskParts(tools)])
     await part().catch((why) => { throw new Error(`${part.name}: ${why.message}`, { cause: why }); });
   const all = await browser.run(`[...document.querySelectorAll("button[id], input[id], select[id]")].map((e) => e.id)`);
   const unused = all.filter((id) => !used.has(id) && !/^(page|word|limit|reg)-|^at-lock$/.test(id));
