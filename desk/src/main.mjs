@@ -18,7 +18,7 @@ import { CAUSE, MODE, hex } from "./layout.mjs";
 import { joinedText } from "./patching.mjs";
 import { readFile } from "./files.mjs";
 import { makeAlarm, makeDrop, makeKeys, makeLeaving } from "./window.mjs";
-import { makeTabs, openTab, tabNow } from "./tabs.mjs";
+import { goToTab, makeTabs, tabNow } from "./tabs.mjs";
 import { isPatch, patchOf, textOf } from "./job.mjs";
 
 const GIVEN = globalThis.GIVEN, MOST_TO_A_STOP = 1e9, MOST_STEPS = 1e9, BETWEEN_PROGRESS = 300; // milliseconds
@@ -63,7 +63,7 @@ function trying(editor, what, work) {
     if (!(why instanceof TextError)) throw why;
     const where = why.inPatch ? patch : editor;
     tell(`${what}: ${why.place ? `line ${why.place.line}, column ${why.place.column}: ` : ""}${why.message}. Nothing was changed.`, true);
-    if (where !== null) openTab(where === patch ? "patch" : "job"), where.tell(why.message, why.place);
+    if (where !== null) goToTab(where === patch ? "patch" : "job"), where.tell(why.message, why.place);
     return false;
   }
   return true;
@@ -97,7 +97,7 @@ function loadOther(name, text, beside) {
 }
 
 function sample(name) {
-  if (loadOther(name, ...GIVEN.samples[name]) && desk.scans.length > 0) openTab("recorder");
+  if (loadOther(name, ...GIVEN.samples[name]) && desk.scans.length > 0) goToTab("recorder");
 }
 
 function assemble() {
@@ -115,18 +115,18 @@ async function opened(file, isTrace = false) {
   if (runner.running) return tell("Stop the run first.", true);
   const read = await readFile(file, isTrace);
   if (read.wrong) return tell(read.wrong, true);
-  if (read.kind === "trace") return openTab("trace"), trace.check(read.name, read.bytes);
+  if (read.kind === "trace") return trace.check(read.name, read.bytes), goToTab("trace");
   if (read.kind === "saved") return back(read);
   if (read.kind === "job" && isPatch(read.text)) return openedPatch(read);
   const text = read.kind === "job" ? read.text : textOfBytes(read);
   if (text === null) return;
-  if (loadOther(read.name, text, "")) openTab(desk.scans.length > 0 ? "recorder" : "job");
+  if (loadOther(read.name, text, "")) goToTab(desk.scans.length > 0 ? "recorder" : "job");
 }
 
 // A patch stands in its tab, and goes into the image of the job that is on the desk once it is assembled.
 function openedPatch({ name, text }) {
   patch.text = text;
-  openTab("patch");
+  goToTab("patch");
   if (trying(patch, name, () => patchOf(text, library, words)))
     tell(`${name} is a patch, and stands in the tab Patch: Assemble puts it into the image of ${desk.name}.`);
 }
@@ -148,7 +148,7 @@ function back({ name, text }) {
   if (!trying(null, name, () => { kept = bringBack(desk, text, GIVEN); })) return;
   job.text = kept.open.job, patch.text = kept.open.patch;
   stops.set(kept.stops), recorder.limits = kept.limits;
-  trace.clear(), openTab(kept.open.tab);
+  trace.clear(), goToTab(kept.open.tab);
   processor.from = null;
   safe = done();
   const scans = desk.scans.length === 0 ? "" : ` and ${grouped(desk.scansMade)} of ${counted(desk.scans.length, "scan")}`;

@@ -13,6 +13,12 @@ export function openTab(name) {
   }
 }
 
+// Opens a tab for who did not ask for it by name: where the tabs stand under the rest, on a phone, they are brought into sight.
+export function goToTab(name) {
+  openTab(name);
+  if (matchMedia("(max-width: 820px)").matches) document.querySelector(".tabs").scrollIntoView({ block: "start" });
+}
+
 // Makes a tab of each section that has one, and answers their names.
 export function makeTabs() {
   const sections = [...document.querySelectorAll("[data-tab]")], names = sections.map((section) => section.id.slice(4));

@@ -217,6 +217,11 @@ try {
     await reads("patch-name", /^not assembled yet/), await click("assemble"), await reads("patch-name", /^in the image/);
     const { top, bottom } = await browser.run("document.querySelector('#told').getBoundingClientRect().toJSON()");
     assert(top >= 0 && bottom <= height, "what is told is in sight");
+    await choose("sample", "example.txt"), await browser.run("scrollTo(0, 0)");
+    await give("file", "wrong.trace", fs.readFileSync("jobs/example-wrong.trace"));
+    const verdict = await browser.run("document.querySelector('#verdict').getBoundingClientRect().toJSON()");
+    assert(verdict.top >= 0 && verdict.top < height - 60, "what a trace comes to is in sight");
+    await choose("sample", "sob.txt"), await tab("patch"), await fill("patch-editor textarea", ".ORG 0088\nSOB R1,04"), await click("assemble");
     for (let n = 0; n < 4; n++) await click("step");
     await reads("told", /^Step 3 at 0088: SOB R1,04\. R1=0004 PC=0082\. PC is inside the op code at 0080\.$/);
     await reads("list", /SOB R1,04 {2}→ 0082, inside the op code at 0080/), await shot(`${name}-sob`, mobile);
