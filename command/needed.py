@@ -14,6 +14,7 @@ NUMBERS = {
     "four hex digits are": ["0000", "FFFF"],
 }
 RELATIVE = "0000(PC)"
+WORDS = re.compile("[0-9A-F]{4}( [0-9A-F]{4})*")
 
 
 def diagnosed(programs, text):
@@ -33,23 +34,28 @@ def read_texts(programs, texts):
     lines = iter(answer.decode("ascii").splitlines())
     told = []
     for text in texts:
-        if next(lines) != text:
+        line = next(lines)
+        if WORDS.fullmatch(text):  # the program takes DECB and DECB 0000 for words, not for a text that ends too early
+            if line == text:
+                next(lines)
+            told.append((32, len(text)))
+        elif line != text:
             told.append((0, 0))
-            continue
-        found = re.search(r"\(refusal (\d+) at column (\d+)\)", next(lines))
-        told.append((int(found.group(1)), int(found.group(2))))
+        else:
+            found = re.search(r"\(refusal (\d+) at column (\d+)\)", next(lines))
+            told.append((int(found.group(1)), int(found.group(2))))
     return told
 
 
 def plain_text(text):
     """The text with 00 or 0000(PC) for labels and an alias's own name, and for each character the column in the text."""
     plain, columns = text, list(range(len(text)))
-    for operand in reversed(list(re.finditer(rf"(?<=[ ,])@?({LABEL})(?=,|$)", text))):
-        if is_hex(operand.group(1)) or operand.group(1) in REGISTERS:
+    stands = "00" if is_branch(text) else RELATIVE
+    for label in reversed(list(re.finditer(rf"(?:(?<=[ ,])|(?<=[ ,]@)){LABEL}(?=[ ,]|$)", text))):
+        if is_hex(label.group()) or label.group() in REGISTERS:
             continue
-        stands = "00" if is_branch(text) else ("@" if "@" in operand.group() else "") + RELATIVE
-        plain = plain[: operand.start()] + stands + plain[operand.end() :]
-        columns[operand.start() : operand.end()] = [operand.start()] * len(stands)
+        plain = plain[: label.start()] + stands + plain[label.end() :]
+        columns[label.start() : label.end()] = [label.start()] * len(stands)
     for alias, own in ALIASES.items():
         if plain.startswith(alias):
             plain = own + plain[len(alias) :]
@@ -60,7 +66,7 @@ def plain_text(text):
 def is_branch(text):
     """Whether a label stands for a branch's field."""
     name = text.partition(" ")[0]
-    return name in BRANCHES or name == "SOB"
+    return ALIASES.get(f"{name} ", name).strip() in (*BRANCHES, "SOB")
 
 
 def operand_at(text, column):

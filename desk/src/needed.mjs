@@ -23,7 +23,7 @@ function furthest(library, text) {
     if (why === 0) return { why: 30, column: Math.min(text.length, text.indexOf(" ") + 1), head };
     return { why, column: columns[column] ?? text.length, head };
   });
-  return tries[1].column > tries[0].column ? tries[1] : tries[0];
+  return tries[1].column >= tries[0].column ? tries[1] : tries[0];
 }
 
 // The text with what stands for its labels and an alias's own name, and for each character the column in the text.
