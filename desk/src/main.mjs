@@ -262,7 +262,7 @@ function start() {
   at("about").className = GIVEN.proved ? "proved" : "unproved";
   at("samples").append(...Object.keys(GIVEN.samples).map((name) => new Option(name, name)));
   job.changed = patch.changed = showTexts;
-  at("sample").onchange = () => sample(at("sample").value);
+  at("sample").onchange = () => (at("sample").value === "" ? showTexts() : sample(at("sample").value));
   chooser("open", "file", false), chooser("check", "trace-file", true);
   at("step").onclick = step, at("back").onclick = stepBack;
   at("run").onclick = runCount, at("until").onclick = () => run(MOST_TO_A_STOP, stops), at("stop").onclick = () => runner.stop();

@@ -4,6 +4,7 @@ import assert from "node:assert";
 import fs from "node:fs";
 import path from "node:path";
 import { Browser } from "./browser.mjs";
+import { FAINT_TEXTS } from "./contrast.mjs";
 import { fileParts } from "./page_files.mjs";
 import { taskParts } from "./page_tasks.mjs";
 
@@ -105,7 +106,7 @@ async function keys() {
 }
 
 async function cards() {
-  await choose("sample", "card-pulled.txt"), await tab("cards");
+  await choose("sample", ""), await choose("sample", "card-pulled.txt"), await holds("sample", "card-pulled.txt"), await tab("cards");
   await click("page-C0");
   await reads("told", /^Page C0: fitted\.$/);
   await choose("click", "protect");
@@ -192,13 +193,14 @@ async function long() {
   await reads("told", /^Stopped after/);
 }
 
-// Nothing is wider than the window; nothing asked of a network; every control has a name and was used.
+// Nothing is wider than the window, every control has a name, every text can be read.
 async function wholePage(width) {
   assert.strictEqual(await browser.run("document.documentElement.scrollWidth <= innerWidth"), true, `wider than ${width}`);
   const nameless = await browser.run(`[...document.querySelectorAll("button, input, select, textarea")]
     .filter((e) => !(e.textContent.trim() || e.getAttribute("aria-label") || e.labels?.length)).map((e) => e.id || e.outerHTML)`);
   assert.deepStrictEqual(nameless, [], "controls without a name");
-  checks += 2;
+  assert.deepStrictEqual(await browser.run(FAINT_TEXTS), [], "texts that are hard to read");
+  checks += 3;
 }
 
 try {
