@@ -76,6 +76,7 @@ function load(name = desk.name) {
   job.clear(), patch.clear(), trace.clear();
   processor.from = null;
   recorder.limits = {};
+  if (desk.lines.length > 0) at("count").value = desk.lines.length; // Run then makes the whole job, as ./hitch run does
   safe = done();
   const what = `${name}${desk.job.patched === 0 ? "" : ` with its patch of ${counted(desk.job.patched, "word")}`} is loaded`;
   const locked = desk.mode === MODE.locked, powered = locked ? ", and locked at power-up: the board can't fetch where it begins" : " and powered up";

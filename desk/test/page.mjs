@@ -53,7 +53,7 @@ async function give(id, name, content) {
 async function stepping() {
   await reads("told", /^card-pulled\.txt is loaded and powered up\. Step goes on/);
   await reads("about", new RegExp(`^${fs.readFileSync("VERSION", "utf8").trim()}, its module is (NOT )?proved$`));
-  await holds("reg-PC", "0080");
+  await holds("reg-PC", "0080"), await holds("count", "18");
   for (let n = 0; n < 3; n++) await click("step");
   await reads("told", /^A blank: nothing is fitted at C000, page C0\. What stands at 0086 was dropped/);
   await holds("reg-PC", "0090");
