@@ -205,6 +205,7 @@ function busy(on) {
   for (const control of document.querySelectorAll(".controls button, .controls input")) control.disabled = on;
   at("stop").disabled = !on;
   at("progress").hidden = !on;
+  at("told").setAttribute("aria-live", on ? "off" : "polite"); // who listens hears how it ends, not each count
 }
 
 async function repeat(work, progress) {
@@ -221,7 +222,7 @@ async function run(most, asked) {
   busy(true);
   at("stop").focus();
   at("progress").removeAttribute("value"); // how far a run to a stop is, nobody knows
-  let next = 0; // when it is told again how far the run is: not too often for who listens to it
+  let next = 0; // when it is told again how far the run is
   const end = await runner.run(most, asked, (done) => {
     if (asked === null) at("progress").max = most, at("progress").value = done;
     if (performance.now() < next) return;

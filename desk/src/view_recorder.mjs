@@ -88,7 +88,7 @@ export class RecorderView {
     const told = `${grouped(desk.scansMade)} of ${counted(desk.scans.length, "scan")} made`;
     at("scans").textContent = desk.scans.length === 0 ? "no scans in this job" : told;
     at("scan").disabled = at("scans-all").disabled = desk.scansMade === desk.scans.length;
-    if (document.activeElement?.disabled) at("print").focus(); // else no key would be heard
+    if (at("tab-recorder").querySelector(":focus:disabled")) at("print").focus(); // else who uses keys alone is back at the top
     at("channels").hidden = at("report").hidden = !any;
     all.forEach((report, channel) => this.showChannel(report, channel));
     const heads = HEADS.map((textContent) => made("th", { textContent, className: "number" }));

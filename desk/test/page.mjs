@@ -101,6 +101,7 @@ async function keys() {
   assert.strictEqual(await browser.run("document.querySelector('#tab-stops').hidden"), false);
   await choose("sample", "pulled-card.scans"), await browser.run("document.querySelector('#scans-all').focus()");
   await browser.key("Enter"), await idle(), await reads("told", /^12 scans made/);
+  assert.strictEqual(await browser.run("document.activeElement.id"), "print", "the focus stays on the recorder after all scans");
   await browser.key("3");
   assert.strictEqual(await browser.run("document.querySelector('#tab-stops').hidden"), false, "keys are heard after all scans");
 }
@@ -184,8 +185,10 @@ async function long() {
   await reads("told", /^1,000,000 steps made; no step met a blank\.$/);
   await fill("count", "900000000"), await click("run");
   await browser.until("/ steps of 900,000,000/.test(document.querySelector('#told').textContent)");
-  assert.strictEqual(await browser.run("document.querySelector('#progress').hidden"), false);
+  const heard = () => browser.run("document.querySelector('#told').getAttribute('aria-live')");
+  assert.deepStrictEqual([await browser.run("document.querySelector('#progress').hidden"), await heard()], [false, "off"]);
   await click("stop"), await idle();
+  assert.strictEqual(await heard(), "polite");
   await reads("told", /^Stopped after [0-9,]+ steps; no step met a blank\.$/);
   await click("until"), await browser.until("/ steps and no stop yet: Stop or Esc/.test(document.querySelector('#told').textContent)");
   assert.strictEqual(await browser.run("document.querySelector('#progress').hasAttribute('value')"), false);
