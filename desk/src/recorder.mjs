@@ -2,6 +2,8 @@
 import { CHANNELS, TALLY, hex, pageOf, wordAt } from "./layout.mjs";
 import { counted } from "./words.mjs";
 
+const MOST_GAPS = 5; // that are told one by one
+
 // Makes the job's next scan. Its own line words run before the first. Answers what is told, and whether it is bad; null without one.
 export function nextScan(desk) {
   if (desk.scansMade === desk.scans.length) return null;
@@ -72,9 +74,10 @@ export function gaps(rows, channel) {
   return found;
 }
 
-// The same in words: 5 to 8, 11.
+// The same in words, the first few of them: 5 to 8, 11, and 3 more times.
 export function gapWords(rows, channel) {
-  return gaps(rows, channel).map(([first, last]) => (first === last ? `${first}` : `${first} to ${last}`)).join(", ");
+  const all = gaps(rows, channel).map(([first, last]) => (first === last ? `${first}` : `${first} to ${last}`));
+  return [...all.slice(0, MOST_GAPS), ...(all.length > MOST_GAPS ? [`and ${counted(all.length - MOST_GAPS, "more time")}`] : [])].join(", ");
 }
 
 // A channel in a sentence, for who can't see its picture.

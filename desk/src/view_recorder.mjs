@@ -83,8 +83,12 @@ export class RecorderView {
     this.refresh();
   }
 
+  // Draws what there is, if anything has changed since it was drawn.
   show() {
-    const { desk } = this, all = reports(desk.library), any = desk.scans.length > 0 || desk.rows.length > 0;
+    const { desk } = this, now = [desk.name, desk.scans, desk.scansMade, desk.rows, desk.rows.length, JSON.stringify(this.limits)];
+    if (this.shown?.every((one, n) => one === now[n])) return;
+    this.shown = now;
+    const all = reports(desk.library), any = desk.scans.length > 0 || desk.rows.length > 0;
     const told = `${grouped(desk.scansMade)} of ${counted(desk.scans.length, "scan")} made`;
     at("scans").textContent = desk.scans.length === 0 ? "no scans in this job" : told;
     at("scan").disabled = at("scans-all").disabled = desk.scansMade === desk.scans.length;

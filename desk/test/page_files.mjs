@@ -129,6 +129,21 @@ export function fileParts({ page, browser, reads, holds, click, fill, choose, ta
     await browser.send("Emulation.setEmulatedMedia", { media: "" });
   }
 
+  // As many scans as a recorder takes: made in seconds, and a step after them is no slower.
+  async function manyScans() {
+    const lines = fs.readFileSync("jobs/pulled-card.scans", "utf8").trimEnd().split("\n"), scans = lines.filter((line) => line.startsWith("scan"));
+    const text = lines.filter((line) => !line.startsWith("scan")).concat(Array.from({ length: 4096 }, (_, n) => scans[n % scans.length]));
+    await give("file", "many.scans", text.join("\n")), await click("scans-all"), await idle();
+    await reads("told", /^4,096 scans made\. No card: channel 4 in 1,364 scans \(5 to 8, 17 to 20, [0-9to, ]*and 336 more times\)\.$/);
+    await tab("cards");
+    const took = await browser.run(`(() => {
+      const begun = performance.now();
+      for (let n = 0; n < 20; n++) document.querySelector("#step").click();
+      return performance.now() - begun;
+    })()`);
+    assert(took < 1000, `20 steps after many scans took ${took} ms`);
+  }
+
   // Whether the page is left without asking.
   const leaves = () => browser.run("dispatchEvent(new Event('beforeunload', { cancelable: true }))");
 
@@ -151,5 +166,5 @@ export function fileParts({ page, browser, reads, holds, click, fill, choose, ta
     await reads("told", /^torn\.json: no saved desk: .* Nothing was changed\.$/);
   }
 
-  return [texts, boards, files, traces, recorder, lunch];
+  return [texts, boards, files, traces, manyScans, recorder, lunch];
 }
