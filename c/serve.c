@@ -43,7 +43,7 @@ static uint32_t number(void)
     return n[0] | (uint32_t)n[1] << 8 | (uint32_t)n[2] << 16 | (uint32_t)n[3] << 24;
 }
 
-/* Each buffer is allotted at its own size, so that a sanitizer sees an access past its end. */
+/* Each buffer is allotted at its own size, so that a sanitizer sees an access past its end; one of no length is a null pointer. */
 static void take_argument(struct argument *one, size_t element)
 {
     one->number = number();
@@ -51,7 +51,10 @@ static void take_argument(struct argument *one, size_t element)
         return;
     one->length = one->number;
     free(one->bytes);
-    one->bytes = malloc(one->length * element + (one->length == 0));
+    one->bytes = NULL;
+    if (one->length == 0)
+        return;
+    one->bytes = malloc(one->length * element);
     if (one->bytes == NULL)
         exit(1);
     take(one->bytes, one->length * element);
@@ -83,7 +86,7 @@ static void take_arguments(const struct call *call)
 static void give_buffers(const struct call *call)
 {
     for (int at = 0; at < call->arguments; at++)
-        if (call->element[at] != 0)
+        if (call->element[at] != 0 && argument[at].length != 0)
             fwrite(argument[at].bytes, call->element[at], argument[at].length, stdout);
 }
 

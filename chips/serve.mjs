@@ -35,7 +35,8 @@ function given(bytes) {
   for (let gone = 0; gone < bytes.length;) gone += fs.writeSync(1, bytes, gone);
 }
 
-// A call's arguments, laid from the heap's base on: the words that it is called with, and where its buffers stand.
+// A call's arguments, laid from the heap's base on: the words that it is called with, and where its buffers stand. A buffer of no
+// length is a null pointer.
 function lent(elements) {
   const words = [], buffers = [];
   let free = exports.__heap_base.value;
@@ -49,7 +50,7 @@ function lent(elements) {
     while (free + number * element > memory().length) exports.memory.grow(16);
     memory().set(taken(number * element), free);
     buffers.push([free, free + number * element]);
-    words.push(free, number);
+    words.push(number === 0 ? 0 : free, number);
     free += number * element;
   }
   return { words, buffers };
