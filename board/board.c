@@ -204,8 +204,10 @@ static void fit(const char *what, unsigned channel, uint8_t fitted)
 {
     if (strcmp(what, "relays") == 0)
         map[RELAYS] = fitted;
+    else if (*what >= '0' && *what <= '9' && channel < WD16_CHANNELS)
+        cards[channel] = fitted;
     else
-        cards[channel % WD16_CHANNELS] = fitted;
+        text("no such card: "), text(what), text("\n");
     fit_converters();
 }
 
@@ -342,20 +344,24 @@ static void command(char *line)
     text("no such command: "), text(line), text("\n");
 }
 
-/* Reads what has come, a line at a time, until a command lets time go by. */
+/* Reads what has come, a line at a time, until a command lets time go by. A terminal ends its lines with a return and shows nothing
+   itself: its line is shown. */
 static void console(void)
 {
     static char line[40];
     static size_t length;
     for (int got; waits == 0 && (got = chip_get()) >= 0;) {
-        if (got != '\n') {
+        if (got != '\n' && got != '\r') {
             if (length < sizeof line - 1)
                 line[length++] = (char)got;
             continue;
         }
         line[length] = 0;
+        if (got == '\r')
+            text(line), text("\n");
+        if (length != 0)
+            command(line);
         length = 0;
-        command(line);
     }
 }
 

@@ -1,14 +1,17 @@
 #!/usr/bin/env python3
 """Writes tables.h for board.c: make_tables.py SECTION SCANS > tables.h
 
-SECTION is the word section that `hitch asm` writes: the old program. SCANS is a text of scans, as jobs/pulled-card.scans: what
-the converter cards read. A channel without a card still has a cargo, with the reading of the scan before.
+SECTION is the word section that `hitch asm` or the program `assemble` writes: the old program. SCANS is a text of scans, as
+jobs/pulled-card.scans: what the converter cards read. A channel without a card still has a cargo, with the reading of the scan
+before.
 """
 import sys
 
 
 def old_words(section):
-    """The pairs of an address and a word, after their count."""
+    """The pairs of an address and a word, after their count. A source that is refused leaves no section."""
+    if not section:
+        sys.exit("make_tables.py: no section: the source was refused")
     words = [int.from_bytes(section[at : at + 2], "little") for at in range(2, len(section), 2)]
     return zip(words[::2], words[1::2])
 

@@ -1,6 +1,6 @@
 #!/usr/bin/env bash
 # Runs a board under its emulator: the story of the pulled card, with its table beside that of hitch record; noise over the old
-# program, at which it locks and the watchdog stays quiet; and that the watchdog is alive.
+# program, at which it locks and the watchdog stays quiet; that the watchdog is alive; and a terminal's lines.
 #   [PROVED=1] board/test.sh [mps2|virt|linux [FIRMWARE]]
 # Without FIRMWARE it is built first.
 set -euo pipefail
@@ -30,3 +30,7 @@ echo "$chip: noise over the old program ok"
 printf '%s\n' 'wait 2' hang | said 2 hang
 grep -qx 'the watchdog bites' "$out/$chip.hang"
 echo "$chip: the watchdog ok"
+
+printf '%s\r' hold 'pull card' '' end | said 0 terminal
+printf '%s\n' 'the board is up' hold 'pull card' 'no such card: card' '' end | diff - "$out/$chip.terminal"
+echo "$chip: a terminal's lines ok"

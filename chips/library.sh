@@ -24,6 +24,7 @@ flags="--no-default-config $words -ffreestanding -ffunction-sections -fdata-sect
 
 # Objects tell the names of their sources, without the folders, so that they are the same wherever they are made.
 compiled() { # FLAGS
+    [ -z "$attribute" ] || echo "module asm \"$attribute\"" >>"$out/module.ll"
     (cd "$out" && "$clang" $flags "$@" -c -x ir module.ll -o module.o)
 }
 
@@ -51,8 +52,9 @@ wasm_module() {
 
 # The functions' own names over the module, and the words. The kit's clang has no headers: those in chips/bare do.
 in_c() { # SOURCE OBJECT FLAGS
+    echo "${attribute:+__asm__(\"$attribute\");}" >"$out/attribute.h"
     "$clang" $flags -std=c11 -Wall -Wextra -Werror -Wmissing-prototypes -nostdinc -isystem chips/bare/include -Ic \
-        -ffile-prefix-map="$PWD"=. "${@:3}" -c "$1" -o "$out/$2"
+        -include "$out/attribute.h" -ffile-prefix-map="$PWD"=. "${@:3}" -c "$1" -o "$out/$2"
 }
 in_c "$from/$(basename "$from").c" exports.o
 in_c c/words.c words.o

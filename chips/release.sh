@@ -32,6 +32,7 @@ libraries() {
     fi
     install -m 644 target/chips/wasm32/hitchbriar.wasm "$out/wasm/"
     install -m 644 c/hitchbriar.h "$out/include/"
+    install -D -m 644 -t "$out/examples" c/{example,text,shop}.{c,out}
     install -m 644 docs/CHIPS.md "$out/"
 }
 
@@ -51,7 +52,8 @@ built_programs() {
 
 # The board's source, which builds from dist/ without the kit.
 board() {
-    install -m 644 board/Makefile board/README.md board/*.c board/*.h board/*.ld board/old.asm board/story.* chips/bare/memory.c "$out/board/"
+    install -m 644 board/Makefile board/README.md board/*.c board/*.h board/*.ld board/*.py board/old.asm board/story.* \
+        jobs/pulled-card.scans chips/bare/memory.c "$out/board/"
     install -m 755 board/run.sh "$out/board/"
     install -D -m 644 -t "$out/board/include" chips/bare/include/{stddef,stdint,string}.h
     board/tables.sh >"$out/board/tables.h"

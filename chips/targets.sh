@@ -6,15 +6,18 @@ all_targets="cortex-m4 riscv32imc aarch64 wasm32 x86-64"
 #   how        the optimization that is best for it, and as which machine (chips/library.sh tells what they mean)
 #   wide       the x86 whose pointers are as wide
 #   linker     a C compiler that links for it; binutils: the beginning of its tools' names
+#   attribute  a line for the assembler in each object
 #   bare       1 where there is no C library, and the test programs stand on chips/bare
 #   emulator   runs its programs; packages: Debian's names of what that needs
 target() { # NAME
     local quiet="-display none -serial none -monitor none -semihosting-config enable=on,target=native"
     local wide_32="--target=i586-unknown-linux-gnu -march=i586" wide_64="--target=x86_64-unknown-linux-gnu -march=x86-64"
-    bare=0 emulator= binutils= packages= wide=$wide_32
+    bare=0 attribute= emulator= binutils= packages= wide=$wide_32
     case $1 in
     cortex-m4)
         words="--target=thumbv7em-none-eabi -mcpu=cortex-m4 -mfloat-abi=soft -fshort-enums" how="fast own" bare=1
+        # Tag_ABI_VFP_args: no floating-point number is passed, so that the objects link with either way of passing them.
+        attribute=".eabi_attribute 28, 3"
         linker="arm-none-eabi-gcc -mcpu=cortex-m4 -mthumb" binutils=arm-none-eabi-
         emulator="qemu-system-arm -M mps2-an386 $quiet -kernel" packages="qemu-system-arm gcc-arm-none-eabi"
         ;;
