@@ -26,6 +26,7 @@ use Rattle.optext.specs.Words.{Reads}
 use Rattle.line.specs.Line.{printWhy, printOf}
 use Rattle.runjob.specs.Bench.{jobRun, benchWhy, benchOf}
 use Rattle.listing.specs.Calls.{lineWhy, lineCall}
+use Rattle.listjob.specs.Stretch.{listWhy, listOf}
 use Rattle.textc.specs.Calls.{wordsIn, odd, notAnswer, writeCall, ReadCall}
 use Rattle.textc.specs.Calls as Textc
 use Rattle.assembler.specs.declared.Assembled.{Assembled}
@@ -97,6 +98,10 @@ LineAnswers = (line text : List ℕ) → Keeps (printWhy (length line) (length t
 -- A LINE OF A LISTING: 1, 2, 3, 23, 8
 abbrev pub ListLineAnswers : Type 0
 ListLineAnswers = (image map : List ℕ) (a last : ℕ) (text : List ℕ) → Keeps (lineWhy (length image) map a last (length text)) text (lineCall image map a last text)
+
+-- A LISTING, from the bytes of two addresses and a job to its lines: 8, 11, the job's own, 23
+abbrev pub ListAnswers : Type 0
+ListAnswers = (input text image map lines : List ℕ) → Keeps (listWhy input (length text) (length image) (length map) (length lines)) (text, image, map, lines) (listOf input text image map lines)
 
 -- A TRACE CHECKED: the job's own, 29
 abbrev pub CheckAnswers : Type 0

@@ -3,10 +3,10 @@
 use Prim.Native.Nat.{ℕ}
 use mathlib.Core.List.{List}
 use mathlib.Core.Path.{_≡_}
-use lib.ListN.{take, drop}
-use Rattle.words.specs.Words.{wordAt}
-use Rattle.job.specs.Job.{whyJob, jobOf}
+use lib.ListN.{take}
+use Rattle.job.specs.Job.{whyJob}
 use Rattle.runjob.specs.Bench.{benchOf}
+use Rattle.listjob.specs.Stretch.{listOf}
 use Rattle.trace.specs.Trace.{checkOf, makeOf}
 use Rattle.demands.specs.Terms.{AllBytes}
 
@@ -20,9 +20,7 @@ BenchReads = (input text image map lines : List ℕ) → benchOf (take 25097 inp
 
 -- list, whose two addresses stand before the job
 abbrev pub ListReads : Type 0
-ListReads = (input image map lines : List ℕ)
-    → (wordAt (take 25101 input) 0 ≡ wordAt input 0) × (wordAt (take 25101 input) 2 ≡ wordAt input 2)
-    × (jobOf (drop 4 (take 25101 input)) image map lines ≡ jobOf (drop 4 input) image map lines)
+ListReads = (input text image map lines : List ℕ) → listOf (take 25101 input) text image map lines ≡ listOf input text image map lines
 
 -- make_trace
 abbrev pub MakeReads : Type 0

@@ -1,13 +1,9 @@
-// Reads two addresses and a job on standard input, and lists the stretch of the job's image from the first to the last; a refusal
-// is printed as bench's. Where the answer could not be written standard error says so.
-use job::Answer;
+// Reads two addresses and a job on standard input, and prints the listing of the stretch of the job's image from the first to the
+// last; a refusal is printed as bench's. Where the answer could not be written standard error says so.
 use libc::STDERR_FILENO;
 use libc::STDIN_FILENO;
 use libc::STDOUT_FILENO;
 use line::Printed;
-use listing::Listed;
-use refusal::number::JOB_ENDS;
-ghost use Prim.Native.Nat.{_≤_};
 ghost use mathlib.Core.Path.{_≡_};
 ghost use lib.ListN.{length};
 
@@ -35,94 +31,22 @@ fn print_refused(why: u8) -> bool {
     }
 }
 
-// Ends the line of n characters that begins at a place of the text; answers the place after it.
-fn end_line(block: &mut [u8], at: usize, n: usize) -> usize
-    requires { ⌜ at ≤ length (now block) ⌝ }
-    ensures { λ r. ⌜ r ≤ length (now (block .entry)) ⌝ }
+// Room for the longest listing.
+fn whole_listing() -> [u8; 1146932]
+    ensures { λ r. ⌜ 1146932 ≡ length r ⌝ }
 {
-    if n < block.len() - at {
-        block[at + n] = b'\n';
-        return at + n + 1;
-    }
-    at
+    [0; 1146932]
 }
 
-// Adds the line at the address a to the text, from a place on; answers the place after it.
-fn add_line(image: &[u8], map: &[u8], a: u16, last: u16, block: &mut [u8], at: usize) -> Listed
-    requires { ⌜ at ≤ length (now block) ⌝ }
-{
-    match listing::list_line(image, map, a, last, &mut block[at..]) {
-        Listed::Line(n, next) => Listed::Line(end_line(block, at, n), next),
-        Listed::Last(n) => Listed::Last(end_line(block, at, n)),
-        Listed::Refused(why) => Listed::Refused(why),
-    }
-}
-
-// A place in the text.
-fn within(block: &[u8], at: usize) -> usize
-    ensures { λ r. ⌜ r ≤ length (now (block .entry)) ⌝ }
-{
-    if at <= block.len() {
-        return at;
-    }
-    0
-}
-
-// Prints the text after its last line, or a refusal; answers whether all was written.
-fn finish(block: &[u8], listed: Listed) -> bool {
-    match listed {
-        Listed::Line(end, _) => print(block, end),
-        Listed::Last(end) => print(block, end),
-        Listed::Refused(why) => print_refused(why),
-    }
-}
-
-// Lists the stretch into the text and prints it whole. An image has 32,768 words, and no listing more lines.
-fn list_all(image: &[u8], map: &[u8], first: u16, last: u16, block: &mut [u8]) -> bool {
-    let mut a = first;
-    let mut at: usize = 0;
-    let mut left: usize = 32768;
-    while 0 < left {
-        let listed = add_line(image, map, a, last, block, at);
-        let Listed::Line(end, next) = listed else {
-            return finish(block, listed);
-        };
-        at = within(block, end);
-        a = next;
-        left -= 1;
-    }
-    false
-}
-
-// Room for the longest listing and one line more: a line has at most 35 characters for each of its words, its end among them.
-fn whole_listing() -> [u8; 1146944]
-    ensures { λ r. ⌜ 1146944 ≡ length r ⌝ }
-{
-    [0; 1146944]
-}
-
-// Reads the job and lists the stretch.
-fn list_job(first: u16, last: u16, input: &[u8]) -> bool {
+fn list_input(input: &[u8]) -> bool {
     let mut image = io::large_buffer();
     let mut map = [0u8; 256];
     let mut lines = [0u16; 4096];
-    let mut block = whole_listing();
-    match job::read_job(input, &mut image, &mut map, &mut lines) {
-        Answer::Refused(why) => print_refused(why),
-        Answer::Lines(_) => list_all(&image, &map, first, last, &mut block),
+    let mut text = whole_listing();
+    match listjob::list_job(&mut text, input, &mut image, &mut map, &mut lines) {
+        Printed::Line(n) => print(&text, n),
+        Printed::Refused(why) => print_refused(why),
     }
-}
-
-// The two addresses are in front of the job.
-fn list_input(input: &[u8]) -> bool {
-    if input.len() < 4 {
-        return print_refused(JOB_ENDS);
-    }
-    list_job(
-        words::word_at(input, 0),
-        words::word_at(input, 2),
-        &input[4..],
-    )
 }
 
 fn say_unless(written: bool) {
@@ -131,7 +55,7 @@ fn say_unless(written: bool) {
     }
 }
 
-// The longest job has 25,096 bytes; one byte more shows that there are bytes left over.
+// The longest job has 25,096 bytes, and the addresses four; one byte more shows that there are bytes left over.
 fn main() {
     let mut input = [0u8; 25101];
     let got = io::read_full(STDIN_FILENO, &mut input);

@@ -213,7 +213,7 @@ fn put_line(text: &mut [u8], a: u16, w: u16, x: u16, y: u16, found: Found) -> us
 }
 
 // An odd address, or a last below the first?
-fn bad_stretch(a: u16, last: u16) -> bool
+pub fn bad_stretch(a: u16, last: u16) -> bool
     ensures { λ r. ⌜ r ≡ Call.badStretch a last ⌝ }
 {
     (a % 2 == 1) | (last % 2 == 1) | (last < a)

@@ -23,6 +23,7 @@ use Rattle.line.specs.Line.{printWhy, printOf}
 use Rattle.runjob.specs.Bench.{ranAt, jobRun, lineAt, benchWhy, benchOf}
 use Rattle.runjob.specs.Bench as Bench
 use Rattle.listing.specs.Calls.{lineWhy, lineIn, lineCall}
+use Rattle.listjob.specs.Stretch.{listWhy, listedIn, listOf}
 use Rattle.textc.specs.Calls.{wordsIn, odd, notAnswer, writeCall}
 use Rattle.textc.specs.Calls as Textc
 use Rattle.assembler.specs.Answer as Patch
@@ -34,7 +35,7 @@ use Rattle.demands.specs.Terms.{numberOf, writeWhy}
 use Rattle.demands.proofs.Laws.Texts.{writer-numbered, word-numbered, reads-numbered, write-call, read-call}
 use Rattle.demands.proofs.Laws.Sources.{assembled-answers, call-numbered}
 use Rattle.demands.proofs.Laws.Calls.{numbered}
-use Rattle.demands.specs.Demand1.{IsAnswer, isAnswer, KeepsC, CallKeeps, ReadingKeeps, PowerUpAnswers, StepAnswers, RunAnswers, JobAnswers, JobRunAnswers, BenchAnswers, LineAnswers, ListLineAnswers, CheckAnswers, MakeAnswers, WriteAnswers, WriteWordAnswers, ReadAnswers, AssembleAnswers, Wd16PowerUpAnswers, Wd16StepAnswers, Wd16RunAnswers, Wd16CheckTraceAnswers, Wd16WriteTextAnswers, Wd16ReadTextAnswers, Wd16AssembleAnswers}
+use Rattle.demands.specs.Demand1.{IsAnswer, isAnswer, KeepsC, CallKeeps, ReadingKeeps, PowerUpAnswers, StepAnswers, RunAnswers, JobAnswers, JobRunAnswers, BenchAnswers, LineAnswers, ListLineAnswers, ListAnswers, CheckAnswers, MakeAnswers, WriteAnswers, WriteWordAnswers, ReadAnswers, AssembleAnswers, Wd16PowerUpAnswers, Wd16StepAnswers, Wd16RunAnswers, Wd16CheckTraceAnswers, Wd16WriteTextAnswers, Wd16ReadTextAnswers, Wd16AssembleAnswers}
 
 -- ---- THE THEOREM
 
@@ -103,6 +104,11 @@ line-answers line text = call-keeps _ _ (printWhy (length line) (length text)) (
 pub list-line-answers : ListLineAnswers
 unfolding lineCall
 list-line-answers image map a last text = call-keeps _ _ (lineWhy (length image) map a last (length text)) (lineIn image map a last text) text (isAnswer _)
+
+pub list-answers : ListAnswers
+unfolding listOf
+list-answers input text image map lines =
+    call-keeps _ _ (listWhy input (length text) (length image) (length map) (length lines)) (listedIn input text) (text, image, map, lines) (isAnswer _)
 
 pub check-answers : CheckAnswers
 unfolding checkOf

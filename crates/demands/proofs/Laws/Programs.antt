@@ -3,15 +3,18 @@ use Prim.Native.Nat.{ℕ, zero, suc, _+_, _≤_}
 use native.Mathlib.Omega.{arith}
 use mathlib.Core.List.{List, [], _∷_}
 use mathlib.Core.Path.{_≡_, refl, sym, ap, _∙_}
-use lib.ListN.{length, take, drop}
+use borrow.Author.Tests.{le-ltb}
+use lib.Dec.{ltb}
+use lib.ListN.{length, take, drop, length-drop}
 use lib.Seq.{take-all, getD-take}
 use Rattle.refusal.specs.Page.{answered, Left, left, call, first}
 use Rattle.refusal.proofs.Laws.Page.{first-both}
-use Rattle.words.specs.Words.{wordAt}
 use Rattle.line.specs.Line.{printWhy}
-use Rattle.job.specs.Job.{linesAt, buffersOf, whyRead, jobOf}
+use Rattle.job.specs.Job.{whyRead}
 use Rattle.job.proofs.Laws.Longest.{job-front, read-front, read-long}
 use Rattle.runjob.specs.Bench.{lineAt, runIn, benchWhy, benchOf}
+use Rattle.listjob.specs.Stretch.{listWhy, listedIn, listOf}
+use Rattle.listjob.proofs.Laws.{taken-all}
 use Rattle.trace.specs.Trace.{verdictOf, verdictPage, buffersAfter, whyTrace, whyCheck, checkOf, whyMake, madeOf, makeOf}
 use Rattle.trace.proofs.Laws.Longest.{trace-front, trace-long}
 use Rattle.demands.specs.Programs.{JobReads, BenchReads, ListReads, MakeReads, CheckReads}
@@ -36,27 +39,37 @@ bench-reads input text image map lines =
     (ap (first (printWhy 61 (length text))) (read-front (length image) (length map) (length lines) input 25097 (omega arith)))
     (λ e. ap (λ (z : List ℕ). lineAt z text (runIn z)) (whole (length image) (length map) (length lines) input (first-both (printWhy 61 (length text)) _ e .1)))
 
-job-same : (input image map lines : List ℕ) → jobOf (take 25097 input) image map lines ≡ jobOf input image map lines
-unfolding jobOf
-job-same input image map lines =
-    same-calls (whyRead (length image) (length map) (length lines) input) (whyRead (length image) (length map) (length lines) (take 25097 input))
-    (left (answered (wordAt input (linesAt input))) (buffersOf input)) (left (answered (wordAt (take 25097 input) (linesAt (take 25097 input)))) (buffersOf (take 25097 input))) (image, map, lines)
-    (read-front (length image) (length map) (length lines) input 25097 (omega arith))
-    (λ e. ap (λ (z : List ℕ). left (answered (wordAt z (linesAt z))) (buffersOf z)) (whole (length image) (length map) (length lines) input e))
+-- the two addresses and the job after them
+front : (l : List ℕ) → drop 4 (take 25101 l) ≡ take 25097 (drop 4 l)
+front [] = refl
+front (a ∷ []) = refl
+front (a ∷ b ∷ []) = refl
+front (a ∷ b ∷ c ∷ []) = refl
+front (a ∷ b ∷ c ∷ d ∷ l) = refl
+
+-- the addresses are cut in both or in neither
+cut : (l : List ℕ) → ltb (length (take 25101 l)) 4 ≡ ltb (length l) 4
+cut [] = refl
+cut (a ∷ []) = refl
+cut (a ∷ b ∷ []) = refl
+cut (a ∷ b ∷ c ∷ []) = refl
+cut (a ∷ b ∷ c ∷ d ∷ l) = le-ltb (length (take 25101 (a ∷ b ∷ c ∷ d ∷ l))) 4 (omega arith) ∙ sym (le-ltb (length (a ∷ b ∷ c ∷ d ∷ l)) 4 (omega arith))
+
+list-front : (input : List ℕ) (text image map lines : ℕ) → listWhy (take 25101 input) text image map lines ≡ listWhy input text image map lines
+unfolding listWhy
+list-front input text image map lines =
+    rw (cut input, front input, read-front image map lines (drop 4 input) 25097 (omega arith), getD-take 25101 input 0 0 (omega arith), getD-take 25101 input 1 0 (omega arith), getD-take 25101 input 2 0 (omega arith), getD-take 25101 input 3 0 (omega arith)) refl
 
 pub list-reads : ListReads
-list-reads input image map lines = (
-  rw (getD-take 25101 input 0 0 (omega arith), getD-take 25101 input 1 0 (omega arith)) refl,
-  rw (getD-take 25101 input 2 0 (omega arith), getD-take 25101 input 3 0 (omega arith)) refl,
-  ap (λ (z : List ℕ). jobOf z image map lines) (front input) ∙ job-same (drop 4 input) image map lines,
-)
-  where
-    front : (l : List ℕ) → drop 4 (take 25101 l) ≡ take 25097 (drop 4 l)
-    front [] = refl
-    front (a ∷ []) = refl
-    front (a ∷ b ∷ []) = refl
-    front (a ∷ b ∷ c ∷ []) = refl
-    front (a ∷ b ∷ c ∷ d ∷ l) = refl
+unfolding listOf
+list-reads input text image map lines =
+    same-calls (listWhy input (length text) (length image) (length map) (length lines)) (listWhy (take 25101 input) (length text) (length image) (length map) (length lines))
+    (listedIn input text) (listedIn (take 25101 input) text) (text, image, map, lines)
+    (list-front input (length text) (length image) (length map) (length lines))
+    (λ e.
+    let read = taken-all input (length text) (length image) (length map) (length lines) e .read in
+    let few = read-long (length image) (length map) (length lines) (drop 4 input) read in
+    ap (λ (z : List ℕ). listedIn z text) (take-all 25101 input (omega (arith, few, length-drop 4 input))))
 
 pub make-reads : MakeReads
 unfolding makeOf

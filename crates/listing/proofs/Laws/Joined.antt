@@ -40,7 +40,7 @@ module _ (map image : List ℕ) (last : ℕ) where
       go true false = omega arith
       go false s = omega arith
 
-  next-further : (a : ℕ) → a + 2 ≤ nextAt map image last a
+  pub next-further : (a : ℕ) → a + 2 ≤ nextAt map image last a
   unfolding nextAt
   next-further a = omega (arith, moves-on a)
 
@@ -117,14 +117,14 @@ module _ (image map : List ℕ) (last : ℕ) where
         next = ap (λ (z : Lined). z .next) t;
       }
 
-  ends-past : (p : ℕ) → ends ≡ nextOf last p → last < p
+  pub ends-past : (p : ℕ) → ends ≡ nextOf last p → last < p
   ends-past p e = go (ltb last p) refl (ap number e)
     where
       go : (t : Bool) → ltb last p ≡ t → 0 ≡ number (cond t ends (goesOn p)) → last < p
       go true q z = ltb-true last p q
       go false q z = absurd (omega arith)
 
-  goes-on : (p a : ℕ) → goesOn a ≡ nextOf last p → a ≡ p
+  pub goes-on : (p a : ℕ) → goesOn a ≡ nextOf last p → a ≡ p
   goes-on p a e = go (ltb last p) (ap number e)
     where
       go : (t : Bool) → suc a ≡ number (cond t ends (goesOn p)) → a ≡ p
