@@ -15,6 +15,7 @@ pub mod Moves
 pub mod Names
 pub mod One
 pub mod Recorded
+pub mod Rows
 pub mod Sizes
 pub mod Taken
 pub mod Traces

@@ -1,13 +1,13 @@
 -- THE TEXT AND THE STEP: the mnemonic that the text writes for an op code is the name of what the step executes. Every row of the text's
 -- table stands beside the work that the manual gives under its name, with the number of its format; were AND and BIC exchanged in the
--- text's table, or in the step's, a row would be wrong. By computation over the rows.
-use Prim.Native.Nat.{ℕ}
+-- text's table, or in the step's, a row would be wrong. It holds of every word of a row, so of every op code that has a name.
+use Prim.Native.Nat.{ℕ, _+_, _-_, _<_}
 use Prim.Native.String.{String}
 use mathlib.Core.Bool.{Bool, true, false, cond}
 use mathlib.Core.List.{List, [], _∷_, _++_, map}
 use mathlib.Core.Path.{_≡_}
-use lib.Dec.{eqb, leb}
-use lib.ListN.{take, drop}
+use lib.Dec.{eqb, leb, ltb}
+use lib.ListN.{take, drop, getD}
 use Rattle.letters.specs.Digits.{letters}
 use Rattle.word.specs.declared.Flags.{Flags}
 use Rattle.word.specs.declared.Done.{Done}
@@ -39,7 +39,8 @@ use Rattle.format7.specs.Format7.{tcall, tjmp, lsts, ssts}
 use Rattle.format8.specs.Format8.{down, rowFrom, sourceOf, destinationOf, element}
 use Rattle.format9.specs.Format9.{jsr, lea, ash, sob, xch, ashc, mul, div}
 use Rattle.format10.specs.Format10.{onWords, onBytes}
-use Rattle.optext.specs.Rows.{Row, rows, nameOf, baseOf}
+use Rattle.optext.specs.Rows.{Row, rows, theRow, nameOf}
+use Rattle.optext.specs.Line.{fieldOf, isReserved, rowOf}
 use Rattle.step.specs.Execute.{execute}
 use Rattle.step.specs.Xct.{beginXct, begun}
 use Rattle.laws.specs.Branches.{Line, lines}
@@ -53,6 +54,9 @@ pub record Named : Type 0 where
 
 abbrev pub named : String → ℕ → (Outside → State → ℕ → Work State) → Named
 named name format does = record { name = name; format = format; does = does }
+
+abbrev pub noName : Named
+noName = named "" 0 (λ out s op. give s)
 
 -- format 5: IF the printed line says so, PC ← PC + (DISP * 2)
 abbrev pub branchOf : Line → Named
@@ -201,9 +205,17 @@ executedRows = take 5 rows ++ drop 6 (take 111 rows)
 abbrev pub plateOf : ℕ → ℕ
 plateOf format = cond (leb format 4) 1 format
 
--- the same name; the format that the plate has for its base; and the step's work for its base
+-- a word of a row: its base with the operands' bits in it, as the text has it (optext Line `fitsRow`)
+abbrev pub In : Row → ℕ → Type 0
+In r op = r .base + fieldOf (r .first) op + fieldOf (r .second) op ≡ op
+
+-- an op code executed under a name: the format that the plate has for it, and the step's work
+abbrev pub Executed : Outside → State → ℕ → Named → Type 0
+Executed out s op n = (formatOf (highByte op) ≡ plateOf (n .format)) × (execute out s op ≡ n .does out s op)
+
+-- the same name, and every word of the row is executed under it
 abbrev pub As : Outside → State → Row → Named → Type 0
-As out s r n = (r .name ≡ letters (n .name)) × (formatOf (highByte (r .base)) ≡ plateOf (n .format)) × (execute out s (r .base) ≡ n .does out s (r .base))
+As out s r n = (r .name ≡ letters (n .name)) × ((op : ℕ) → In r op → Executed out s op n)
 
 -- one beside the other, none left over
 unfoldable pub Beside : Outside → State → List Row → List Named → Type 0
@@ -216,5 +228,14 @@ Beside out s (r ∷ rs) (n ∷ ns) = As out s r n × Beside out s rs ns
 abbrev pub NamesExecuted : Type 0
 NamesExecuted = (out : Outside) (s : State) → out .settings .blocks ≡ true → Beside out s executedRows mnemonics
 
+-- of every op code: the name that its text begins with (optext Line `lineText`) is the one that it is executed under. XCT is told below,
+-- and reserved words have no name
+abbrev pub placeOf : ℕ → ℕ
+placeOf row = cond (ltb row 5) row (row - 1)
+
+abbrev pub TextExecuted : Type 0
+TextExecuted = (out : Outside) (s : State) (op : ℕ) → out .settings .blocks ≡ true → op < 65536 → isReserved op ≡ false → (op ≡ 5 → ⊥)
+    → (let n = getD mnemonics (placeOf (rowOf op)) noName in (nameOf (rowOf op) ≡ letters (n .name)) × Executed out s op n)
+
 abbrev pub XctNamed : Type 0
-XctNamed = (nameOf 5 ≡ letters "XCT") × ((out : Outside) (s : State) → begun out s (baseOf 5) ≡ beginXct out s)
+XctNamed = (nameOf 5 ≡ letters "XCT") × ((op : ℕ) → In (theRow 5) op → (out : Outside) (s : State) → begun out s op ≡ beginXct out s)
