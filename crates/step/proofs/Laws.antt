@@ -11,4 +11,5 @@ pub mod Places
 pub mod Restart
 pub mod Saved
 pub mod Told
+pub mod Written
 pub mod Xct

@@ -16,6 +16,7 @@ ghost use Rattle.plate.specs.Plate.{table};
 ghost use Rattle.step.specs.Step as Spec;
 
 mod execute;
+pub mod logged;
 mod places;
 mod xct;
 
@@ -403,18 +404,7 @@ pub fn error(
     requires { ⌜ Board (now map) (beside (now image) (now log)) ⌝ }
     ensures { λ r. ⌜ Spec.Stepped (now (map .entry)) (Spec.errorOf (now (map .entry)) k out s (undone (beside (now (image .entry)) (now (log .entry)))) a) r (beside (now (image .exit)) (now (log .exit))) ⌝ }
 {
-    board::rollback(image, log);
-    if let Went::Done(t) = bus_error(s, image, map, log, out, k) {
-        return Turn {
-            state: t,
-            cause: error_cause_of(k, a),
-        };
-    }
-    board::rollback(image, log);
-    Turn {
-        state: s.with_mode(Mode::Locked),
-        cause: Cause::LockedAt(a),
-    }
+    logged::dropped(s, image, map, log, out, k, a)
 }
 
 // The work of a step that is an op code, with a log that may hold an earlier step's entries, and the plate.

@@ -1,0 +1,111 @@
+-- After a step its log's entries tell the addresses that it wrote, in order.
+use Prim.Native.Nat.{ℕ, zero, suc, _+_, _*_, _<_, _≤_}
+use native.Mathlib.Omega.{arith}
+use native.Mathlib.Numerals.{add-one}
+use mathlib.Core.Bool.{Bool, true, false, cond}
+use mathlib.Core.List.{List, [], _∷_, _++_, append-assoc, append-nil}
+use mathlib.Core.Path.{_≡_, refl, sym, ap, _∙_}
+use lib.ListN.{getD, set, length}
+use lib.Seq.{getD-set-same, getD-set-other}
+use Rattle.board.specs.Work.{Work, give, readAt, writeAt, fitted, writable, get, put, wordAt, run, value, blank}
+use Rattle.board.specs.Exec.{Store, beside, Now, good, count, room, note, noted, allowed, exec, Board, Got}
+use Rattle.board.proofs.Laws.{board-noted, count-note, room-few}
+use Rattle.board.proofs.Laws.Exec.{stateOf}
+use Rattle.board.proofs.Laws.Ended.{Fresh}
+use Rattle.board.proofs.Laws.Undo.{none-left}
+use Rattle.state.specs.declared.State.{State}
+use Rattle.state.specs.declared.Outside.{Outside}
+use Rattle.step.specs.declared.Kind.{Kind}
+use Rattle.step.specs.Step.{kindOf, workOf, busError}
+use Rattle.step.specs.Told.{Access, reads, writes, accesses}
+use Rattle.step.specs.Written.{writesOf, writtenBy, errorWrites, stepWrites, entries, addresses}
+
+-- ---- one entry more
+
+entries-same : (n : ℕ) (l k : List ℕ) → ((i : ℕ) → 0 < i → i ≤ n * 2 → getD k i 0 ≡ getD l i 0) → entries n k ≡ entries n l
+unfolding entries
+entries-same zero l k h = refl
+entries-same (suc n) l k h = rw (h (n * 2 + 1) (omega arith) (omega arith), entries-same n l k (λ i p q. h i p (omega arith))) refl
+
+module _ (l : List ℕ) (a v : ℕ) (whole : length l ≡ 32) (few : count l < 15) where
+  note-address : getD (note l a v) (count l * 2 + 1) 0 ≡ a
+  unfolding note
+  note-address =
+      getD-set-other (set (set l (count l * 2 + 1) a) (count l * 2 + 2) v) 0 (count l * 2 + 1) (count l + 1) 0 (λ e. omega arith)
+      ∙ getD-set-other (set l (count l * 2 + 1) a) (count l * 2 + 2) (count l * 2 + 1) v 0 (λ e. omega arith)
+      ∙ getD-set-same l (count l * 2 + 1) a 0 (omega arith)
+
+  note-below : (i : ℕ) → 0 < i → i ≤ count l * 2 → getD (note l a v) i 0 ≡ getD l i 0
+  unfolding note
+  note-below i p q =
+      getD-set-other (set (set l (count l * 2 + 1) a) (count l * 2 + 2) v) 0 i (count l + 1) 0 (λ e. omega arith)
+      ∙ getD-set-other (set l (count l * 2 + 1) a) (count l * 2 + 2) i v 0 (λ e. omega arith)
+      ∙ getD-set-other l (count l * 2 + 1) i a 0 (λ e. omega arith)
+
+  entry-more : entries (suc (count l)) (note l a v) ≡ entries (count l) l ++ (a ∷ [])
+  unfolding entries
+  entry-more = rw (note-address, entries-same (count l) l (note l a v) note-below) refl
+
+  noted-more : addresses (note l a v) ≡ addresses l ++ (a ∷ [])
+  noted-more = ap (λ n. entries n (note l a v)) (count-note l a v whole ∙ add-one (count l)) ∙ entry-more
+
+-- ---- by induction over work
+
+read-more : {A : Type 0} (f : Bool) (a : ℕ) (st : Store) (y : Now A) (xs : List Access) {x : A} {st₁ : Store} → allowed f a st y ≡ good x st₁
+    → (y ≡ good x st₁ → addresses (st₁ .log) ≡ addresses (st .log) ++ writesOf xs)
+    → addresses (st₁ .log) ≡ addresses (st .log) ++ writesOf (reads a ∷ cond f xs [])
+unfolding writesOf
+read-more true a st y xs h g = g h
+read-more false a st y xs h g = let z : _≡_ {A = ℕ} 0 1 = cc in absurd (omega arith)
+
+write-more : {A : Type 0} (f r : Bool) (a : ℕ) (st : Store) (y : Now A) (xs : List Access) {x : A} {st₁ : Store} → allowed f a st (allowed r a st y) ≡ good x st₁
+    → (r ≡ true → y ≡ good x st₁ → addresses (st₁ .log) ≡ (addresses (st .log) ++ (a ∷ [])) ++ writesOf xs)
+    → addresses (st₁ .log) ≡ addresses (st .log) ++ writesOf (writes a ∷ cond f xs [])
+unfolding writesOf
+write-more true true a st y xs h g = g refl h ∙ append-assoc (addresses (st .log)) (a ∷ []) (writesOf xs)
+write-more true false a st y xs h g = let z : _≡_ {A = ℕ} 0 1 = cc in absurd (omega arith)
+write-more false r a st y xs h g = let z : _≡_ {A = ℕ} 0 1 = cc in absurd (omega arith)
+
+wrote : {A : Type 0} (map : List ℕ) (w : Work A) (st : Store) → Board map st → {x : A} {st₁ : Store} → exec map w st ≡ good x st₁
+    → addresses (st₁ .log) ≡ addresses (st .log) ++ writtenBy map w (st .image)
+unfolding exec accesses writesOf
+wrote map (give x) st b h = ap (λ z. addresses (stateOf z .log)) (sym h) ∙ sym (append-nil (addresses (st .log)))
+wrote map (readAt z a k) st b h =
+    read-more (fitted map a) a st _ (accesses map (k (get z (st .image) a)) (st .image)) h (λ e. wrote map (k (get z (st .image) a)) st b e)
+wrote map (writeAt z a v w) st b h =
+    write-more (writable map a) (room (st .log)) a st _ (accesses map w (put z (st .image) a v)) h (λ r e.
+    wrote map w (noted z a v st) (board-noted z a v st r b) e
+    ∙ ap (λ ws. ws ++ writesOf (accesses map w (put z (st .image) a v))) (noted-more (st .log) a (wordAt (st .image) a) (b .whole) (room-few (st .log) r)))
+
+-- ---- from an empty log
+
+none-told : (l : List ℕ) → count l ≡ 0 → addresses l ≡ []
+unfolding entries
+none-told l e = rw e refl
+
+pub wrote-fresh : {A : Type 0} {map : List ℕ} {w : Work A} {st st₁ : Store} {r : Now A} {x : A} → Fresh map st → Got map w st r → r ≡ good x st₁
+    → addresses (st₁ .log) ≡ writtenBy map w (st .image)
+wrote-fresh {map = map} {w = w} {st = st} f g e =
+    wrote map w st (f .board) (sym (g .came) ∙ e) ∙ ap (λ ws. ws ++ writtenBy map w (st .image)) (none-told (st .log) (f .empty))
+
+pub emptied : {map m l l′ : List ℕ} → Board map (beside m l) → l′ ≡ set l 0 0 → addresses l′ ≡ []
+emptied {l = l} {l′ = l′} b e = none-told l′ (ap count e ∙ none-left l (b .whole))
+
+-- ---- a step's ends
+
+module _ (map : List ℕ) (k : Kind) (out : Outside) (s : State) (m ws : List ℕ) where
+  pub writes-well : {t : State} {n : List ℕ} → k ≡ kindOf s out → run map (workOf k out s) m ≡ value t n → ws ≡ writtenBy map (workOf k out s) m → ws ≡ stepWrites map out s m
+  unfolding stepWrites
+  writes-well e h d = rw (← e, h) d
+
+  pub writes-ill : (u : List ℕ) {a : ℕ} → k ≡ kindOf s out → run map (workOf k out s) m ≡ blank a → u ≡ m → ws ≡ errorWrites map k out s u → ws ≡ stepWrites map out s m
+  unfolding stepWrites
+  writes-ill u e h f d = rw (← e, h, ← f) d
+
+  pub error-writes-well : (u : List ℕ) {t : State} {n : List ℕ} → m ≡ u → run map (busError k out s) m ≡ value t n → ws ≡ writtenBy map (busError k out s) m → ws ≡ errorWrites map k out s u
+  unfolding errorWrites
+  error-writes-well u e h d = rw (← e, h) d
+
+  pub error-writes-ill : (u : List ℕ) {a : ℕ} → m ≡ u → run map (busError k out s) m ≡ blank a → ws ≡ [] → ws ≡ errorWrites map k out s u
+  unfolding errorWrites
+  error-writes-ill u e h d = rw (← e, h) d
