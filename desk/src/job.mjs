@@ -39,7 +39,9 @@ function patched(words, patch) {
 
 // The words of a source as entries of a job, each with the place of its line.
 function entries({ source, all, pairs }, inPatch) {
-  return pairs.map(([address, value]) => ({ address, value, inPatch, assembled: true, get place() { return source.placeOf(address, all); } }));
+  return pairs.map(([address, value]) => {
+    return { address, value, inPatch, assembled: true, get place() { return source.placeOf(address, all); } };
+  });
 }
 
 // { bytes, scans, board, labels, starts .. } of a text and the text of a patch, or a TextError; `inPatch` tells whose line.

@@ -1,37 +1,36 @@
 // The page: makes the desk and its views, and says what each control and key does.
 import { Desk } from "./desk.mjs";
 import { Editor } from "./editor.mjs";
-import { howEnded } from "./ended.mjs";
-import { opCodeAround } from "./listing.mjs";
 import { Library } from "./library.mjs";
-import { Runner } from "./running.mjs";
 import { Stops } from "./stops.mjs";
 import { TextError } from "./text.mjs";
 import { BoardView } from "./view_board.mjs";
+import { ControlsView } from "./view_controls.mjs";
 import { ProcessorView } from "./view_processor.mjs";
 import { RecorderView } from "./view_recorder.mjs";
 import { TraceView } from "./view_trace.mjs";
 import { Words, counted, grouped } from "./words.mjs";
 import { at, download, tell } from "./elements.mjs";
 import { bringBack, savedText } from "./saved.mjs";
-import { CAUSE, MODE, hex } from "./layout.mjs";
+import { MODE, hex } from "./layout.mjs";
 import { joinedText } from "./patching.mjs";
 import { readFile } from "./files.mjs";
 import { makeAlarm, makeDrop, makeKeys, makeLeaving } from "./window.mjs";
 import { goToTab, makeTabs, tabNow } from "./tabs.mjs";
 import { isPatch, patchOf, textOf } from "./job.mjs";
 
-const GIVEN = globalThis.GIVEN, MOST_TO_A_STOP = 1e9, MOST_STEPS = 1e9, BETWEEN_PROGRESS = 300; // milliseconds
+const GIVEN = globalThis.GIVEN;
 const FIRST = "card-pulled.txt";
 const BEGINNING = "Step goes on by one step, Run to a stop to the first blank. Open… takes your own job; so does dropping its file here.";
 
 const library = new Library(Uint8Array.from(atob(GIVEN.module), (character) => character.charCodeAt(0)));
-const words = new Words(GIVEN.numbers), desk = new Desk(library, words), stops = new Stops(), runner = new Runner(desk);
+const words = new Words(GIVEN.numbers), desk = new Desk(library, words), stops = new Stops();
 const about = `Hitchbriar ${GIVEN.version}, ${GIVEN.proved ? "its module is proved" : "its module is NOT proved"}`;
 const job = new Editor(at("job-editor"), "text of the job", () => load());
 const patch = new Editor(at("patch-editor"), "text of the patch", () => assemble(), ".ORG 0080\nLOOP: SOB R0,LOOP");
 const processor = new ProcessorView(desk, stops, show), board = new BoardView(desk, stops, show);
-const recorder = new RecorderView(desk, about, show, repeat), trace = new TraceView(desk, show);
+const controls = new ControlsView(desk, stops, showAtPc), { runner } = controls;
+const recorder = new RecorderView(desk, about, show, (...work) => controls.repeat(...work)), trace = new TraceView(desk, show);
 
 let safe = ""; // what was done, when it was last loaded, saved or brought back
 
@@ -43,13 +42,19 @@ function show() {
   showTexts();
 }
 
+function showAtPc() {
+  processor.from = null;
+  show();
+}
+
 // Whether what stands in the tabs Job and Patch is what the desk has; and which job that is, a sample or an own one.
 function showTexts() {
   at("job-name").textContent = job.text === desk.text ? `${desk.name} is on the desk` : `not loaded yet: the desk has ${desk.name}`;
   at("put-back").hidden = job.text === desk.text;
   at("patch-name").textContent = patch.text.trim() === "" ? "" : patch.text === desk.patch ? "in the image. " : "not assembled yet. ";
   const isSample = job.text === GIVEN.samples[desk.name]?.[0];
-  at("own-job").textContent = isSample ? "" : `${desk.name}${job.text === desk.text ? "" : ", text changed"}`, at("own-job").hidden = isSample;
+  at("own-job").hidden = isSample;
+  at("own-job").textContent = isSample ? "" : `${desk.name}${job.text === desk.text ? "" : ", text changed"}`;
   at("sample").value = isSample ? desk.name : "";
 }
 
@@ -72,17 +77,16 @@ function trying(editor, what, work) {
 function load(name = desk.name) {
   const other = name !== desk.name;
   if (!trying(job, name, () => desk.load(name, job.text, patch.text))) return showTexts();
-  if (other) stops.forget();
+  if (other) stops.forget(), recorder.limits = {};
   job.clear(), patch.clear(), trace.clear();
-  processor.from = null;
-  recorder.limits = {};
   if (desk.lines.length > 0) at("count").value = desk.lines.length; // Run then makes the whole job, as ./hitch run does
   safe = done();
   const what = `${name}${desk.job.patched === 0 ? "" : ` with its patch of ${counted(desk.job.patched, "word")}`} is loaded`;
-  const locked = desk.mode === MODE.locked, powered = locked ? ", and locked at power-up: the board can't fetch where it begins" : " and powered up";
+  const locked = desk.mode === MODE.locked;
+  const powered = locked ? ", and locked at power-up: the board can't fetch where it begins" : " and powered up";
   const scans = desk.scans.length === 0 ? "" : ` All scans, on the tab Recorder, makes its ${counted(desk.scans.length, "scan")}.`;
   tell(`${what}${powered}.${scans}`, locked);
-  show();
+  showAtPc();
 }
 
 // Loads another text and patch; answers whether that was done. Where it was not, the text stands in its tab with what is wrong, and the
@@ -150,11 +154,10 @@ function back({ name, text }) {
   job.text = kept.open.job, patch.text = kept.open.patch;
   stops.set(kept.stops), recorder.limits = kept.limits;
   trace.clear(), goToTab(kept.open.tab);
-  processor.from = null;
   safe = done();
   const scans = desk.scans.length === 0 ? "" : ` and ${grouped(desk.scansMade)} of ${counted(desk.scans.length, "scan")}`;
   tell(`${name}: the desk is as it was saved, with ${desk.name} after ${counted(desk.steps, "step")}${scans}.`);
-  show();
+  showAtPc();
 }
 
 function saveJob() {
@@ -171,80 +174,6 @@ function lunch() {
   download(name, savedText(desk, stops, recorder.limits, open, GIVEN), "application/json");
   tell(`The desk is saved as it stands, as ${name} among the downloads. Open… that file to go on.`);
   safe = done();
-}
-
-// ---- steps and runs
-
-function step() {
-  const was = hex(desk.pc), why = desk.step(), blank = () => words.blank(desk.told, library.map);
-  if (why !== 0) return tell(`The step is refused: ${words.refusal(why)}.`, true);
-  processor.from = null;
-  const last = desk.log.entries.at(-1);
-  if (desk.cause === CAUSE.lock) tell(`The processor is locked up${desk.told === null ? "" : `: ${blank()}`}. Only Power up helps.`, true);
-  else if (desk.told === null) tell(`Step ${grouped(desk.steps - 1)} at ${was}: ${last.words}. ${last.changes}${within()}`, within() !== "");
-  else tell(`A blank: ${blank()}. What stands at ${was} was dropped, and PC is where location 0012 points.`, true);
-  show();
-}
-
-// That PC has come into the midst of an op code, as the text has it.
-function within() {
-  const around = opCodeAround(desk, desk.pc);
-  return around === null ? "" : `. PC is inside the op code at ${hex(around)}.`;
-}
-
-function stepBack() {
-  const undone = desk.back();
-  if (undone === null) tell("Nothing is left to take back.");
-  else tell(undone === "" ? `Back: ${counted(desk.steps, "step")} made.` : `Undone: ${undone}.`);
-  processor.from = null;
-  show();
-}
-
-function busy(on) {
-  document.querySelector("main").inert = document.querySelector("header").inert = on;
-  for (const control of document.querySelectorAll(".controls button, .controls input")) control.disabled = on;
-  at("stop").disabled = !on;
-  at("progress").hidden = !on;
-  at("told").setAttribute("aria-live", on ? "off" : "polite"); // who listens hears how it ends, not each count
-}
-
-async function repeat(work, progress) {
-  const asked = document.activeElement;
-  busy(true);
-  at("stop").focus();
-  await runner.repeat(work, progress);
-  busy(false);
-  asked.focus();
-}
-
-async function run(most, asked) {
-  const from = desk.steps, place = desk.pc;
-  busy(true);
-  at("stop").focus();
-  at("progress").removeAttribute("value"); // how far a run to a stop is, nobody knows
-  let next = 0; // when it is told again how far the run is
-  const end = await runner.run(most, asked, (done) => {
-    if (asked === null) at("progress").max = most, at("progress").value = done;
-    if (performance.now() < next) return;
-    next = performance.now() + BETWEEN_PROGRESS;
-    tell(asked === null ? `${grouped(done)} steps of ${grouped(most)} …` : `${grouped(done)} steps and no stop yet: Stop or Esc ends the run.`);
-  });
-  busy(false);
-  processor.from = null;
-  const last = ["blank", "lock", "interrupt", "switch", "write"].includes(end.how) && end.steps > 0 ? desk.again() : null;
-  if (end.steps > 1 || last === null) desk.log.add(from, place, `a run of ${counted(end.steps - (last ? 1 : 0), "step")}`, end.blanks > 1);
-  if (last !== null) desk.logStep(last);
-  const [told, bad] = howEnded(desk, end, last);
-  show();
-  tell(told, bad);
-  at(asked === null ? "run" : "until").focus();
-}
-
-function runCount() {
-  const text = at("count").value.replace(/[ ,_]/g, ""), good = /^[0-9]{1,9}$/.test(text) && Number(text) > 0;
-  at("count").classList.toggle("wrong", !good);
-  if (!good) return tell(`'${at("count").value}' is no number of steps: 1 to ${grouped(MOST_STEPS - 1)} is needed.`, true);
-  return run(Number(text), null);
 }
 
 // ---- the page
@@ -266,10 +195,6 @@ function start() {
   job.changed = patch.changed = showTexts;
   at("sample").onchange = () => (at("sample").value === "" ? showTexts() : sample(at("sample").value));
   chooser("open", "file", false), chooser("check", "trace-file", true);
-  at("step").onclick = step, at("back").onclick = stepBack;
-  at("run").onclick = runCount, at("until").onclick = () => run(MOST_TO_A_STOP, stops), at("stop").onclick = () => runner.stop();
-  at("count").onkeydown = (event) => { if (event.key === "Enter") runCount(); };
-  at("power").onclick = () => (desk.powerUp(), tell("Powered up: memory and cards stay as they are, the job's line words begin anew."), processor.from = null, show());
   at("keys").onclick = () => at("help").showModal();
   at("put-back").onclick = () => (job.text = desk.text, tell(`The text of ${desk.name} is as the desk has it.`));
   at("load").onclick = () => load(), at("assemble").onclick = assemble, at("save-job").onclick = saveJob, at("lunch").onclick = lunch;

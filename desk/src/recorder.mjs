@@ -77,7 +77,8 @@ export function gaps(rows, channel) {
 // The same in words, the first few of them: 5 to 8, 11, and 3 more times.
 export function gapWords(rows, channel) {
   const all = gaps(rows, channel).map(([first, last]) => (first === last ? `${first}` : `${first} to ${last}`));
-  return [...all.slice(0, MOST_GAPS), ...(all.length > MOST_GAPS ? [`and ${counted(all.length - MOST_GAPS, "more time")}`] : [])].join(", ");
+  const more = all.length > MOST_GAPS ? [`and ${counted(all.length - MOST_GAPS, "more time")}`] : [];
+  return [...all.slice(0, MOST_GAPS), ...more].join(", ");
 }
 
 // A channel in a sentence, for who can't see its picture.

@@ -38,7 +38,8 @@ export function bringBack(desk, text, given) {
     labels: new Map(list(file.labels, "labels").map(labelled)), starts: new Set(addresses(file.starts, "starts")),
     written: new Set(addresses(file.written, "written")), hit: file.hit === null ? null : whole(file.hit, "hit"), job: jobFrom(file.job),
   };
-  const stops = stopsFrom(file.stops), limits = limitsFrom(file.limits), log = list(file.log, "log").map(entryFrom), open = openFrom(file.open);
+  const stops = stopsFrom(file.stops), limits = limitsFrom(file.limits);
+  const log = list(file.log, "log").map(entryFrom), open = openFrom(file.open);
   if (next.taken > next.lines.length || next.scansMade > next.scans.length) throw wrong("taken or scansMade");
   for (const [name, bytes] of Object.entries(lent)) library[name].set(bytes);
   Object.assign(desk, next, { history: new History() });
@@ -128,7 +129,8 @@ function limitsFrom(limits) {
 function jobFrom(job) {
   const { bytes, patched, unpatched } = job ?? {};
   if (typeof bytes !== "string" || bytes.length > 2 * SIZES.job || !/^([0-9A-F]{2})*$/.test(bytes)) throw wrong("job");
-  return { bytes: Uint8Array.from(bytes.match(/../g) ?? [], (two) => parseInt(two, 16)), patched: whole(patched, "job"), unpatched: unpatched === true };
+  const read = Uint8Array.from(bytes.match(/../g) ?? [], (two) => parseInt(two, 16));
+  return { bytes: read, patched: whole(patched, "job"), unpatched: unpatched === true };
 }
 
 // A line of what happened.

@@ -43,7 +43,8 @@ export class BoardView {
 
   showRack() {
     const { desk } = this;
-    if (desk.hit !== null && !at("rack").contains(document.activeElement)) this.pages.forEach((button, page) => { button.tabIndex = page === desk.hit ? 0 : -1; });
+    if (desk.hit !== null && !at("rack").contains(document.activeElement)) // who comes to the rack by keys comes to the blank
+      this.pages.forEach((button, page) => { button.tabIndex = page === desk.hit ? 0 : -1; });
     this.pages.forEach((button, page) => {
       const kind = desk.library.map[page], hit = page === desk.hit;
       button.className = `${["", "fitted", "rom"][kind]}${hit ? " hit" : ""}`;

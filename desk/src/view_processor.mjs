@@ -84,7 +84,8 @@ export class ProcessorView {
     const said = `${now ? "PC, " : ""}${stop ? "stop, " : ""}${bad ? "the last step, " : ""}${at} ${label} ${words} ${way?.words ?? ""}`;
     const line = made("button", { className: `line${now ? " now" : ""}${none ? " none" : ""}${bad ? " bad" : ""}`, "data-address": at });
     line.setAttribute("aria-pressed", String(stop)), line.setAttribute("aria-label", said);
-    line.append(part("mark", `${now ? "▸" : bad ? "✕" : ""}${stop ? "●" : ""}`), part("label", label), part("", at), part("", row.words.join(" ")),
+    const mark = `${now ? "▸" : bad ? "✕" : ""}${stop ? "●" : ""}`;
+    line.append(part("mark", mark), part("label", label), part("", at), part("", row.words.join(" ")),
       made("span", {}, words, part(`way${way?.bad ? " over" : ""}`, way === null ? "" : `  ${way.words}`)));
     line.onclick = () => this.toggleStop(address);
     return line;

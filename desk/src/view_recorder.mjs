@@ -43,8 +43,9 @@ export class RecorderView {
     if (limit === null) return tell(`No limit for ${whose} any more.`);
     const all = reports(this.desk.library), high = (channel) => over(all[channel], this.desk.rows, channel, limit);
     const above = channels.filter((channel) => high(channel).readings > 0);
-    const found = channels.length === 1 ? judged(all[channels[0]], high(channels[0]))
-      : above.length === 0 ? "no reading over it" : `readings over it in ${above.length === 1 ? "channel" : "channels"} ${above.join(", ")}`;
+    const which = `channel${above.length === 1 ? "" : "s"} ${above.join(", ")}`;
+    const some = above.length === 0 ? "no reading over it" : `readings over it in ${which}`;
+    const found = channels.length === 1 ? judged(all[channels[0]], high(channels[0])) : some;
     tell(`At most ${degrees(limit)} °C for ${whose}: ${found}.`, above.length > 0);
   }
 
@@ -97,7 +98,8 @@ export class RecorderView {
     all.forEach((report, channel) => this.showChannel(report, channel));
     const heads = HEADS.map((textContent) => made("th", { textContent, className: "number" }));
     at("report").replaceChildren(made("tr", {}, ...heads), ...all.map((report, channel) => this.row(report, channel)));
-    const refused = desk.scansMade - desk.rows.length, lost = refused > 0 ? `; ${counted(refused, "scan")} refused, which count nothing` : "";
+    const refused = desk.scansMade - desk.rows.length;
+    const lost = refused > 0 ? `; ${counted(refused, "scan")} refused, which count nothing` : "";
     at("report-title").textContent = `Plug recorder: ${desk.name}, ${counted(desk.rows.length, "scan")}${lost}`;
     at("report-foot").textContent = `${this.about}. A missing card is a blank and counts to no average. Signed: ______________________`;
   }

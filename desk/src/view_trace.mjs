@@ -53,7 +53,8 @@ export class TraceView {
     const heads = FIELDS.map((textContent, n) => made("th", { textContent, className: wrong(n) ? "wrong" : "" }));
     const table = made("table", { id: "beside", "aria-label": `step ${step}, theirs beside ours` },
       made("tr", {}, made("th"), ...heads), row("before", ours.from), row("theirs", theirs), row("ours", ours.after));
-    const show = made("button", { id: "show-step", textContent: `Load the job anew and go to step ${step}`, onclick: () => this.show(step) });
+    const textContent = `Load the job anew and go to step ${step}`, onclick = () => this.show(step);
+    const show = made("button", { id: "show-step", textContent, onclick });
     const line = ours.line === undefined ? "" : `, line word ${hex(ours.line)}`;
     const what = made("p", { className: "mono", textContent: `step ${step}, from 0: ${hex(ours.at)} ${ours.text}${line}` });
     return made("div", {}, what, table, show);

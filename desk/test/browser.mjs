@@ -119,7 +119,8 @@ export class Browser {
   async key(key, code = key) {
     const text = key === "Enter" ? "\r" : key.length === 1 ? key : null;
     const pressed = { key, code, windowsVirtualKeyCode: CODES[key] ?? key.toUpperCase().charCodeAt(0) };
-    await this.send("Input.dispatchKeyEvent", { type: text === null ? "rawKeyDown" : "keyDown", ...pressed, ...(text === null ? {} : { text }) });
+    const down = text === null ? { type: "rawKeyDown" } : { type: "keyDown", text };
+    await this.send("Input.dispatchKeyEvent", { ...down, ...pressed });
     await this.send("Input.dispatchKeyEvent", { type: "keyUp", ...pressed });
   }
 

@@ -183,7 +183,8 @@ export async function more({ given, words, newDesk, snapshot: of }) {
     same("a short image", "the saved desk's image can't be read", lost({ image: "00" }));
     same("no list", "the saved desk's rows can't be read", lost({ rows: [[1, 2]] }));
     const bad = [["stops", 3], ["stops", { causes: [], addresses: ["x"], writes: [] }], ["limits", { 99: 5 }], ["labels", [[1]]],
-      ["starts", [-1]], ["written", 1], ["hit", "C0"], ["job", { bytes: "0" }], ["log", [{}]], ["open", null], ["scans", [{}]], ["steps", -1], ["text", 5], ["lines", "zz"]];
+      ["starts", [-1]], ["written", 1], ["hit", "C0"], ["job", { bytes: "0" }], ["log", [{}]], ["open", null], ["scans", [{}]],
+      ["steps", -1], ["text", 5], ["lines", "zz"]];
     for (const [name, value] of bad) same(`a bad ${name}`, true, /can't be read|not a hex number/.test(lost({ [name]: value })));
     same("a cut file", "no saved desk", thrown(() => bringBack(fresh, file.slice(0, 900), given)).slice(0, 13));
     same("nothing is changed by those", was, snapshot(fresh));

@@ -11,7 +11,8 @@ export function textChecks({ given, words, newDesk }) {
   let checks = 0;
   const desk = newDesk(), load = (name) => desk.load(name, ...given.samples[name]);
   const same = (what, right, got) => (assert.deepStrictEqual(got, right, what), checks++);
-  const told = ({ place, message, inPatch }) => `${inPatch ? "patch " : ""}${place ? `${place.line}:${place.column}+${place.width} ` : ""}${message}`;
+  const at = (place) => (place ? `${place.line}:${place.column}+${place.width} ` : "");
+  const told = ({ place, message, inPatch }) => `${inPatch ? "patch " : ""}${at(place)}${message}`;
   const thrown = (work) => {
     try {
       work();
@@ -76,7 +77,8 @@ export function textChecks({ given, words, newDesk }) {
     const why = `refused: ${words.refusal(17)}`;
     same("a line of the text", `4:7+3 ${why}: 1002`, thrown(() => read("pages 00\n.ORG 1000\n.ORG 1002\nHERE: NOP\n.ORG 2000\nNOP")));
     same("a line of the patch", `patch 3:1+9 ${why}: 4000`, thrown(() => read("pages 00", "NOP\n.ORG 4000\nMOV R0,R1")));
-    same("a word that the patch takes the place of", `patch 2:1+3 ${why}: 4000`, thrown(() => read("pages 00\n4000 = 1", ".ORG 4000\nNOP")));
+    const both = thrown(() => read("pages 00\n4000 = 1", ".ORG 4000\nNOP"));
+    same("a word that the patch takes the place of", `patch 2:1+3 ${why}: 4000`, both);
   }
 
   function patches() {
@@ -103,7 +105,8 @@ export function textChecks({ given, words, newDesk }) {
     for (const file of fs.readdirSync("desk/src")) {
       const text = fs.readFileSync(`desk/src/${file}`, "utf8");
       same(`${file} has 300 lines at most`, true, text.split("\n").length <= 300);
-      same(`${file} imports its neighbours`, [], [...text.matchAll(/^import .* from "(.*)";$/gm)].map((one) => one[1]).filter((one) => !/^\.\/\w+\.mjs$/.test(one)));
+      const imported = Array.from(text.matchAll(/^import .* from "(.*)";$/gm), (found) => found[1]);
+      same(`${file} imports its neighbours`, [], imported.filter((one) => !/^\.\/\w+\.mjs$/.test(one)));
     }
   }
 

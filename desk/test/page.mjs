@@ -72,6 +72,7 @@ async function stepping() {
   await fill("count", "15");
   await runs("run");
   await reads("told", /^15 steps made; 3 steps met a blank, the first was step 6, at C000\.$/);
+  await reads("log", /^30090a run of 15 steps, 3 met a blank20086MOV @R2,R0: a bus error/);
   await reads("left", /^0$/);
   await fill("count", "many");
   await click("run");
@@ -226,7 +227,8 @@ try {
     await give("file", "wrong.trace", fs.readFileSync("jobs/example-wrong.trace"));
     const verdict = await browser.run("document.querySelector('#verdict').getBoundingClientRect().toJSON()");
     assert(verdict.top >= 0 && verdict.top < height - 60, "what a trace comes to is in sight");
-    await choose("sample", "sob.txt"), await tab("patch"), await fill("patch-editor textarea", ".ORG 0088\nSOB R1,04"), await click("assemble");
+    await choose("sample", "sob.txt"), await tab("patch");
+    await fill("patch-editor textarea", ".ORG 0088\nSOB R1,04"), await click("assemble");
     for (let n = 0; n < 4; n++) await click("step");
     await reads("told", /^Step 3 at 0088: SOB R1,04\. R1=0004 PC=0082\. PC is inside the op code at 0080\.$/);
     await reads("list", /SOB R1,04 {2}→ 0082, inside the op code at 0080/), await shot(`${name}-sob`, mobile);

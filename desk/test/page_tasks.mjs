@@ -5,7 +5,7 @@ import fs from "node:fs";
 export function taskParts({ page, browser, reads, holds, click, fill, tab, idle, shot, give }) {
   const begin = () => browser.open(page, 1024, 700);
   const sample = (name) => fs.readFileSync(`jobs/${name}`);
-  const marked = (selector) => browser.run(`[...document.querySelectorAll(${JSON.stringify(selector)})].map((one) => one.textContent || one.id)`);
+  const marked = (selector) => browser.run(`Array.from(document.querySelectorAll("${selector}"), (one) => one.textContent || one.id)`);
 
   async function pulledCard() {
     await begin(), await give("file", "rack.txt", sample("card-pulled.txt"));
