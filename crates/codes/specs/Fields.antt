@@ -40,18 +40,32 @@ format9Code op = op / 512 % 8
 abbrev pub offset : ℕ → ℕ
 offset op = op % 64
 
--- ---- format 2: REG in bits 2 to 0, where the single register stands
+-- ---- format 2: OPC in bits 15 to 3; REG in bits 2 to 0, where the single register stands
+
+abbrev pub format2Code : ℕ → ℕ
+format2Code op = op / 8
 
 abbrev pub onlyRegister : ℕ → ℕ
 onlyRegister op = op % 8
 
--- ---- format 4: OPC in bits 7 and 6, ARG in bits 5 to 0
+-- ---- format 4: OPC in bits 15 to 6, ARG in bits 5 to 0
 
 abbrev pub format4Code : ℕ → ℕ
 format4Code op = op / 64
 
 abbrev pub argument : ℕ → ℕ
 argument op = op % 64
+
+-- ---- format 8: OPC in bits 8 to 6, SRC in bits 5 to 3, DST in bits 2 to 0: registers
+
+abbrev pub format8Code : ℕ → ℕ
+format8Code op = op / 64 % 8
+
+abbrev pub blockSource : ℕ → ℕ
+blockSource op = op / 8 % 8
+
+abbrev pub blockDestination : ℕ → ℕ
+blockDestination op = op % 8
 
 -- ---- format 10: OPC in bits 15 to 12
 

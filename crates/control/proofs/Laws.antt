@@ -1,4 +1,3 @@
 -- The laws of the crate's definitions.
 pub mod Bounds
-pub mod Format2
 pub mod Low

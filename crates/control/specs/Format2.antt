@@ -1,8 +1,8 @@
 -- Format 2, 0010 to 002F: a register k; and format 3, 0030 to 003F.
-use Prim.Native.Nat.{ℕ, _+_, _/_, _%_}
-use mathlib.Core.List.{List, [], _∷_}
-use lib.ListN.{getD}
-use Rattle.codes.specs.Fields.{onlyRegister}
+use Prim.Native.Nat.{ℕ}
+use mathlib.Core.Bool.{cond}
+use lib.Dec.{eqb}
+use Rattle.codes.specs.Fields.{format2Code, onlyRegister}
 use Rattle.word.specs.Status.{flagsOf}
 use Rattle.board.specs.Work.{Work, give, load, _>>=_, _>>_}
 use Rattle.board.specs.Work as Work
@@ -36,15 +36,13 @@ prtn s k = do
   tmp ← load (s .regs .sp)
   rtn (withSp s (plus (s .regs .sp) (twice tmp))) k
 
--- IAK, RTN, MSKO, PRTN, by bits 5 to 3, from 2
-abbrev pub codes2 : Outside → State → ℕ → List (Work State)
-codes2 out s k = give (iak out s k) ∷ rtn s k ∷ msko s k ∷ []
-
-abbrev pub number2 : ℕ → ℕ
-number2 op = (op / 8 + 6) % 8
-
+-- IAK 0010, RTN 0018, MSKO 0020, PRTN 0028
 unfoldable pub format2 : Outside → State → ℕ → Work State
-format2 out s op = getD (codes2 out s (onlyRegister op)) (number2 op) (prtn s (onlyRegister op))
+format2 out s op =
+    cond (eqb (format2Code op) 2) (give (iak out s (onlyRegister op)))
+    (cond (eqb (format2Code op) 3) (rtn s (onlyRegister op))
+    (cond (eqb (format2Code op) 4) (msko s (onlyRegister op))
+    (prtn s (onlyRegister op))))
 
 -- LCC: N Z V C from bits 3 to 0 of the op code
 abbrev pub lcc : State → ℕ → State

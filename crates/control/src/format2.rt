@@ -68,11 +68,10 @@ pub(crate) fn format2(
     ensures { λ r. ⌜ Works (now (map .entry)) (Spec.format2 out s op) (now (image .entry)) (now (log .entry)) r (now (image .exit)) (now (log .exit)) ⌝ }
 {
     let k = op % 8;
-    let which = (op / 8 + 6) % 8;
-    match which {
-        0 => Went::Done(iak(s, out, k)),
-        1 => rtn(s, image, map, k),
-        2 => msko(s, image, map, log, k),
+    match op / 8 {
+        2 => Went::Done(iak(s, out, k)),
+        3 => rtn(s, image, map, k),
+        4 => msko(s, image, map, log, k),
         _ => prtn(s, image, map, k),
     }
 }

@@ -3,7 +3,6 @@ use Prim.Native.Nat.{ℕ}
 use mathlib.Core.Bool.{true, false, not, cond}
 use mathlib.Core.List.{List, [], _∷_}
 use lib.Bits.{bitOr}
-use lib.Dec.{ltb}
 use lib.ListN.{getD}
 use Rattle.board.specs.Work.{Work, give, load, _>>=_, _>>_}
 use Rattle.board.specs.Work as Work
@@ -11,7 +10,7 @@ use Rattle.state.specs.declared.State.{State}
 use Rattle.state.specs.declared.Outside.{Outside}
 use Rattle.state.specs.declared.Mode.the-variants.{Waiting, PowerHalt, SwitchHalt}
 use Rattle.state.specs.State.{withSp, withI2, withMode, withMark, psOf}
-use Rattle.word.specs.Address.{plus, minus}
+use Rattle.word.specs.Address.{plus}
 use Rattle.state.specs.Stack.{push, pushReg, pop, popReg, popStatus, fetch, fromLoc, pushBoth, trapNow}
 
 -- NOP: no operations are performed. RESET: a pulse is transmitted; here nothing hears it
@@ -105,31 +104,29 @@ rsvc s = do
   s ← rest s
   rtt (withSp s (plus (s .regs .sp) 2))
 
--- 0000 to 0004 are 0 to 4, 0006 to 000F are 5 to 14. XCT, 0005, is begun before an op code is executed (step Xct), and never executed itself.
-abbrev pub numberOf : ℕ → ℕ
-numberOf op = cond (ltb op 5) op (minus op 1)
+-- XCT is not executed here: it is begun before the op code that it executes (step Xct), and no op code that is executed is XCT
+abbrev pub notHere : State → State
+notHere s = s
 
--- NOP, RESET, IEN, IDS, HALT, BPT, WFI, RSVC, RRTT, SAVE, SAVS, REST, RRTN, RSTS; the last is RTT
 abbrev pub codes1 : Outside → State → List (Work State)
-codes1 out s =
-    give (nop s)
-    ∷ give (nop s)
-    ∷ give (ien s)
-    ∷ give (ids s)
-    ∷ give (halt out s)
-    ∷ bpt out s
-    ∷ give (wfi s)
-    ∷ rsvc s
-    ∷ rrtt s
-    ∷ save s
-    ∷ savs s
-    ∷ rest s
-    ∷ rrtn s
-    ∷ rsts s
+codes1 out s
+    = give (nop s)  -- 0000 NOP
+    ∷ give (nop s)  -- 0001 RESET
+    ∷ give (ien s)  -- 0002 IEN
+    ∷ give (ids s)  -- 0003 IDS
+    ∷ give (halt out s)  -- 0004 HALT
+    ∷ give (notHere s)  -- 0005 XCT
+    ∷ bpt out s  -- 0006 BPT
+    ∷ give (wfi s)  -- 0007 WFI
+    ∷ rsvc s  -- 0008 RSVC
+    ∷ rrtt s  -- 0009 RRTT
+    ∷ save s  -- 000A SAVE
+    ∷ savs s  -- 000B SAVS
+    ∷ rest s  -- 000C REST
+    ∷ rrtn s  -- 000D RRTN
+    ∷ rsts s  -- 000E RSTS
+    ∷ rtt s  -- 000F RTT
     ∷ []
 
-unfoldable pub byNumber : Outside → State → ℕ → Work State
-byNumber out s number = getD (codes1 out s) number (rtt s)
-
 unfoldable pub format1 : Outside → State → ℕ → Work State
-format1 out s op = byNumber out s (numberOf op)
+format1 out s op = getD (codes1 out s) op (rtt s)

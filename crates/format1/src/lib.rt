@@ -7,7 +7,6 @@ use state::State;
 use state::Took;
 use state::Went;
 use state::untaken;
-use word::address::minus;
 use word::address::plus;
 ghost use mathlib.Core.Bool.{cond};
 ghost use mathlib.Core.Path.{_≡_};
@@ -204,40 +203,34 @@ fn rsvc(s: State, image: &[u8], map: &[u8]) -> Went
     rtt(t.with_sp(plus(t.regs.sp, 2)), image, map)
 }
 
-// 0000 to 0004 are 0 to 4, 0006 to 000F are 5 to 14. XCT, 0005, is begun before an op code is executed.
-fn number_of(op: u16) -> u16
-    ensures { λ r. ⌜ r ≡ Spec.numberOf op ⌝ }
-{
-    if op < 5 { op } else { minus(op, 1) }
-}
-
-// Format 1 by that number.
+// Format 1 by number. XCT, 0005, is not executed here.
 fn by_number(
     s: State,
     image: &mut [u8],
     map: &[u8],
     log: &mut [u16; 32],
     out: Outside,
-    number: u16,
+    op: u16,
 ) -> Went
     requires { ⌜ Board (now map) (beside (now image) (now log)) ⌝ }
-    ensures { λ r. ⌜ Works (now (map .entry)) (Spec.byNumber out s number) (now (image .entry)) (now (log .entry)) r (now (image .exit)) (now (log .exit)) ⌝ }
+    ensures { λ r. ⌜ Works (now (map .entry)) (Spec.format1 out s op) (now (image .entry)) (now (log .entry)) r (now (image .exit)) (now (log .exit)) ⌝ }
 {
-    match number {
+    match op {
         0 => Went::Done(s),
         1 => Went::Done(s),
         2 => Went::Done(ien(s)),
         3 => Went::Done(s.with_i2(false)),
         4 => Went::Done(halt(s, out)),
-        5 => bpt(s, image, map, log, out),
-        6 => Went::Done(wfi(s)),
-        7 => rsvc(s, image, map),
-        8 => rrtt(s, image, map),
-        9 => save(s, image, map, log),
-        10 => savs(s, image, map, log),
-        11 => rest(s, image, map),
-        12 => rrtn(s, image, map),
-        13 => rsts(s, image, map, log),
+        5 => Went::Done(s),
+        6 => bpt(s, image, map, log, out),
+        7 => Went::Done(wfi(s)),
+        8 => rsvc(s, image, map),
+        9 => rrtt(s, image, map),
+        10 => save(s, image, map, log),
+        11 => savs(s, image, map, log),
+        12 => rest(s, image, map),
+        13 => rrtn(s, image, map),
+        14 => rsts(s, image, map, log),
         _ => rtt(s, image, map),
     }
 }
@@ -266,9 +259,8 @@ pub fn format1(
     }
     let t = s;
     let o = out;
-    let number = number_of(op);
     if op < 8 {
-        return state::apart(by_number(t, image, map, log, o, number));
+        return state::apart(by_number(t, image, map, log, o, op));
     }
-    state::apart(by_number(t, image, map, log, o, number))
+    state::apart(by_number(t, image, map, log, o, op))
 }

@@ -13,7 +13,7 @@ use Rattle.arith.specs.Ops.{extended}
 use Rattle.board.specs.Work.{Work, give, Size, word, byte, _>>=_, _>>_}
 use Rattle.state.specs.declared.State.{State}
 use Rattle.state.specs.State.{withReg, withFlags}
-use Rattle.word.specs.Address.{minus}
+use Rattle.word.specs.Address.{plus, minus}
 use Rattle.operand.specs.declared.Place.{Place}
 use Rattle.operand.specs.declared.Place.the-variants.{Reg, Mem}
 use Rattle.operand.specs.Operand.{writeTo}
@@ -21,9 +21,9 @@ use Rattle.operand.specs.Destination.{operandOf, destination}
 use Rattle.word.specs.declared.Flags.{Flags}
 use Rattle.word.specs.declared.Done.{Done}
 
--- ADD 1000 to XOR 6000, CMP 9000, BIT A000, MOV B000
+-- six from digit 1 on, ADD 1000 to XOR 6000; then, from digit 9 on, CMP 9000, BIT A000, MOV B000
 abbrev pub binaryNumber : ℕ → ℕ
-binaryNumber op = cond (ltb op 0x8000) (minus (highDigit op) 1) (minus (highDigit op) 3)
+binaryNumber op = cond (ltb op 0x8000) (minus (highDigit op) 1) (plus 6 (minus (highDigit op) 9))
 
 -- CMP and BIT alter neither operand
 abbrev pub stores : Binary → Bool
@@ -90,4 +90,4 @@ byteCode op = byteBinaryAt (minus (highDigit op) 12)
 -- CMPB C000, MOVB D000, BISB E000 on bytes, the others on words
 unfoldable pub format10 : State → ℕ → Work State
 format10 s op =
-    cond (ltb op 0xc000) (onWords (binaryAt (binaryNumber op)) s op) (onBytes (byteBinaryAt (minus (highDigit op) 12)) s op)
+    cond (ltb op 0xc000) (onWords (binaryCode op) s op) (onBytes (byteCode op) s op)

@@ -1,15 +1,15 @@
 -- Format 5, 0100 to 07FF and 8000 to 87FF: the branches.
 use mathlib.Core.Bool.{cond}
 use Prim.Native.Nat.{ℕ, _+_, _*_, _/_, _%_}
-use lib.Dec.{ltb}
 use Rattle.arith.specs.Branch.{taken}
+use Rattle.arith.specs.Ops.{extended}
 use Rattle.state.specs.declared.State.{State}
 use Rattle.state.specs.State.{withPc}
-use Rattle.word.specs.Address.{plus}
+use Rattle.word.specs.Address.{plus, twice}
 
--- DISP * 2: the displacement is a signed byte
+-- DISP * 2: DISP is a signed byte, bits 7 to 0, and its sign is extended as MOVB's
 abbrev pub displacement : ℕ → ℕ
-displacement op = cond (ltb (op % 256) 128) (op % 256 * 2) (op % 256 * 2 + 65024)
+displacement op = twice (extended (op % 256))
 
 -- BR to BLE are 1 to 7, BPL to BCS 8 to 15
 abbrev pub branchNumber : ℕ → ℕ

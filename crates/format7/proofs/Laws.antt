@@ -1,2 +1,3 @@
 -- The laws of the crate's definitions.
 pub mod Bounds
+pub mod Columns

@@ -1,62 +1,53 @@
 -- Format 7, 0A00 to 0DFF and 8A00 to 8DFF: one operand.
-use Prim.Native.Nat.{ℕ, _+_, _/_, _%_}
+use Prim.Native.Nat.{ℕ, _/_, _%_}
 use mathlib.Core.Bool.{Bool, false, cond}
+use mathlib.Core.List.{List, [], _∷_}
 use lib.Dec.{eqb, ltb}
+use lib.ListN.{getD}
 use Rattle.word.specs.declared.Flags.{Flags}
 use Rattle.word.specs.declared.Done.{Done}
+use Rattle.codes.specs.declared.Unary.{Unary}
+use Rattle.codes.specs.declared.Unary.the-variants.{Ror, Rol, Tst, Asl, Set, Clr, Asr, Swap, Com, Neg, Inc, Dec}
 use Rattle.unary.specs.Ops.{iw2Of, sxtOf, adcOf, sbcOf}
 use Rattle.unary.specs.Unary.{unaryOf}
-use Rattle.codes.specs.Codes.{unaryAt}
 use Rattle.codes.specs.Fields.{destinationMode, destinationRegister}
 use Rattle.board.specs.Work.{Work, give, Size, word, byte, _>>=_, _>>_}
 use Rattle.state.specs.declared.State.{State}
 use Rattle.state.specs.declared.Outside.{Outside}
 use Rattle.state.specs.State.{withFlags, withStatus, psOf}
-use Rattle.word.specs.Address.{plus}
-use Rattle.state.specs.Stack.{push}
+use Rattle.word.specs.Address.{plus, minus}
+use Rattle.state.specs.Stack.{push, tabled}
 use Rattle.operand.specs.declared.Place.{Place}
 use Rattle.operand.specs.Operand.{writeTo}
-use Rattle.state.specs.Stack.{tabled}
 use Rattle.operand.specs.Destination.{destination}
-
--- the place of an op code among the 16 from 0A00, and among those from 8A00
-abbrev pub placeOf : ℕ → ℕ
-placeOf op = (op / 64 + 24) % 64
 
 -- the operand is in a register: mode 0
 abbrev pub inRegister : ℕ → Bool
 inRegister op = eqb (destinationMode op) 0
 
--- IW2 0D00, SXT 0D40; ADC 8D80, SBC 8DC0
-abbrev pub furtherOf : ℕ → ℕ → ℕ → Flags → Done
-furtherOf op at d f =
-    cond (ltb op 0x8000) (cond (eqb at 12) (iw2Of d) (sxtOf f)) (cond (eqb at 14) (adcOf d f) (sbcOf d f))
+-- the result of an op code that both columns have: on words, and on bytes
+abbrev pub resultOf : Size → Unary → ℕ → ℕ → Flags → Done
+resultOf word u op = unaryOf 16 u (inRegister op)
+resultOf byte u op = unaryOf 8 u (inRegister op)
 
--- on words: ROR to DEC, and these four
-unfoldable pub wordOf : ℕ → ℕ → ℕ → Flags → Done
-wordOf op at d f = cond (ltb at 12) (unaryOf 16 (unaryAt at) (inRegister op) d f) (furtherOf op at d f)
-
--- on bytes: RORB to DECB, SWAD in SWAB's place
-unfoldable pub byteOf : ℕ → ℕ → ℕ → Flags → Done
-byteOf op at d f = unaryOf 8 (unaryAt at) (inRegister op) d f
-
-abbrev pub resultOf : Size → ℕ → ℕ → ℕ → Flags → Done
-resultOf word op at d f = wordOf op at d f
-resultOf byte op at d f = byteOf op at d f
-
--- TST and TSTB set the indicators and write nothing
-unfoldable pub stored : Size → ℕ → ℕ → State → Place → ℕ → Work State
-stored z op at s p v = cond (eqb at 2) (give s) (writeTo z s (destinationRegister op) p v)
-
--- the indicators set, and the result left to be stored
-abbrev pub storedDone : Size → ℕ → ℕ → State → Place → Done → Work State
-storedDone z op at s p d = stored z op at (withFlags s (d .flags)) p (d .value)
+-- the indicators set, and the result stored
+abbrev pub stored : Size → ℕ → State → Place → Done → Work State
+stored z op s p d = writeTo z (withFlags s (d .flags)) (destinationRegister op) p (d .value)
 
 -- (DST) ← its result; the indicators
-unfoldable pub modify : Size → State → ℕ → ℕ → Work State
-modify z s op at = do
+unfoldable pub modify : Size → (ℕ → Flags → Done) → State → ℕ → Work State
+modify z result s op = do
   o ← destination z s op
-  storedDone z op at (o .state) (o .place) (resultOf z op at (o .operand) (o .state .flags))
+  stored z op (o .state) (o .place) (result (o .operand) (o .state .flags))
+
+abbrev pub on : Size → Unary → State → ℕ → Work State
+on z u s op = modify z (resultOf z u op) s op
+
+-- TST, TSTB: the indicators; nothing is written
+unfoldable pub test : Size → State → ℕ → Work State
+test z s op = do
+  o ← destination z s op
+  give (withFlags (o .state) (resultOf z Tst op (o .operand) (o .state .flags) .flags))
 
 -- TCALL: ↓ SP, @SP ← PC; PC ← PC + (DST); PC ← PC + @PC
 unfoldable pub tcall : State → ℕ → Work State
@@ -83,21 +74,53 @@ ssts out s op = do
   o ← destination word s op
   writeTo word (o .state) (destinationRegister op) (o .place) (psOf out false (o .state))
 
--- 8D00 LSTS, 8D40 SSTS
-unfoldable pub statusCode : Outside → State → ℕ → ℕ → Work State
-statusCode out s op at = cond (eqb at 12) (lsts s op) (ssts out s op)
+-- ---- the two columns
 
--- these two; 0D80 TCALL, 0DC0 TJMP
-unfoldable pub noResult : Outside → State → ℕ → ℕ → Work State
-noResult out s op at = cond (ltb op 0x8000) (cond (eqb at 14) (tcall s op) (tjmp s op)) (statusCode out s op at)
+abbrev pub column0A : State → ℕ → List (Work State)
+column0A s op
+    = on word Ror s op  -- 0A00 ROR
+    ∷ on word Rol s op  -- 0A40 ROL
+    ∷ test word s op  -- 0A80 TST
+    ∷ on word Asl s op  -- 0AC0 ASL
+    ∷ on word Set s op  -- 0B00 SET
+    ∷ on word Clr s op  -- 0B40 CLR
+    ∷ on word Asr s op  -- 0B80 ASR
+    ∷ on word Swap s op  -- 0BC0 SWAB
+    ∷ on word Com s op  -- 0C00 COM
+    ∷ on word Neg s op  -- 0C40 NEG
+    ∷ on word Inc s op  -- 0C80 INC
+    ∷ on word Dec s op  -- 0CC0 DEC
+    ∷ modify word (λ d f. iw2Of d) s op  -- 0D00 IW2
+    ∷ modify word (λ d f. sxtOf f) s op  -- 0D40 SXT
+    ∷ tcall s op  -- 0D80 TCALL
+    ∷ tjmp s op  -- 0DC0 TJMP
+    ∷ []
 
--- 0A00 to 0D7F, and 8D80, 8DC0
-abbrev pub onWord : ℕ → ℕ → Bool
-onWord op at = cond (ltb op 0x8000) (ltb at 14) (ltb 13 at)
+abbrev pub column8A : Outside → State → ℕ → List (Work State)
+column8A out s op
+    = on byte Ror s op  -- 8A00 RORB
+    ∷ on byte Rol s op  -- 8A40 ROLB
+    ∷ test byte s op  -- 8A80 TSTB
+    ∷ on byte Asl s op  -- 8AC0 ASLB
+    ∷ on byte Set s op  -- 8B00 SETB
+    ∷ on byte Clr s op  -- 8B40 CLRB
+    ∷ on byte Asr s op  -- 8B80 ASRB
+    ∷ on byte Swap s op  -- 8BC0 SWAD
+    ∷ on byte Com s op  -- 8C00 COMB
+    ∷ on byte Neg s op  -- 8C40 NEGB
+    ∷ on byte Inc s op  -- 8C80 INCB
+    ∷ on byte Dec s op  -- 8CC0 DECB
+    ∷ lsts s op  -- 8D00 LSTS
+    ∷ ssts out s op  -- 8D40 SSTS
+    ∷ modify word adcOf s op  -- 8D80 ADC
+    ∷ modify word sbcOf s op  -- 8DC0 SBC
+    ∷ []
 
--- on words; 8A00 to 8CFF on bytes; the others
+-- the row of an op code in its column: 64 words to each
+abbrev pub rowOf : ℕ → ℕ
+rowOf op = minus (op % 0x8000) 0x0a00 / 64
+
+-- a look-up past the last row, which no op code of the format reaches, gives that row
 unfoldable pub format7 : Outside → State → ℕ → Work State
 format7 out s op =
-    cond (onWord op (placeOf op)) (modify word s op (placeOf op))
-    (cond (ltb (placeOf op) 12) (modify byte s op (placeOf op))
-    (noResult out s op (placeOf op)))
+    cond (ltb op 0x8000) (getD (column0A s op) (rowOf op) (tjmp s op)) (getD (column8A out s op) (rowOf op) (modify word sbcOf s op))

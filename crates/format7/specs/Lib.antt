@@ -1,1 +1,2 @@
 pub mod Format7
+pub mod Rows

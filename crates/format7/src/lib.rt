@@ -18,32 +18,34 @@ use state::State;
 use state::Went;
 use word::Done;
 use word::Flags;
+use word::address::minus;
 use word::address::plus;
 ghost use mathlib.Core.Path.{_≡_};
 ghost use Rattle.board.specs.Work.{word, byte};
 ghost use Rattle.board.specs.Exec.{beside, Lent, Board, Saw};
 ghost use Rattle.state.specs.Answer.{Works, wentAs};
 ghost use Rattle.format7.specs.Format7 as Spec;
+ghost use Rattle.format7.specs.Rows as Rows;
 
-// The place of an op code among the 16 from 0A00, and among those from 8A00.
-fn place_of(op: u16) -> u16
-    ensures { λ r. ⌜ r ≡ Spec.placeOf op ⌝ }
+// The row of an op code among the 16 from 0A00, or among those from 8A00.
+fn row_of(op: u16) -> u16
+    ensures { λ r. ⌜ r ≡ Spec.rowOf op ⌝ }
 {
-    (op / 64 + 24) % 64
+    minus(op % 0x8000, 0xa00) / 64
 }
 
 // IW2, SXT, ADC, SBC.
-fn further_word(op: u16, at: u16, d: u16, f: Flags) -> Done
-    ensures { λ r. ⌜ r ≡ Spec.furtherOf op at d f ⌝ }
+fn further_word(op: u16, row: u16, d: u16, f: Flags) -> Done
+    ensures { λ r. ⌜ r ≡ Rows.furtherAt op row d f ⌝ }
 {
     if op < 0x8000 {
-        if at == 12 {
+        if row == 12 {
             unary::on_words::iw2(d)
         } else {
             unary::on_words::sxt(f)
         }
     } else {
-        if at == 14 {
+        if row == 14 {
             unary::on_words::adc(d, f)
         } else {
             unary::on_words::sbc(d, f)
@@ -51,19 +53,19 @@ fn further_word(op: u16, at: u16, d: u16, f: Flags) -> Done
     }
 }
 
-fn word_result(op: u16, at: u16, d: u16, f: Flags) -> Done
-    ensures { λ r. ⌜ r ≡ Spec.wordOf op at d f ⌝ }
+fn word_result(op: u16, row: u16, d: u16, f: Flags) -> Done
+    ensures { λ r. ⌜ r ≡ Rows.resultAt word op row d f ⌝ }
 {
-    if at < 12 {
-        return unary::by_code::unary16(codes::unary_at(at), op / 8 % 8 == 0, d, f);
+    if row < 12 {
+        return unary::by_code::unary16(codes::unary_at(row), op / 8 % 8 == 0, d, f);
     }
-    further_word(op, at, d, f)
+    further_word(op, row, d, f)
 }
 
-fn byte_result(op: u16, at: u16, d: u8, f: Flags) -> Done
-    ensures { λ r. ⌜ r ≡ Spec.byteOf op at d f ⌝ }
+fn byte_result(op: u16, row: u16, d: u8, f: Flags) -> Done
+    ensures { λ r. ⌜ r ≡ Rows.resultAt byte op row d f ⌝ }
 {
-    unary::by_code::unary8(codes::unary_at(at), op / 8 % 8 == 0, d, f)
+    unary::by_code::unary8(codes::unary_at(row), op / 8 % 8 == 0, d, f)
 }
 
 fn stored_word(
@@ -72,14 +74,14 @@ fn stored_word(
     map: &[u8],
     log: &mut [u16; 32],
     op: u16,
-    at: u16,
+    row: u16,
     place: Place,
     v: u16,
 ) -> Went
     requires { ⌜ Board (now map) (beside (now image) (now log)) ⌝ }
-    ensures { λ r. ⌜ Works (now (map .entry)) (Spec.stored word op at s place v) (now (image .entry)) (now (log .entry)) r (now (image .exit)) (now (log .exit)) ⌝ }
+    ensures { λ r. ⌜ Works (now (map .entry)) (Rows.storedAt word op row s place v) (now (image .entry)) (now (log .entry)) r (now (image .exit)) (now (log .exit)) ⌝ }
 {
-    if at == 2 {
+    if row == 2 {
         return Went::Done(s);
     }
     operand::write_word(s, image, map, log, op % 8, place, v)
@@ -91,14 +93,14 @@ fn stored_byte(
     map: &[u8],
     log: &mut [u16; 32],
     op: u16,
-    at: u16,
+    row: u16,
     place: Place,
     v: u16,
 ) -> Went
     requires { ⌜ Board (now map) (beside (now image) (now log)) ⌝ }
-    ensures { λ r. ⌜ Works (now (map .entry)) (Spec.stored byte op at s place v) (now (image .entry)) (now (log .entry)) r (now (image .exit)) (now (log .exit)) ⌝ }
+    ensures { λ r. ⌜ Works (now (map .entry)) (Rows.storedAt byte op row s place v) (now (image .entry)) (now (log .entry)) r (now (image .exit)) (now (log .exit)) ⌝ }
 {
-    if at == 2 {
+    if row == 2 {
         return Went::Done(s);
     }
     operand::write_byte(s, image, map, log, op % 8, place, v)
@@ -111,10 +113,10 @@ fn modify_word(
     map: &[u8],
     log: &mut [u16; 32],
     op: u16,
-    at: u16,
+    row: u16,
 ) -> Went
     requires { ⌜ Board (now map) (beside (now image) (now log)) ⌝ }
-    ensures { λ r. ⌜ Works (now (map .entry)) (Spec.modify word s op at) (now (image .entry)) (now (log .entry)) r (now (image .exit)) (now (log .exit)) ⌝ }
+    ensures { λ r. ⌜ Works (now (map .entry)) (Rows.modifyAt word s op row) (now (image .entry)) (now (log .entry)) r (now (image .exit)) (now (log .exit)) ⌝ }
 {
     let k = op % 8;
     let found = locate(image, map, 2, k, s.reg(k), s.regs.pc, op / 8 % 8);
@@ -125,14 +127,14 @@ fn modify_word(
     let Word::Value(d) = read_word(image, map, place, t.reg(k)) else {
         return unanswered(place);
     };
-    let done = word_result(op, at, d, t.flags);
+    let done = word_result(op, row, d, t.flags);
     stored_word(
         t.with_flags(done.flags),
         image,
         map,
         log,
         op,
-        at,
+        row,
         place,
         done.value,
     )
@@ -145,10 +147,10 @@ fn modify_byte(
     map: &[u8],
     log: &mut [u16; 32],
     op: u16,
-    at: u16,
+    row: u16,
 ) -> Went
     requires { ⌜ Board (now map) (beside (now image) (now log)) ⌝ }
-    ensures { λ r. ⌜ Works (now (map .entry)) (Spec.modify byte s op at) (now (image .entry)) (now (log .entry)) r (now (image .exit)) (now (log .exit)) ⌝ }
+    ensures { λ r. ⌜ Works (now (map .entry)) (Rows.modifyAt byte s op row) (now (image .entry)) (now (log .entry)) r (now (image .exit)) (now (log .exit)) ⌝ }
 {
     let k = op % 8;
     let found = locate(image, map, byte_step(k), k, s.reg(k), s.regs.pc, op / 8 % 8);
@@ -159,14 +161,14 @@ fn modify_byte(
     let Byte::Value(d) = read_byte(image, map, place, t.reg(k)) else {
         return unanswered(place);
     };
-    let done = byte_result(op, at, d, t.flags);
+    let done = byte_result(op, row, d, t.flags);
     stored_byte(
         t.with_flags(done.flags),
         image,
         map,
         log,
         op,
-        at,
+        row,
         place,
         done.value,
     )
@@ -225,10 +227,10 @@ fn ssts(s: State, image: &mut [u8], map: &[u8], log: &mut [u16; 32], out: Outsid
 }
 
 // 0A00 to 0D7F, and 8D80, 8DC0.
-fn on_word(op: u16, at: u16) -> bool
-    ensures { λ r. ⌜ r ≡ Spec.onWord op at ⌝ }
+fn on_word(op: u16, row: u16) -> bool
+    ensures { λ r. ⌜ r ≡ Rows.onWordAt op row ⌝ }
 {
-    if op < 0x8000 { at < 14 } else { 13 < at }
+    if op < 0x8000 { row < 14 } else { 13 < row }
 }
 
 // 8D00 LSTS, 8D40 SSTS.
@@ -239,12 +241,12 @@ fn status_code(
     log: &mut [u16; 32],
     out: Outside,
     op: u16,
-    at: u16,
+    row: u16,
 ) -> Went
     requires { ⌜ Board (now map) (beside (now image) (now log)) ⌝ }
-    ensures { λ r. ⌜ Works (now (map .entry)) (Spec.statusCode out s op at) (now (image .entry)) (now (log .entry)) r (now (image .exit)) (now (log .exit)) ⌝ }
+    ensures { λ r. ⌜ Works (now (map .entry)) (Rows.statusAt out s op row) (now (image .entry)) (now (log .entry)) r (now (image .exit)) (now (log .exit)) ⌝ }
 {
-    if at == 12 {
+    if row == 12 {
         return lsts(s, image, map, op);
     }
     ssts(s, image, map, log, out, op)
@@ -258,15 +260,15 @@ fn no_result(
     log: &mut [u16; 32],
     out: Outside,
     op: u16,
-    at: u16,
+    row: u16,
 ) -> Went
     requires { ⌜ Board (now map) (beside (now image) (now log)) ⌝ }
-    ensures { λ r. ⌜ Works (now (map .entry)) (Spec.noResult out s op at) (now (image .entry)) (now (log .entry)) r (now (image .exit)) (now (log .exit)) ⌝ }
+    ensures { λ r. ⌜ Works (now (map .entry)) (Rows.noResultAt out s op row) (now (image .entry)) (now (log .entry)) r (now (image .exit)) (now (log .exit)) ⌝ }
 {
     if op >= 0x8000 {
-        return status_code(s, image, map, log, out, op, at);
+        return status_code(s, image, map, log, out, op, row);
     }
-    if at == 14 {
+    if row == 14 {
         return tcall(s, image, map, log, op);
     }
     tjmp(s, image, map, op)
@@ -284,17 +286,17 @@ pub fn format7(
     requires { ⌜ Board (now map) (beside (now image) (now log)) ⌝ }
     ensures { λ r. ⌜ Works (now (map .entry)) (Spec.format7 out s op) (now (image .entry)) (now (log .entry)) r (now (image .exit)) (now (log .exit)) ⌝ }
 {
-    let at = place_of(op);
-    if on_word(op, at) {
-        return modify_word(s, image, map, log, op, at);
+    let row = row_of(op);
+    if on_word(op, row) {
+        return modify_word(s, image, map, log, op, row);
     }
-    if at < 12 {
-        return modify_byte(s, image, map, log, op, at);
+    if row < 12 {
+        return modify_byte(s, image, map, log, op, row);
     }
     let t = s;
     let o = out;
     if op < 0x8000 {
-        return state::apart(no_result(t, image, map, log, o, op, at));
+        return state::apart(no_result(t, image, map, log, o, op, row));
     }
-    state::apart(no_result(t, image, map, log, o, op, at))
+    state::apart(no_result(t, image, map, log, o, op, row))
 }

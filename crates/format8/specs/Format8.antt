@@ -1,5 +1,5 @@
--- Format 8, 0E00 to 0FFF: SRC in bits 5 to 3, DST in bits 2 to 0. One element of a block move is one step.
-use Prim.Native.Nat.{ℕ, _/_, _%_}
+-- Format 8, 0E00 to 0FFF. One element of a block move is one step.
+use Prim.Native.Nat.{ℕ}
 use mathlib.Core.Bool.{Bool, true, false, cond}
 use mathlib.Core.List.{List, [], _∷_}
 use lib.Dec.{eqb}
@@ -11,6 +11,7 @@ use Rattle.board.specs.declared.Byte.{Byte}
 use Rattle.board.specs.declared.Byte.the-variants as Byte
 use Rattle.board.specs.declared.Kept.{Kept}
 use Rattle.board.specs.declared.Kept.the-variants as Kept
+use Rattle.codes.specs.Fields.{format8Code, blockSource, blockDestination}
 use Rattle.word.specs.Address.{plus, minus}
 use Rattle.state.specs.declared.State.{State}
 use Rattle.state.specs.State.{reg, withReg, withPc}
@@ -33,21 +34,16 @@ rows
     ∷ rowFrom false 2 0  -- 0F00 MBWA
     ∷ rowFrom true 1 0  -- 0F40 MBBA
     ∷ rowFrom false 0 2  -- 0F80 MABW
+    ∷ rowFrom true 0 1  -- 0FC0 MABB
     ∷ []
 
--- by number; the last is 0FC0 MABB
+-- by number
 abbrev pub rowAt : ℕ → Row
 rowAt k = getD rows k (rowFrom true 0 1)
 
--- the row of an op code, and the registers of its source and its destination
+-- the row of an op code
 abbrev pub rowOf : ℕ → Row
-rowOf op = rowAt (op / 64 % 8)
-
-abbrev pub sourceOf : ℕ → ℕ
-sourceOf op = op / 8 % 8
-
-abbrev pub destinationOf : ℕ → ℕ
-destinationOf op = op % 8
+rowOf op = rowAt (format8Code op)
 
 abbrev pub sizeOf : Bool → Size
 sizeOf bytes = cond bytes byte word
@@ -79,7 +75,7 @@ element r s i j = do
   give (again s (counted r s i j))
 
 abbrev pub format8 : State → ℕ → Work State
-format8 s op = element (rowOf op) s (sourceOf op) (destinationOf op)
+format8 s op = element (rowOf op) s (blockSource op) (blockDestination op)
 
 -- ---- what the answers say
 

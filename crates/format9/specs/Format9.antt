@@ -94,7 +94,7 @@ div s op = do
 -- with the indicators preset: JSR 7000, LEA 7200, ASH 7400; SOB 7600 leaves them; XCH 7800, ASHC 7A00, MUL 7C00, DIV 7E00
 abbrev pub codes9 : Outside → State → State → ℕ → List (Work State)
 codes9 out s t op =
-    jsr out t op ∷ lea out t op ∷ ash t op ∷ give (sob s op) ∷ xch t op ∷ ashc t op ∷ mul t op ∷ []
+    jsr out t op ∷ lea out t op ∷ ash t op ∷ give (sob s op) ∷ xch t op ∷ ashc t op ∷ mul t op ∷ div t op ∷ []
 
 -- neither JSR nor SOB
 pub record Other (op : ℕ) : Type 0 where

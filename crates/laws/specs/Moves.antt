@@ -14,7 +14,8 @@ use Rattle.state.specs.declared.State.{State}
 use Rattle.state.specs.declared.Settings.{Settings}
 use Rattle.state.specs.declared.Mode.the-variants.{Running}
 use Rattle.state.specs.State.{reg, heard, psOf, withSp, withPc, withFlags, withMark}
-use Rattle.format8.specs.Format8.{rowOf, sourceOf, destinationOf, element}
+use Rattle.format8.specs.Format8.{rowOf, element}
+use Rattle.codes.specs.Fields.{blockSource, blockDestination}
 use Rattle.format8.specs.Page.{Plain, countOf}
 use Rattle.step.specs.declared.Turn.{Turn}
 use Rattle.step.specs.declared.Cause.the-variants as Cause
@@ -57,7 +58,7 @@ quiet line = not ((bit 0 line || bit 1 line) || bit 3 line)
 pub record Moves (settings : Settings) (map : List ℕ) (op : ℕ) (lines : List ℕ) (s : State) (m : List ℕ) : Type 0 where
   pub microm : settings .blocks ≡ true
   pub eight : op / 512 ≡ 7
-  pub plain : Plain (sourceOf op) (destinationOf op)
+  pub plain : Plain (blockSource op) (blockDestination op)
   pub word : reg s 0 < 65536
   pub ready : Ready map op (countOf (reg s 0)) s m
   pub count : length lines ≡ countOf (reg s 0)
@@ -103,7 +104,7 @@ opened s m =
 pub record OneElement (settings : Settings) (map : List ℕ) (line op : ℕ) (s : State) (m : List ℕ) (t : State) (n : List ℕ) : Type 0 where
   pub moved : State
   pub image : List ℕ
-  pub once : run map (element (rowOf op) (opened s m) (sourceOf op) (destinationOf op)) m ≡ value moved image
+  pub once : run map (element (rowOf op) (opened s m) (blockSource op) (blockDestination op)) m ≡ value moved image
   pub traced : run map (trace (heard settings line) moved) image ≡ value t n
 
 abbrev pub XctElement : Type 0

@@ -12,7 +12,7 @@ use Rattle.letters.specs.Digits.{letters}
 use Rattle.word.specs.declared.Flags.{Flags}
 use Rattle.word.specs.declared.Done.{Done}
 use Rattle.word.specs.Address.{plus}
-use Rattle.codes.specs.Fields.{highByte, onlyRegister, argument, register, count, destinationMode, destinationRegister}
+use Rattle.codes.specs.Fields.{highByte, onlyRegister, argument, register, count, destinationMode, destinationRegister, blockSource, blockDestination}
 use Rattle.codes.specs.declared.Immediate.{Immediate}
 use Rattle.codes.specs.declared.Immediate.the-variants.{Addi, Subi, Bici, Movi}
 use Rattle.codes.specs.declared.Way.{Way}
@@ -36,7 +36,7 @@ use Rattle.control.specs.Format2.{iak, rtn, msko, prtn, lcc}
 use Rattle.control.specs.Format4.{svca, svc}
 use Rattle.format6.specs.Format5.{displacement}
 use Rattle.format7.specs.Format7.{tcall, tjmp, lsts, ssts}
-use Rattle.format8.specs.Format8.{down, rowFrom, sourceOf, destinationOf, element}
+use Rattle.format8.specs.Format8.{down, rowFrom, element}
 use Rattle.format9.specs.Format9.{jsr, lea, ash, sob, xch, ashc, mul, div}
 use Rattle.format10.specs.Format10.{onWords, onBytes}
 use Rattle.optext.specs.Rows.{Row, rows, theRow, nameOf}
@@ -85,7 +85,7 @@ tested z result out s op = do
 
 -- format 8: words or bytes, and by what the two registers move
 abbrev pub moves : Bool → ℕ → ℕ → Outside → State → ℕ → Work State
-moves bytes i j out s op = element (rowFrom bytes i j) s (sourceOf op) (destinationOf op)
+moves bytes i j out s op = element (rowFrom bytes i j) s (blockSource op) (blockDestination op)
 
 -- ---- the mnemonics in the order of the manual's chapter 3
 

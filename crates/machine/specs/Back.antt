@@ -12,9 +12,9 @@ use Rattle.machine.specs.Numbers.{StatePage}
 
 -- ---- a state, from its page
 
--- the modes in the order of their numbers; the last is Saved
+-- the modes in the order of their numbers
 abbrev pub modes : List Mode
-modes = Running ∷ Waiting ∷ PowerHalt ∷ SwitchHalt ∷ Locked ∷ []
+modes = Running ∷ Waiting ∷ PowerHalt ∷ SwitchHalt ∷ Locked ∷ Saved ∷ []
 
 abbrev pub modeOf : ℕ → Mode
 modeOf k = getD modes k Saved

@@ -6,7 +6,8 @@ use mathlib.Core.Path.{_≡_}
 use Rattle.state.specs.declared.State.{State}
 use Rattle.state.specs.declared.Settings.{Settings}
 use Rattle.state.specs.State.{heard, reg}
-use Rattle.format8.specs.Format8.{rowOf, sourceOf, destinationOf}
+use Rattle.format8.specs.Format8.{rowOf}
+use Rattle.codes.specs.Fields.{blockSource, blockDestination}
 use Rattle.format8.specs.Page.{countOf, imageAfter, stateAfter}
 use Rattle.step.specs.declared.Cause.{Cause}
 use Rattle.step.specs.declared.Cause.the-variants as Cause
@@ -22,7 +23,7 @@ pub data AllUnheard (settings : Settings) (hearing : Bool) : List ℕ → Type 0
 
 -- n elements as the manual's page has them: the state and the image after, with cause 0
 abbrev pub elementsOf : ℕ → ℕ → State → List ℕ → After
-elementsOf op n s m = after (stateAfter (rowOf op) (sourceOf op) (destinationOf op) n s) (imageAfter (rowOf op) (sourceOf op) (destinationOf op) n s m) Cause.OpCode
+elementsOf op n s m = after (stateAfter (rowOf op) (blockSource op) (blockDestination op) n s) (imageAfter (rowOf op) (blockSource op) (blockDestination op) n s m) Cause.OpCode
 
 -- THE WHOLE BLOCK MOVE: as many elements as R0 says, 65,536 where it is 0
 abbrev pub blockMove : ℕ → State → List ℕ → After

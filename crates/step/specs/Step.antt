@@ -31,11 +31,11 @@ use Rattle.step.specs.declared.Told.the-variants.{Nowhere, At}
 
 -- 00 execute user bootstrap routine; 01 save R0 to R5, SP, PC and PS, wait until I3 is clear, restore; 10 lock up processor; 11 fetch new PC from 16
 unfoldable pub haltOption : Settings → Kind
-haltOption settings = getD (Boots ∷ Saves ∷ LocksUp ∷ []) (settings .halt) Restarts
+haltOption settings = getD (Boots ∷ Saves ∷ LocksUp ∷ Restarts ∷ []) (settings .halt) Restarts
 
 -- 00 execute user bootstrap routine; 01 pick up R0 to R5, SP, PC and PS; 10 execute selected halt option; 11 fetch PC from 16
 unfoldable pub powerUpOption : Settings → Kind
-powerUpOption settings = getD (Boots ∷ Restores ∷ haltOption settings ∷ []) (settings .powerup) Restarts
+powerUpOption settings = getD (Boots ∷ Restores ∷ haltOption settings ∷ Restarts ∷ []) (settings .powerup) Restarts
 
 -- ---- which kind of step it is: the first that applies
 

@@ -1,12 +1,13 @@
+use mathlib.Core.Path.{refl}
 use borrow.Author.Needs.{needs}
 use Rattle.codes.specs.declared.Binary.the-variants.{Mov}
 use Rattle.codes.specs.Codes.{binaries}
-use Rattle.codes.proofs.Laws.Past.{past}
+use Rattle.codes.proofs.Laws.Past.{last}
 use Rattle.codes.proofs.binary_at.Statement.{statement}
 use Rattle.codes.proofs.binary_at.Tie as tie
 
 returns-9 : tie.Need-returns-9
-returns-9 c = past binaries Mov (c .before .args .k) (c .match .rest)
+returns-9 c = last binaries Mov (c .before .args .k) refl (c .match .rest)
 
 pub binary-at-spec : {M : Type 1} → statement M
 binary-at-spec =

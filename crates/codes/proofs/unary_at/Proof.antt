@@ -1,12 +1,13 @@
+use mathlib.Core.Path.{refl}
 use borrow.Author.Needs.{needs}
 use Rattle.codes.specs.declared.Unary.the-variants.{Dec}
 use Rattle.codes.specs.Codes.{unaries}
-use Rattle.codes.proofs.Laws.Past.{past}
+use Rattle.codes.proofs.Laws.Past.{last}
 use Rattle.codes.proofs.unary_at.Statement.{statement}
 use Rattle.codes.proofs.unary_at.Tie as tie
 
 returns-12 : tie.Need-returns-12
-returns-12 c = past unaries Dec (c .before .args .k) (c .match .rest)
+returns-12 c = last unaries Dec (c .before .args .k) refl (c .match .rest)
 
 pub unary-at-spec : {M : Type 1} → statement M
 unary-at-spec =

@@ -2,15 +2,15 @@
 use Prim.Native.Nat.{ℕ}
 use native.Mathlib.Omega.{arith}
 use lib.Dec.{eqb, ltb}
-use Rattle.codes.specs.Fields.{format4Code}
+use Rattle.codes.specs.Fields.{format2Code, format4Code}
 use Rattle.board.specs.Work.{word}
 use Rattle.board.proofs.Laws.Bounded.{Bounded, gives}
-use Rattle.board.proofs.Laws.Bounded.{bounded-then, bounded-load, bounded-store, bounded-more, bounded-getD, none, also}
+use Rattle.board.proofs.Laws.Bounded.{bounded-then, bounded-load, bounded-store, bounded-more}
 use Rattle.state.specs.declared.State.{State}
 use Rattle.state.specs.declared.Outside.{Outside}
 use Rattle.state.proofs.Laws.Bounds.{bounded-cond, bounded-push, bounded-popReg, bounded-fromLoc, bounded-pushBoth, bounded-tabled}
 use Rattle.format1.proofs.Laws.Bounds.{bounded-save, bounded-format1}
-use Rattle.control.specs.Format2.{rtn, msko, prtn, number2, format2}
+use Rattle.control.specs.Format2.{rtn, msko, prtn, format2}
 use Rattle.control.specs.Format4.{svca, svc, format4}
 use Rattle.control.specs.Low.{formats2to4, lowCodes}
 
@@ -29,12 +29,10 @@ bounded-prtn s k = bounded-then {k = 0} (omega arith) (bounded-load {n = 0} word
 bounded-format2 : (out : Outside) (s : State) (op : ℕ) → Bounded 9 (format2 out s op)
 unfolding format2
 bounded-format2 out s op =
-    bounded-getD (number2 op)
-    (also (gives _)
-    (also (bounded-more (omega arith) (bounded-rtn s _))
-    (also (bounded-more (omega arith) (bounded-msko s _))
-    none)))
-    (bounded-more (omega arith) (bounded-prtn s _))
+    bounded-cond (eqb (format2Code op) 2) (gives _)
+    (bounded-cond (eqb (format2Code op) 3) (bounded-more (omega arith) (bounded-rtn s _))
+    (bounded-cond (eqb (format2Code op) 4) (bounded-more (omega arith) (bounded-msko s _))
+    (bounded-more (omega arith) (bounded-prtn s _))))
 
 bounded-svca : (out : Outside) (s : State) (n : ℕ) → Bounded 2 (svca out s n)
 unfolding svca

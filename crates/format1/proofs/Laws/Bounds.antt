@@ -7,7 +7,7 @@ use Rattle.board.proofs.Laws.Bounded.{bounded-then, bounded-load, bounded-store
 use Rattle.state.specs.declared.State.{State}
 use Rattle.state.specs.declared.Outside.{Outside}
 use Rattle.state.proofs.Laws.Bounds.{bounded-push, bounded-pushReg, bounded-pop, bounded-popReg, bounded-popStatus, bounded-fetch, bounded-fromLoc, bounded-pushBoth}
-use Rattle.format1.specs.Format1.{numberOf, bpt, save, savs, rest, rtt, rrtn, rrtt, rsts, rsvc, byNumber, format1}
+use Rattle.format1.specs.Format1.{bpt, save, savs, rest, rtt, rrtn, rrtt, rsts, rsvc, format1}
 
 bounded-bpt : (out : Outside) (s : State) → Bounded 2 (bpt out s)
 unfolding bpt
@@ -67,9 +67,10 @@ unfolding rsvc
 bounded-rsvc s = bounded-then {k = 0} (omega arith) (bounded-rest s) (λ s. bounded-rtt _)
 
 pub bounded-format1 : (out : Outside) (s : State) (op : ℕ) → Bounded 9 (format1 out s op)
-unfolding format1 byNumber
+unfolding format1
 bounded-format1 out s op =
-    bounded-getD (numberOf op)
+    bounded-getD op
+    (also (gives _)
     (also (gives _)
     (also (gives _)
     (also (gives _)
@@ -84,5 +85,6 @@ bounded-format1 out s op =
     (also (bounded-more (omega arith) (bounded-rest s))
     (also (bounded-more (omega arith) (bounded-rrtn s))
     (also (bounded-more (omega arith) (bounded-rsts s))
-    none))))))))))))))
+    (also (bounded-more (omega arith) (bounded-rtt s))
+    none))))))))))))))))
     (bounded-more (omega arith) (bounded-rtt s))

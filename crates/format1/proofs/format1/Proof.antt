@@ -1,5 +1,5 @@
 use mathlib.Core.Path.{sym, _∙_}
-use Rattle.format1.specs.Format1.{byNumber, format1}
+use Rattle.format1.specs.Format1.{format1}
 use borrow.Author.Needs.{needs}
 use Rattle.format1.proofs.format1.Statement.{statement}
 use Rattle.format1.proofs.format1.Tie as tie
@@ -11,7 +11,7 @@ same-length : tie.Need-same-length
 same-length c = c .before .before .before .save .ensures .board .lent .size ∙ sym (c .before .before .before .before .before .before .before .before .before .pre .lent .size)
 
 returns : tie.Need-returns
-unfolding format1 byNumber
+unfolding format1
 returns c =
     rw (c .before .before .before .before .before .before .if1 .taken, c .apart .ensures)
     (record { got = c .before .before .before .save .ensures .got; board = c .before .before .before .save .ensures .board })
@@ -20,7 +20,7 @@ rest-requires : tie.Need-rest-requires
 rest-requires c κs = c .before .before .before .before .before .pre .lent
 
 returns-2 : tie.Need-returns-2
-unfolding format1 byNumber
+unfolding format1
 returns-2 c =
     rw (c .before .before .if2 .taken)
     (record { got = c .rest .ensures .got; board = c .before .before .before .before .before .before .pre })
@@ -29,34 +29,34 @@ rtt-requires : tie.Need-rtt-requires
 rtt-requires c κs = c .before .before .before .before .before .before .pre .lent
 
 returns-3 : tie.Need-returns-3
-unfolding format1 byNumber
+unfolding format1
 returns-3 c =
     rw (c .before .before .if3 .taken)
     (record { got = c .rtt .ensures .got; board = c .before .before .before .before .before .before .before .pre })
 
 by-number-requires : tie.Need-by-number-requires
-by-number-requires c κs = c .before .before .before .before .before .before .before .before .before .pre
+by-number-requires c κs = c .before .before .before .before .before .before .before .before .pre
 
 same-length-4 : tie.Need-same-length-4
-same-length-4 c = c .before .before .before .by-number .ensures .board .lent .size ∙ sym (c .before .before .before .before .before .before .before .before .before .before .before .before .before .pre .lent .size)
+same-length-4 c = c .before .before .before .by-number .ensures .board .lent .size ∙ sym (c .before .before .before .before .before .before .before .before .before .before .before .before .pre .lent .size)
 
 returns-4 : tie.Need-returns-4
-unfolding format1 byNumber
+unfolding format1
 returns-4 c =
     rw (c .apart2 .ensures)
-    (record { got = (rw (c .before .before .before .before .before .before .before .number-of .ensures) at (c .before .before .before .by-number .ensures)) .got; board = c .before .before .before .by-number .ensures .board })
+    (record { got = c .before .before .before .by-number .ensures .got; board = c .before .before .before .by-number .ensures .board })
 
 by-number-requires-2 : tie.Need-by-number-requires-2
-by-number-requires-2 c κs = c .before .before .before .before .before .before .before .before .before .pre
+by-number-requires-2 c κs = c .before .before .before .before .before .before .before .before .pre
 
 same-length-5 : tie.Need-same-length-5
-same-length-5 c = c .before .before .before .by-number2 .ensures .board .lent .size ∙ sym (c .before .before .before .before .before .before .before .before .before .before .before .before .before .pre .lent .size)
+same-length-5 c = c .before .before .before .by-number2 .ensures .board .lent .size ∙ sym (c .before .before .before .before .before .before .before .before .before .before .before .before .pre .lent .size)
 
 returns-5 : tie.Need-returns-5
-unfolding format1 byNumber
+unfolding format1
 returns-5 c =
     rw (c .apart3 .ensures)
-    (record { got = (rw (c .before .before .before .before .before .before .before .number-of .ensures) at (c .before .before .before .by-number2 .ensures)) .got; board = c .before .before .before .by-number2 .ensures .board })
+    (record { got = c .before .before .before .by-number2 .ensures .got; board = c .before .before .before .by-number2 .ensures .board })
 
 pub format1-spec : {M : Type 1} → statement M
 format1-spec =
@@ -72,7 +72,6 @@ format1-spec =
     rtt-requires
     (λ c. search needs)
     returns-3
-    (λ c κs. search needs)
     by-number-requires
     (λ c κs. search needs)
     same-length-4

@@ -1,27 +1,28 @@
 -- How often each op code of format 7 writes, at most.
 use Prim.Native.Nat.{ℕ}
 use native.Mathlib.Omega.{arith}
-use lib.Dec.{eqb, ltb}
-use Rattle.board.specs.Work.{Size, word, byte}
+use mathlib.Core.List.{List, [], _∷_}
+use lib.Dec.{ltb}
+use Rattle.word.specs.declared.Flags.{Flags}
+use Rattle.word.specs.declared.Done.{Done}
+use Rattle.codes.specs.declared.Unary.the-variants.{Ror, Rol, Asl, Set, Clr, Asr, Swap, Com, Neg, Inc, Dec}
+use Rattle.board.specs.Work.{Work, Size, word, byte}
 use Rattle.board.proofs.Laws.Bounded.{Bounded, gives}
-use Rattle.board.proofs.Laws.Bounded.{bounded-then}
+use Rattle.board.proofs.Laws.Bounded.{bounded-then, bounded-getD, AllBounded, none, also}
 use Rattle.state.specs.declared.State.{State}
 use Rattle.state.specs.declared.Outside.{Outside}
 use Rattle.state.proofs.Laws.Bounds.{bounded-cond, bounded-push}
-use Rattle.operand.specs.declared.Place.{Place}
 use Rattle.operand.proofs.Laws.Bounds.{bounded-operand, bounded-write}
 use Rattle.state.proofs.Laws.Bounds.{bounded-tabled}
-use Rattle.format7.specs.Format7.{placeOf, stored, modify, tcall, tjmp, lsts, ssts, statusCode, noResult, onWord, format7}
+use Rattle.format7.specs.Format7.{modify, on, test, tcall, tjmp, lsts, ssts, rowOf, format7}
 
-bounded-stored : (z : Size) (op at : ℕ) (s : State) (p : Place) (v : ℕ) → Bounded 1 (stored z op at s p v)
-unfolding stored
-bounded-stored z op at s p v = bounded-cond (eqb at 2) (gives _) (bounded-write z s _ _ _)
-
-bounded-modify : (z : Size) (s : State) (op at : ℕ) → Bounded 2 (modify z s op at)
+bounded-modify : (z : Size) (result : ℕ → Flags → Done) (s : State) (op : ℕ) → Bounded 2 (modify z result s op)
 unfolding modify
-bounded-modify z s op at =
-    bounded-then {k = 1} (omega arith) (bounded-operand z s _ _) λ o.
-    bounded-stored z op at _ _ _
+bounded-modify z result s op = bounded-then {k = 1} (omega arith) (bounded-operand z s _ _) (λ o. bounded-write z _ _ _ _)
+
+bounded-test : (z : Size) (s : State) (op : ℕ) → Bounded 2 (test z s op)
+unfolding test
+bounded-test z s op = bounded-then {k = 0} (omega arith) (bounded-operand z s _ _) (λ o. gives _)
 
 bounded-tcall : (s : State) (op : ℕ) → Bounded 2 (tcall s op)
 unfolding tcall
@@ -42,11 +43,33 @@ bounded-ssts : (out : Outside) (s : State) (op : ℕ) → Bounded 2 (ssts out s 
 unfolding ssts
 bounded-ssts out s op = bounded-then {k = 1} (omega arith) (bounded-operand word s _ _) (λ o. bounded-write word _ _ _ _)
 
+-- the twelve op codes that both columns have first
+bounded-common : (z : Size) (s : State) (op : ℕ) {ws : List (Work State)} → AllBounded 2 ws → AllBounded 2 (
+    on z Ror s op ∷ on z Rol s op ∷ test z s op ∷ on z Asl s op ∷ on z Set s op ∷ on z Clr s op ∷ on z Asr s op ∷ on z Swap s op ∷ on z Com s op ∷ on z Neg s op ∷ on z Inc s op ∷ on z Dec s op ∷ ws)
+bounded-common z s op more =
+    also (bounded-modify z _ s op)
+    (also (bounded-modify z _ s op)
+    (also (bounded-test z s op)
+    (also (bounded-modify z _ s op)
+    (also (bounded-modify z _ s op)
+    (also (bounded-modify z _ s op)
+    (also (bounded-modify z _ s op)
+    (also (bounded-modify z _ s op)
+    (also (bounded-modify z _ s op)
+    (also (bounded-modify z _ s op)
+    (also (bounded-modify z _ s op)
+    (also (bounded-modify z _ s op)
+    more)))))))))))
+
 pub bounded-format7 : (out : Outside) (s : State) (op : ℕ) → Bounded 2 (format7 out s op)
-unfolding format7 noResult statusCode
+unfolding format7
 bounded-format7 out s op =
-    bounded-cond (onWord op (placeOf op)) (bounded-modify word s op _)
-    (bounded-cond (ltb (placeOf op) 12) (bounded-modify byte s op _)
-    (bounded-cond (ltb op 0x8000)
-    (bounded-cond (eqb (placeOf op) 14) (bounded-tcall s op) (bounded-tjmp s op))
-    (bounded-cond (eqb (placeOf op) 12) (bounded-lsts s op) (bounded-ssts out s op))))
+    bounded-cond (ltb op 0x8000)
+    (bounded-getD (rowOf op)
+    (bounded-common word s op
+    (also (bounded-modify word _ s op) (also (bounded-modify word _ s op) (also (bounded-tcall s op) (also (bounded-tjmp s op) none)))))
+    (bounded-tjmp s op))
+    (bounded-getD (rowOf op)
+    (bounded-common byte s op
+    (also (bounded-lsts s op) (also (bounded-ssts out s op) (also (bounded-modify word _ s op) (also (bounded-modify word _ s op) none)))))
+    (bounded-modify word _ s op))

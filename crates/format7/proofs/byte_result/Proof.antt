@@ -1,10 +1,10 @@
-use Rattle.format7.specs.Format7.{byteOf}
+use Rattle.format7.specs.Rows.{resultAt}
 use borrow.Author.Needs.{needs}
 use Rattle.format7.proofs.byte_result.Statement.{statement}
 use Rattle.format7.proofs.byte_result.Tie as tie
 
 returns : tie.Need-returns
-unfolding byteOf
+unfolding resultAt
 returns c = rw (c .before .unary-at .ensures) at (c .unary8 .ensures)
 
 pub byte-result-spec : {M : Type 1} → statement M

@@ -1,12 +1,12 @@
 use mathlib.Core.Path.{sym, _∙_}
 use borrow.Author.Tests.{lt-ltb, le-ltb}
-use Rattle.format7.specs.Format7.{format7}
+use Rattle.format7.proofs.Laws.Columns.{columns}
 use borrow.Author.Needs.{needs}
 use Rattle.format7.proofs.format7.Statement.{statement}
 use Rattle.format7.proofs.format7.Tie as tie
 
-place-of-requires : tie.Need-place-of-requires
-place-of-requires c κs = search needs
+row-of-requires : tie.Need-row-of-requires
+row-of-requires c κs = search needs
 
 on-word-requires : tie.Need-on-word-requires
 on-word-requires c κs = search needs
@@ -18,9 +18,8 @@ same-length : tie.Need-same-length
 same-length c = c .before .before .modify-word .ensures .board .lent .size ∙ sym (c .before .before .before .before .before .before .before .before .before .before .pre .lent .size)
 
 returns : tie.Need-returns
-unfolding format7
 returns c =
-    rw (← c .before .before .before .before .before .before .before .place-of .ensures, sym (c .before .before .before .before .before .before .on-word .ensures) ∙ c .before .before .before .before .before .if1 .taken)
+    rw (columns _ _ _, ← c .before .before .before .before .before .before .before .row-of .ensures, sym (c .before .before .before .before .before .before .on-word .ensures) ∙ c .before .before .before .before .before .if1 .taken)
     (record { got = c .before .before .modify-word .ensures .got; board = c .before .before .modify-word .ensures .board })
 
 modify-byte-requires : tie.Need-modify-byte-requires
@@ -30,9 +29,8 @@ same-length-2 : tie.Need-same-length-2
 same-length-2 c = c .before .before .modify-byte .ensures .board .lent .size ∙ sym (c .before .before .before .before .before .before .before .before .before .before .before .pre .lent .size)
 
 returns-2 : tie.Need-returns-2
-unfolding format7
 returns-2 c =
-    rw (← c .before .before .before .before .before .before .before .before .place-of .ensures, sym (c .before .before .before .before .before .before .before .on-word .ensures) ∙ c .before .before .before .before .before .before .if1 .left, lt-ltb _ _ (c .before .before .before .before .before .if2 .taken))
+    rw (columns _ _ _, ← c .before .before .before .before .before .before .before .before .row-of .ensures, sym (c .before .before .before .before .before .before .before .on-word .ensures) ∙ c .before .before .before .before .before .before .if1 .left, lt-ltb _ _ (c .before .before .before .before .before .if2 .taken))
     (record { got = c .before .before .modify-byte .ensures .got; board = c .before .before .modify-byte .ensures .board })
 
 no-result-requires : tie.Need-no-result-requires
@@ -45,9 +43,8 @@ same-length-3 : tie.Need-same-length-3
 same-length-3 c = c .before .before .before .no-result .ensures .board .lent .size ∙ sym (c .before .before .before .before .before .before .before .before .before .before .before .before .before .pre .lent .size)
 
 returns-3 : tie.Need-returns-3
-unfolding format7
 returns-3 c =
-    rw (← c .before .before .before .before .before .before .before .before .before .before .place-of .ensures, sym (c .before .before .before .before .before .before .before .before .before .on-word .ensures) ∙ c .before .before .before .before .before .before .before .before .if1 .left, le-ltb _ _ (c .before .before .before .before .before .before .before .if2 .left), c .apart .ensures)
+    rw (columns _ _ _, ← c .before .before .before .before .before .before .before .before .before .before .row-of .ensures, sym (c .before .before .before .before .before .before .before .before .before .on-word .ensures) ∙ c .before .before .before .before .before .before .before .before .if1 .left, le-ltb _ _ (c .before .before .before .before .before .before .before .if2 .left), c .apart .ensures)
     (record { got = c .before .before .before .no-result .ensures .got; board = c .before .before .before .no-result .ensures .board })
 
 no-result-requires-2 : tie.Need-no-result-requires-2
@@ -60,16 +57,15 @@ same-length-4 : tie.Need-same-length-4
 same-length-4 c = c .before .before .before .no-result2 .ensures .board .lent .size ∙ sym (c .before .before .before .before .before .before .before .before .before .before .before .before .before .pre .lent .size)
 
 returns-4 : tie.Need-returns-4
-unfolding format7
 returns-4 c =
-    rw (← c .before .before .before .before .before .before .before .before .before .before .place-of .ensures, sym (c .before .before .before .before .before .before .before .before .before .on-word .ensures) ∙ c .before .before .before .before .before .before .before .before .if1 .left, le-ltb _ _ (c .before .before .before .before .before .before .before .if2 .left), c .apart2 .ensures)
+    rw (columns _ _ _, ← c .before .before .before .before .before .before .before .before .before .before .row-of .ensures, sym (c .before .before .before .before .before .before .before .before .before .on-word .ensures) ∙ c .before .before .before .before .before .before .before .before .if1 .left, le-ltb _ _ (c .before .before .before .before .before .before .before .if2 .left), c .apart2 .ensures)
     (record { got = c .before .before .before .no-result2 .ensures .got; board = c .before .before .before .no-result2 .ensures .board })
 
 pub format7-spec : {M : Type 1} → statement M
 format7-spec =
     tie.close
     (tie.spec
-    place-of-requires
+    row-of-requires
     on-word-requires
     modify-word-requires
     same-length

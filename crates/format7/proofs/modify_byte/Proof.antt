@@ -4,7 +4,7 @@ use Rattle.board.proofs.Laws.{got-then, got-gone, did, byte-is, byte-none}
 use Rattle.state.proofs.Laws.Answer.{went-none, went-store}
 use Rattle.operand.proofs.Laws.Operand.{found-lost}
 use Rattle.operand.proofs.Laws.Destination.{never-found, never-read, held}
-use Rattle.format7.specs.Format7.{modify}
+use Rattle.format7.specs.Rows.{modifyAt}
 use borrow.Author.Needs.{needs}
 use Rattle.format7.proofs.modify_byte.Statement.{statement}
 use Rattle.format7.proofs.modify_byte.Tie as tie
@@ -13,7 +13,7 @@ locate-requires : tie.Need-locate-requires
 locate-requires c κs = c .before .before .before .before .before .pre .lent
 
 returns : tie.Need-returns
-unfolding modify
+unfolding modifyAt
 returns c =
     did (went-store (c .unfound .result)) (c .before .before .before .before .before .before .before .before .before .pre)
     (got-gone _ (never-found byte _ _ _ (c .before .before .before .before .before .byte-step .ensures) (c .before .before .before .before .reg .ensures) (c .before .before .before .locate .ensures) (c .before .enum-told .given .1)) refl (found-lost (c .unfound .ensures) (c .before .enum-told .given .1)))
@@ -22,7 +22,7 @@ read-byte-requires : tie.Need-read-byte-requires
 read-byte-requires c κs = c .before .before .before .before .before .before .before .before .before .before .before .before .pre .lent
 
 returns-2 : tie.Need-returns-2
-unfolding modify
+unfolding modifyAt
 returns-2 c =
     did (went-store (c .unanswered .result)) (c .before .before .before .before .before .before .before .before .before .before .before .before .before .before .before .before .pre)
     (got-gone _ (never-read byte _ _ _ (c .before .before .before .before .before .before .before .before .before .before .before .before .byte-step .ensures) (c .before .before .before .before .before .before .before .before .before .before .before .reg .ensures) (c .before .before .before .before .before .before .before .before .before .before .locate .ensures) (c .before .before .before .before .before .before .before .before .found .given .1) (c .before .before .before .before .before .before .moved .ensures) (c .before .before .before .before .reg2 .ensures) (c .before .before .before .read-byte .ensures) (byte-none (c .before .enum-told2 .given .1))) refl (went-none (c .unanswered .ensures)))
@@ -34,7 +34,7 @@ same-length-3 : tie.Need-same-length-3
 same-length-3 c = c .before .before .stored-byte .ensures .board .lent .size ∙ sym (c .before .before .before .before .before .before .before .before .before .before .before .before .before .before .before .before .before .before .before .before .before .before .before .pre .lent .size)
 
 returns-3 : tie.Need-returns-3
-unfolding modify
+unfolding modifyAt
 returns-3 c =
     record {
       got = got-then _ (held byte _ _ _ (c .before .before .before .before .before .before .before .before .before .before .before .before .before .before .before .before .before .before .before .byte-step .ensures) (c .before .before .before .before .before .before .before .before .before .before .before .before .before .before .before .before .before .before .reg .ensures) (c .before .before .before .before .before .before .before .before .before .before .before .before .before .before .before .before .before .locate .ensures) (c .before .before .before .before .before .before .before .before .before .before .before .before .before .before .before .found .given .1) (c .before .before .before .before .before .before .before .before .before .before .before .before .before .moved .ensures) (c .before .before .before .before .before .before .before .before .before .before .before .reg2 .ensures) (c .before .before .before .before .before .before .before .before .before .before .read-byte .ensures) (byte-is (c .before .before .before .before .before .before .before .before .d .given .1))) refl

@@ -1,6 +1,6 @@
 use mathlib.Core.Path.{sym, _∙_}
 use borrow.Author.Tests.{eq-eqb, ne-eqb}
-use Rattle.format7.specs.Format7.{statusCode}
+use Rattle.format7.specs.Rows.{statusAt}
 use borrow.Author.Needs.{needs}
 use Rattle.format7.proofs.status_code.Statement.{statement}
 use Rattle.format7.proofs.status_code.Tie as tie
@@ -12,7 +12,7 @@ same-length : tie.Need-same-length
 same-length c = search needs
 
 returns : tie.Need-returns
-unfolding statusCode
+unfolding statusAt
 returns c =
     rw (eq-eqb _ _ (c .before .before .if1 .taken))
     (record { got = c .lsts .ensures .got; board = c .before .before .before .before .before .pre })
@@ -24,7 +24,7 @@ same-length-2 : tie.Need-same-length-2
 same-length-2 c = c .before .before .ssts .ensures .board .lent .size ∙ sym (c .before .before .before .before .before .before .before .before .pre .lent .size)
 
 returns-2 : tie.Need-returns-2
-unfolding statusCode
+unfolding statusAt
 returns-2 c =
     rw (ne-eqb _ _ (c .before .before .before .before .before .if1 .left))
     (record { got = c .before .before .ssts .ensures .got; board = c .before .before .ssts .ensures .board })

@@ -1,12 +1,12 @@
 use mathlib.Core.Path.{refl, sym, _∙_}
 use Rattle.board.proofs.Laws.{got-give, did}
 use borrow.Author.Tests.{eq-eqb, ne-eqb}
-use Rattle.format7.specs.Format7.{stored}
+use Rattle.format7.specs.Rows.{storedAt}
 use Rattle.format7.proofs.stored_word.Statement.{statement}
 use Rattle.format7.proofs.stored_word.Tie as tie
 
 returns : tie.Need-returns
-unfolding stored
+unfolding storedAt
 returns c =
     rw (eq-eqb _ _ (c .if1 .taken))
     (did refl (c .before .before .before .pre)
@@ -19,7 +19,7 @@ same-length : tie.Need-same-length
 same-length c = c .before .before .write-word .ensures .board .lent .size ∙ sym (c .before .before .before .before .before .before .before .before .pre .lent .size)
 
 returns-2 : tie.Need-returns-2
-unfolding stored
+unfolding storedAt
 returns-2 c =
     rw (ne-eqb _ _ (c .before .before .before .before .before .if1 .left))
     (record { got = c .before .before .write-word .ensures .got; board = c .before .before .write-word .ensures .board })

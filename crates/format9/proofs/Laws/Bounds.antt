@@ -69,5 +69,6 @@ bounded-format9 out s op =
     (also (bounded-xch t op)
     (also (bounded-ashc t op)
     (also (bounded-mul t op)
-    none)))))))
+    (also (bounded-div t op)
+    none))))))))
     (bounded-div t op)

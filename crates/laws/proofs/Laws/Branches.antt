@@ -23,7 +23,8 @@ use Rattle.state.specs.Registers.{setReg}
 use Rattle.step.specs.Execute.{execute, byFormat}
 use Rattle.step.specs.Xct.{opWork}
 use Rattle.laws.specs.Branches.{lines, whenIn, branched, BranchesAsPrinted}
-use Rattle.laws.proofs.Laws.Marked.{Below, below, code-work, plain-run}
+use Rattle.codes.proofs.Laws.Past.{Below, below}
+use Rattle.laws.proofs.Laws.Marked.{code-work, plain-run}
 use Rattle.step.proofs.Laws.Late.{begins}
 use Rattle.laws.proofs.Laws.Mark.{turn-is}
 

@@ -21,7 +21,7 @@ use Rattle.machine.specs.Back.{modeOf, fromRegisters, stateOf}
 use Rattle.machine.specs.declared.Ran.{Ran}
 use Rattle.machine.specs.declared.Finished.the-variants as Finished
 use Rattle.firmware.specs.Layout.{bytesOf, pageFrom, stateFrom, settingsFrom, refusedState, notState, over}
-use Rattle.laws.proofs.Laws.Marked.{Below, below}
+use Rattle.codes.proofs.Laws.Past.{Below, below}
 use Rattle.laws.proofs.Laws.Calls.{bytesFor, settings-taken, step-taken, buffers-taken, call-answered}
 use Rattle.laws.proofs.Laws.Taken.{taken-run}
 use Rattle.laws.proofs.Laws.Halves.{run-none}

@@ -20,6 +20,7 @@ use Rattle.state.specs.Stack.{pushReg}
 use Rattle.operand.specs.declared.Place.the-variants.{Mem}
 use Rattle.operand.specs.Operand.{Seen, locate, indexed, indexedDeferred, deferred, moved, decode}
 use Rattle.format6.specs.Format5.{displacement}
+use Rattle.format6.proofs.Laws.Format5 as Twice
 use Rattle.format9.specs.Format9.{call, jsrTo, jsr, leaTo, lea, sob, format9}
 use Rattle.step.specs.Execute.{execute, byFormat, further}
 use Rattle.step.specs.Step.{stepOf}
@@ -73,13 +74,13 @@ displacement-back op d e even word near = elim (decLt d 256) [ yes p ↦ low p |
     low : d < 256 → displacement op ≡ d
     low p =
         let x : op % 256 ≡ d / 2 = omega (arith, e, p) in
-        rw (lt-ltb (op % 256) 128 (omega (arith, x, p))) (omega (arith, x, even))
+        sym (Twice.ahead op (omega (arith, x, p))) ∙ omega (arith, x, even)
 
     high : (d < 256 → ⊥) → displacement op ≡ d
     high p =
         let far : 65280 ≤ d = omega (arith, near, word, p) in
         let x : op % 256 + 32512 ≡ d / 2 = omega (arith, e, far, word) in
-        rw (le-ltb (op % 256) 128 (omega (arith, x, far))) (omega (arith, x, even))
+        sym (Twice.behind op (omega (arith, x, far))) ∙ omega (arith, x, even)
 
 -- ---- a branch
 

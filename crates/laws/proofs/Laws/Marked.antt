@@ -1,7 +1,7 @@
 -- The mark of a late IEN, over the definitions: what every op code, every trap, every step and every power-up leaves of it, and what a marked state hears.
 use Prim.Native.Nat.{ℕ, zero, suc, _/_, _<_}
 use native.Mathlib.Omega.{arith}
-use native.Mathlib.Decide.{ℕ-discrete}
+use Rattle.codes.proofs.Laws.Past.{Below, below}
 use mathlib.Core.Bool.{Bool, true, false, not, _&&_, cond}
 use mathlib.Core.List.{List, [], _∷_}
 use mathlib.Core.Path.{_≡_, refl, sym, ap, _∙_, subst}
@@ -11,7 +11,7 @@ use borrow.Author.Tests.{not-true, eqb-true, ne-eqb, ltb-true, ltb-false}
 use Rattle.board.specs.Work.{Work, give, Came, value, blank, Size, word, byte, wordAt, fitted, run, _>>=_, _>>_}
 use Rattle.board.proofs.Laws.Alike.{found-value}
 use Rattle.step.proofs.Laws.Late.{begins}
-use Rattle.codes.specs.Fields.{highByte, onlyRegister, format4Code, argument, register, format9Code, sourceMode, sourceRegister, destinationMode, destinationRegister}
+use Rattle.codes.specs.Fields.{highByte, onlyRegister, format2Code, format4Code, argument, register, format9Code, sourceMode, sourceRegister, destinationMode, destinationRegister, blockSource, blockDestination}
 use Rattle.arith.specs.Branch.{taken}
 use Rattle.word.specs.Address.{plus, minus}
 use Rattle.codes.specs.declared.Binary.{Binary}
@@ -29,14 +29,17 @@ use Rattle.operand.specs.declared.Place.{Place}
 use Rattle.operand.specs.declared.Place.the-variants.{Reg, Mem}
 use Rattle.operand.specs.Operand.{Seen, moved, decode, writeTo}
 use Rattle.operand.specs.Destination.{Holding, operandOf, destination}
-use Rattle.format1.specs.Format1.{xctError, bpt, save, savs, rest, rtt, rrtn, rrtt, rsts, rsvc, byNumber, format1}
+use Rattle.format1.specs.Format1.{xctError, bpt, save, savs, rest, rtt, rrtn, rrtt, rsts, rsvc, format1}
 use Rattle.control.specs.Low.{formats2to4, lowCodes}
-use Rattle.control.specs.Format2.{rtn, msko, prtn, codes2, number2, lcc, format2}
+use Rattle.control.specs.Format2.{rtn, msko, prtn, lcc, format2}
 use Rattle.control.specs.Format4.{svca, svc, format4}
 use Rattle.format6.specs.Format5.{branchNumber, branch}
 use Rattle.format6.specs.Format6.{immediate, single, double, format6}
-use Rattle.format7.specs.Format7.{placeOf, onWord, stored, modify, tcall, tjmp, lsts, ssts, statusCode, noResult, format7}
-use Rattle.format8.specs.Format8.{rowOf, sourceOf, destinationOf, onward, counted, again, element, format8}
+use Rattle.format7.specs.Format7.{tcall, tjmp, lsts, ssts, format7}
+use Rattle.format7.specs.Format7 as Seven
+use Rattle.format7.specs.Rows.{onWordAt, storedAt, modifyAt, statusAt, noResultAt}
+use Rattle.format7.proofs.Laws.Columns.{columns}
+use Rattle.format8.specs.Format8.{rowOf, onward, counted, again, element, format8}
 use Rattle.format9.specs.Format9.{call, jsrTo, jsr, leaTo, lea, ash, sob, xch, ashc, mul, div, codes9, format9}
 use Rattle.shift.specs.Shifted.{preset}
 use Rattle.format10.specs.Format10.{stores, settle, moveByte, settleByte, onOperands, onWords, onBytes, binaryCode, byteCode, format10}
@@ -101,8 +104,11 @@ unfolding Always tabled _>>=_ withReg
 tabled-unmarked s at e = λ v. e
 
 two-unmarked : (out : Outside) (s : State) (op : ℕ) → Unmarked s → Always Unmarked (format2 out s op)
-unfolding Always AlwaysEach format2 rtn msko prtn popReg _>>=_ withReg
-two-unmarked out s op e = always-pick Unmarked (codes2 out s (onlyRegister op)) (number2 op) (prtn s (onlyRegister op)) (e, (λ v. e, (e, tt))) (λ v w. e)
+unfolding Always format2 rtn msko prtn popReg _>>=_ withReg
+two-unmarked out s op e =
+    always-cond Unmarked (eqb (format2Code op) 2) _ _ e
+    (always-cond Unmarked (eqb (format2Code op) 3) (rtn s (onlyRegister op)) _ (λ v. e)
+    (always-cond Unmarked (eqb (format2Code op) 4) (msko s (onlyRegister op)) (prtn s (onlyRegister op)) e (λ v w. e)))
 
 four-unmarked : (out : Outside) (s : State) (op : ℕ) → Unmarked s → Always Unmarked (format4 out s op)
 unfolding Always format4 svca svc save pushReg push pushBoth fromLoc tabled _>>=_ withReg
@@ -130,30 +136,32 @@ six-unmarked : (s : State) (op : ℕ) → Unmarked s → Unmarked (format6 s op)
 unfolding format6 immediate single double withDone withPair withReg withFlags
 six-unmarked s op e = either (ltb op 0x8000) (immediate s op) _ e (either (ltb op 0x8a00) (single s op) (double s op) e e)
 
-stored-unmarked : (z : Size) (op at : ℕ) (s : State) (p : Place) (v : ℕ) → Unmarked s → Always Unmarked (stored z op at s p v)
-unfolding Always stored
-stored-unmarked z op at s p v e = always-cond Unmarked (eqb at 2) (give s) _ e (write-unmarked z s (destinationRegister op) p v e)
+stored-unmarked : (z : Size) (op row : ℕ) (s : State) (p : Place) (v : ℕ) → Unmarked s → Always Unmarked (storedAt z op row s p v)
+unfolding Always storedAt
+stored-unmarked z op row s p v e = always-cond Unmarked (eqb row 2) (give s) _ e (write-unmarked z s (destinationRegister op) p v e)
 
 -- an operand is decoded and read, and then
 with-operand : (z : Size) (s : State) (op : ℕ) (f : Holding → Work State) → Unmarked s → ((o : Holding) → Unmarked (o .state) → Always Unmarked (f o)) → Always Unmarked (destination z s op >>= f)
 with-operand z s op f e g = always-then (λ o. Unmarked (o .state)) Unmarked (destination z s op) f (operand-unmarked z s (destinationMode op) (destinationRegister op) e) g
 
-modify-unmarked : (z : Size) (s : State) (op at : ℕ) → Unmarked s → Always Unmarked (modify z s op at)
-unfolding modify withFlags
-modify-unmarked z s op at e = with-operand z s op _ e (λ o d. stored-unmarked z op at _ (o .place) _ d)
+modify-unmarked : (z : Size) (s : State) (op row : ℕ) → Unmarked s → Always Unmarked (modifyAt z s op row)
+unfolding modifyAt withFlags
+modify-unmarked z s op row e = with-operand z s op _ e (λ o d. stored-unmarked z op row _ (o .place) _ d)
 
 seven-unmarked : (out : Outside) (s : State) (op : ℕ) → Unmarked s → Always Unmarked (format7 out s op)
-unfolding Always format7 noResult statusCode tcall tjmp lsts ssts withStatus
+unfolding Always noResultAt statusAt tcall tjmp lsts ssts withStatus
 seven-unmarked out s op e =
-    always-cond Unmarked (onWord op (placeOf op)) (modify word s op (placeOf op)) _ (modify-unmarked word s op (placeOf op) e)
-    (always-cond Unmarked (ltb (placeOf op) 12) (modify byte s op (placeOf op)) _ (modify-unmarked byte s op (placeOf op) e)
+    let row = Seven.rowOf op in
+    subst (Always Unmarked) (sym (columns out s op))
+    (always-cond Unmarked (onWordAt op row) (modifyAt word s op row) _ (modify-unmarked word s op row e)
+    (always-cond Unmarked (ltb row 12) (modifyAt byte s op row) _ (modify-unmarked byte s op row e)
     (always-cond Unmarked (ltb op 0x8000) _ _
-    (always-cond Unmarked (eqb (placeOf op) 14) (tcall s op) (tjmp s op)
+    (always-cond Unmarked (eqb row 14) (tcall s op) (tjmp s op)
     (with-operand word s op _ e (λ o d. always-then Unmarked Unmarked (push (o .state) (o .state .regs .pc)) _ (push-unmarked (o .state) _ d) (λ t i. tabled-unmarked t _ i)))
     (with-operand word s op _ e (λ o d. tabled-unmarked (o .state) _ d)))
-    (always-cond Unmarked (eqb (placeOf op) 12) (lsts s op) (ssts out s op)
+    (always-cond Unmarked (eqb row 12) (lsts s op) (ssts out s op)
     (with-operand word s op _ e (λ o d. d))
-    (with-operand word s op _ e (λ o d. write-unmarked word (o .state) (destinationRegister op) (o .place) _ d)))))
+    (with-operand word s op _ e (λ o d. write-unmarked word (o .state) (destinationRegister op) (o .place) _ d))))))
 
 again-unmarked : (s t : State) → Unmarked t → Unmarked (again s t)
 unfolding again withReg
@@ -161,7 +169,7 @@ again-unmarked s t e = either (eqb (t .regs .r0) 0) t _ e e
 
 eight-unmarked : (s : State) (op : ℕ) → Unmarked s → Always Unmarked (format8 s op)
 unfolding Always element counted onward withReg
-eight-unmarked s op e = always-after Unmarked _ _ (λ _. again-unmarked s (counted (rowOf op) s (sourceOf op) (destinationOf op)) e)
+eight-unmarked s op e = always-after Unmarked _ _ (λ _. again-unmarked s (counted (rowOf op) s (blockSource op) (blockDestination op)) e)
 
 called-unmarked : (s : State) (r a : ℕ) → Unmarked s → Always Unmarked (call s r a)
 unfolding Always call pushReg _>>=_ withReg
@@ -202,7 +210,7 @@ nine-unmarked out s op e =
               with-operand word t op _ e (λ o d. write-unmarked word (withReg (o .state) (register op) (o .operand)) (destinationRegister op) (o .place) _ d),
               (
                 with-operand byte t op _ e (λ o d. d),
-                (with-operand word t op _ e (λ o d. d), tt),
+                (with-operand word t op _ e (λ o d. d), (with-operand word t op _ e (λ o d. d), tt)),
               ),
             ),
           ),
@@ -262,18 +270,8 @@ MarkOf op s t = (t .mark ≡ (enables op && not (s .i2))) × (enables op ≡ tru
 none : {A : Type 0} → false ≡ true → A
 none e = let z : _≡_ {A = ℕ} 0 1 = cc in absurd (omega arith)
 
--- a claim of each number below n
-unfoldable pub Below : (ℕ → Type 0) → ℕ → Type 0
-Below P zero = Unit {0}
-Below P (suc n) = Below P n × P n
-
-pub below : (P : ℕ → Type 0) (n : ℕ) → Below P n → (k : ℕ) → k < n → P k
-unfolding Below
-below P zero b k h = absurd (omega arith)
-below P (suc n) b k h = elim (ℕ-discrete k n) [ yes e ↦ subst P (sym e) (b .1) | no d ↦ below P n (b .0) k (omega arith) ]
-
 low-marks : (out : Outside) (s : State) → Unmarked s → Below (λ op. Always (MarkOf op s) (execute out s op)) 16
-unfolding Always Below byFormat further lowCodes format1 byNumber formatOf bpt save savs rest rtt rrtn rrtt rsts rsvc push pushReg pop popReg popStatus fetch fromLoc pushBoth _>>=_ withReg withI2 withMode withMark withStatus
+unfolding Always Below byFormat further lowCodes format1 formatOf bpt save savs rest rtt rrtn rrtt rsts rsvc push pushReg pop popReg popStatus fetch fromLoc pushBoth _>>=_ withReg withI2 withMode withMark withStatus
 low-marks out s e = (
   (
     (
@@ -450,11 +448,12 @@ fits r Vectored = true
 fits r Waits = true
 fits r Stuck = true
 
-fits-option : (r : Bool) (n : ℕ) → fits r (getD (Boots ∷ Saves ∷ LocksUp ∷ []) n Restarts) ≡ true
+fits-option : (r : Bool) (n : ℕ) → fits r (getD (Boots ∷ Saves ∷ LocksUp ∷ Restarts ∷ []) n Restarts) ≡ true
 fits-option r zero = refl
 fits-option r (suc zero) = refl
 fits-option r (suc (suc zero)) = refl
-fits-option r (suc (suc (suc n))) = refl
+fits-option r (suc (suc (suc zero))) = refl
+fits-option r (suc (suc (suc (suc n)))) = refl
 
 fits-one : (r b : Bool) (k j : Kind) → fits r k ≡ true → fits r j ≡ true → fits r (cond b k j) ≡ true
 fits-one r true k j e h = e
@@ -568,11 +567,12 @@ one-of : (f : Kind → Bool) (x b : Bool) (k j : Kind) → f k ≡ x → f j ≡
 one-of f x true k j e h = e
 one-of f x false k j e h = h
 
-options : (n : ℕ) → (let k = getD (Boots ∷ Saves ∷ LocksUp ∷ []) n Restarts in (isOption k ≡ true) × (isInterrupt k ≡ false))
+options : (n : ℕ) → (let k = getD (Boots ∷ Saves ∷ LocksUp ∷ Restarts ∷ []) n Restarts in (isOption k ≡ true) × (isInterrupt k ≡ false))
 options zero = (refl, refl)
 options (suc zero) = (refl, refl)
 options (suc (suc zero)) = (refl, refl)
-options (suc (suc (suc n))) = (refl, refl)
+options (suc (suc (suc zero))) = (refl, refl)
+options (suc (suc (suc (suc n)))) = (refl, refl)
 
 deaf : (mode : Mode) (out : Outside) → isInterrupt (kindIn mode false out) ≡ false
 unfolding kindIn haltOption

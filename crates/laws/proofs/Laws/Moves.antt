@@ -49,7 +49,8 @@ use Rattle.laws.proofs.Laws.Append.{behind, goOn, run-append}
 use Rattle.laws.proofs.Laws.Taken.{ran-is}
 use Rattle.laws.proofs.Laws.Calls.{call-answered, run-not-refused}
 use Rattle.laws.proofs.Laws.Always.{Always, always-value, run-split}
-use Rattle.laws.proofs.Laws.Marked.{Below, below, code-work}
+use Rattle.codes.proofs.Laws.Past.{Below, below}
+use Rattle.laws.proofs.Laws.Marked.{code-work}
 use Rattle.laws.proofs.Laws.Mark.{turn-is}
 use Rattle.laws.specs.Moves.{Runs, LentRuns, quiet, Moves, RunMoves, RunsMove, Wd16RunsMove, ElementDropped, opened, OneElement, XctElement}
 use Rattle.laws.specs.Moves as Spec

@@ -7,28 +7,25 @@ use native.Mathlib.Decide.{ℕ-discrete}
 use lib.Dec.{eqb, ltb}
 use lib.ListN.{getD}
 use borrow.Author.Tests.{lt-ltb, le-ltb, eqb-true, ltb-true, ltb-false}
-use Rattle.word.specs.declared.Flags.{Flags}
-use Rattle.word.specs.declared.Done.{Done}
 use Rattle.word.specs.Address.{plus, minus}
-use Rattle.codes.specs.Codes.{immediateAt, wayAt, unaryAt, binaryAt, byteBinaryAt}
-use Rattle.codes.specs.Fields.{highByte, onlyRegister, argument, register, count}
+use Rattle.codes.specs.Codes.{immediateAt, wayAt, binaryAt, byteBinaryAt}
+use Rattle.codes.specs.Fields.{highByte, onlyRegister, argument, register, count, blockSource, blockDestination}
 use Rattle.plate.specs.Plate.{formatOf}
 use Rattle.arith.specs.Immediate.{immediateOf}
 use Rattle.shift.specs.Shifted.{singleOf, doubleOf, preset}
-use Rattle.unary.specs.Ops.{iw2Of, sxtOf, adcOf, sbcOf}
-use Rattle.unary.specs.Unary.{unaryOf}
-use Rattle.board.specs.Work.{Work, give, Size, word, byte, _>>=_}
+use Rattle.unary.specs.Ops.{sbcOf}
+use Rattle.board.specs.Work.{Work, give, word}
 use Rattle.state.specs.declared.State.{State}
 use Rattle.state.specs.declared.Outside.{Outside}
 use Rattle.state.specs.State.{reg, next, withPc, withFlags, withDone, withPair}
-use Rattle.operand.specs.Destination.{destination}
 use Rattle.control.specs.Low.{formats2to4, lowCodes}
-use Rattle.control.specs.Format2.{prtn, codes2, lcc, format2}
+use Rattle.control.specs.Format2.{iak, rtn, msko, prtn, lcc, format2}
 use Rattle.control.specs.Format4.{svca, svc, format4}
 use Rattle.format6.specs.Format5.{displacement, branch}
 use Rattle.format6.specs.Format6.{immediate, single, double, format6}
-use Rattle.format7.specs.Format7.{placeOf, inRegister, wordOf, stored, storedDone, modify, tcall, tjmp, statusCode, noResult, format7}
-use Rattle.format8.specs.Format8.{rowAt, sourceOf, destinationOf, element}
+use Rattle.format7.specs.Format7.{modify, tjmp, column0A, column8A, rowOf, format7}
+use Rattle.format7.proofs.Laws.Columns.{row-is}
+use Rattle.format8.specs.Format8.{rowAt, element}
 use Rattle.format9.specs.Format9.{div, codes9, format9}
 use Rattle.format10.specs.Format10.{onWords, onBytes, format10}
 use Rattle.optext.specs.Line.{addressed}
@@ -72,7 +69,7 @@ module _ (out : Outside) (s : State) where
   -- ---- formats 2, 3 and 4: the high byte is 00
 
   abbrev pub twoAt : ℕ → ℕ → Work State
-  twoAt k op = getD (codes2 out s (onlyRegister op)) ((k + 6) % 8) (prtn s (onlyRegister op))
+  twoAt k op = let r = onlyRegister op in cond (eqb k 2) (give (iak out s r)) (cond (eqb k 3) (rtn s r) (cond (eqb k 4) (msko s r) (prtn s r)))
 
   pub two : (b op : ℕ) → 2 ≤ b / 8 → b / 8 < 6 → b % 8 ≡ 0 → b + op % 8 + 0 ≡ op → (formatOf (highByte op) ≡ 1) × (execute out s op ≡ twoAt (b / 8) op)
   unfolding formatOf byFormat further lowCodes formats2to4 format2
@@ -162,26 +159,17 @@ module _ (out : Outside) (s : State) where
       let e = six-format b op x g in
       (e, rw (e, le-ltb op 0x8000 (omega (arith, x .0, q)), le-ltb op 0x8a00 (omega (arith, x .0, q)), x .1) refl)
 
-  -- ---- format 7: bits 15 to 6. `low`: the op code is one from 0A00, not one from 8A00; `at` is its place
-
-  abbrev pub furtherBy : Bool → ℕ → ℕ → Flags → Done
-  furtherBy low at d f = cond low (cond (eqb at 12) (iw2Of d) (sxtOf f)) (cond (eqb at 14) (adcOf d f) (sbcOf d f))
-
-  abbrev pub wordBy : Bool → ℕ → ℕ → ℕ → Flags → Done
-  wordBy low op at d f = cond (ltb at 12) (unaryOf 16 (unaryAt at) (inRegister op) d f) (furtherBy low at d f)
+  -- ---- format 7: bits 15 to 6. `low`: the op code is one from 0A00, not one from 8A00
 
   abbrev pub sevenBy : Bool → ℕ → ℕ → Work State
-  sevenBy low at op =
-      cond (cond low (ltb at 14) (ltb 13 at)) (destination word s op >>= (λ o. storedDone word op at (o .state) (o .place) (wordBy low op at (o .operand) (o .state .flags))))
-      (cond (ltb at 12) (modify byte s op at)
-      (cond low (cond (eqb at 14) (tcall s op) (tjmp s op)) (statusCode out s op at)))
+  sevenBy low row op = cond low (getD (column0A s op) row (tjmp s op)) (getD (column8A out s op) row (modify word sbcOf s op))
 
-  seven-by : (op : ℕ) → format7 out s op ≡ sevenBy (ltb op 0x8000) (placeOf op) op
-  unfolding format7 modify wordOf noResult
+  seven-by : (op : ℕ) → format7 out s op ≡ sevenBy (ltb op 0x8000) (rowOf op) op
+  unfolding format7
   seven-by op = refl
 
   abbrev pub sevenAt : ℕ → ℕ → Work State
-  sevenAt k op = sevenBy (ltb k 512) ((k + 24) % 64) op
+  sevenAt k op = sevenBy (ltb k 512) ((k % 512 + 984) % 1024) op
 
   pub seven : (b op : ℕ) → formatOf (b / 256) ≡ 7 → b % 64 ≡ 0 → b + op % 64 + 0 ≡ op → (formatOf (highByte op) ≡ 7) × (execute out s op ≡ sevenAt (b / 64) op)
   unfolding byFormat
@@ -190,19 +178,19 @@ module _ (out : Outside) (s : State) where
       let h : op / 256 ≡ b / 256 = omega (arith, k) in
       let e : formatOf (op / 256) ≡ 7 = ap formatOf h ∙ p in
       let low : ltb op 0x8000 ≡ ltb (b / 64) 512 = below-at op 64 (b / 64) 512 (λ t. omega (arith, k, ltb-true (b / 64) 512 t)) (λ t. omega (arith, k, ltb-false (b / 64) 512 t)) in
-      (e, rw e (seven-by op) ∙ ap (λ (x : Bool). sevenBy x (placeOf op) op) low ∙ ap (λ (x : ℕ). sevenBy (ltb (b / 64) 512) ((x + 24) % 64) op) k)
+      (e, rw e (seven-by op) ∙ ap (λ (x : Bool). sevenBy x (rowOf op) op) low ∙ ap (λ (x : ℕ). sevenBy (ltb (b / 64) 512) x op) (row-is op) ∙ ap (λ (x : ℕ). sevenBy (ltb (b / 64) 512) ((x % 512 + 984) % 1024) op) k)
 
   -- ---- format 8: bits 8 to 6
 
   abbrev pub eightAt : ℕ → ℕ → Work State
-  eightAt k op = element (rowAt (k % 8)) s (sourceOf op) (destinationOf op)
+  eightAt k op = element (rowAt (k % 8)) s (blockSource op) (blockDestination op)
 
   pub eight : out .settings .blocks ≡ true → (b op : ℕ) → formatOf (b / 256) ≡ 8 → b / 512 ≡ 7 → b % 64 ≡ 0 → b + op / 8 % 8 * 8 + op % 8 ≡ op
       → (formatOf (highByte op) ≡ 8) × (execute out s op ≡ eightAt (b / 64) op)
   eight fit b op p q z i =
       let k : op / 64 ≡ b / 64 = omega (arith, z, i) in
       let h : op / 256 ≡ b / 256 = omega (arith, k) in
-      (ap formatOf h ∙ p, executes out s op fit (omega (arith, k, q)) ∙ ap (λ (x : ℕ). element (rowAt (x % 8)) s (sourceOf op) (destinationOf op)) k)
+      (ap formatOf h ∙ p, executes out s op fit (omega (arith, k, q)) ∙ ap (λ (x : ℕ). element (rowAt (x % 8)) s (blockSource op) (blockDestination op)) k)
 
   -- ---- format 9: bits 11 to 9
 
@@ -233,7 +221,7 @@ module _ (out : Outside) (s : State) where
   -- ---- format 10: bits 15 to 12
 
   abbrev pub tenBy : Bool → Bool → ℕ → ℕ → Work State
-  tenBy words low k op = cond words (onWords (binaryAt (cond low (minus k 1) (minus k 3))) s op) (onBytes (byteBinaryAt (minus k 12)) s op)
+  tenBy words low k op = cond words (onWords (binaryAt (cond low (minus k 1) (plus 6 (minus k 9)))) s op) (onBytes (byteBinaryAt (minus k 12)) s op)
 
   abbrev pub tenAt : ℕ → ℕ → Work State
   tenAt k op = tenBy (ltb k 12) (ltb k 8) k op

@@ -8,7 +8,8 @@ use lib.ListN.{length}
 use Rattle.state.specs.declared.State.{State}
 use Rattle.state.specs.declared.Settings.{Settings}
 use Rattle.state.specs.State.{heard, reg, withMark}
-use Rattle.format8.specs.Format8.{rowOf, sourceOf, destinationOf}
+use Rattle.format8.specs.Format8.{rowOf}
+use Rattle.codes.specs.Fields.{blockSource, blockDestination}
 use Rattle.format8.specs.Page.{Plain, countOf, stateAfter}
 use Rattle.step.specs.declared.Cause.{Cause}
 use Rattle.step.specs.declared.Cause.the-variants as Cause
@@ -35,7 +36,7 @@ count-marked : (s : State) → reg (withMark s false) 0 ≡ reg s 0
 unfolding withMark reg
 count-marked s = refl
 
-module _ (settings : Settings) (fit : settings .blocks ≡ true) (map : List ℕ) (op : ℕ) (eight : op / 512 ≡ 7) (p : Plain (sourceOf op) (destinationOf op)) where
+module _ (settings : Settings) (fit : settings .blocks ≡ true) (map : List ℕ) (op : ℕ) (eight : op / 512 ≡ 7) (p : Plain (blockSource op) (blockDestination op)) where
   -- from any state, marked or not: the first element clears the mark
   elements : (lines : List ℕ) (s : State) (m : List ℕ) (c : Cause)
       → Left (length lines) (withMark s false) → Ready map op (length lines) (withMark s false) m → AllUnheard settings (hears (withMark s false)) lines
@@ -45,7 +46,7 @@ module _ (settings : Settings) (fit : settings .blocks ≡ true) (map : List ℕ
   elements (line ∷ []) s m c l a (also q none) =
       let u = withMark s false in
       step-ends settings map line [] s m c (step-last p eight (heard settings line) fit s (unheard-marked s (heard settings line) q) l a)
-      (record { last = ap (λ x. after (stateAfter (rowOf op) (sourceOf op) (destinationOf op) 1 u) x Cause.OpCode) (sym (image-last op p u m)); tally = refl })
+      (record { last = ap (λ x. after (stateAfter (rowOf op) (blockSource op) (blockDestination op) 1 u) x Cause.OpCode) (sym (image-last op p u m)); tally = refl })
   elements (line ∷ two ∷ lines) s m c l a (also q qs) =
       let u = withMark s false in
       step-ends settings map line (two ∷ lines) s m c (step-once p eight (heard settings line) fit s (unheard-marked s (heard settings line) q) l a)

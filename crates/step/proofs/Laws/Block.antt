@@ -19,7 +19,8 @@ use Rattle.state.specs.Registers.{regOf, setReg}
 use Rattle.state.specs.Answer.{taken}
 use Rattle.state.specs.Stack.{fetch}
 use Rattle.format8.specs.declared.Row.{Row}
-use Rattle.format8.specs.Format8.{rowOf, sourceOf, destinationOf, sizeOf, transfer, onward, counted, again, element, format8}
+use Rattle.format8.specs.Format8.{rowOf, sizeOf, transfer, onward, counted, again, element, format8}
+use Rattle.codes.specs.Fields.{blockSource, blockDestination}
 use Rattle.format8.specs.Page.{Plain, countOf, along, carried, imageAfter, stateAfter}
 use Rattle.format8.proofs.Laws.Moved.{onceMore, once-after, once-pc, once-count, once-source, once-destination, last-after, counted-count, past-source, past-destination}
 use Rattle.step.specs.declared.Kind.the-variants.{OpCode}
@@ -70,7 +71,7 @@ begun-well map out s op m h = rw (ne-eqb op 5 (λ e. omega arith))
 
 -- the image with an element moved
 abbrev pub elementIn : ℕ → State → List ℕ → List ℕ
-elementIn op s m = put (sizeOf (rowOf op .bytes)) m (reg s (destinationOf op)) (get (sizeOf (rowOf op .bytes)) m (reg s (sourceOf op)))
+elementIn op s m = put (sizeOf (rowOf op .bytes)) m (reg s (blockDestination op)) (get (sizeOf (rowOf op .bytes)) m (reg s (blockSource op)))
 
 -- R0 says that n elements are left
 pub record Left (n : ℕ) (s : State) : Type 0 where
@@ -125,19 +126,19 @@ cleared-twice : (s : State) (v : ℕ) → withMark (withPc s v) false ≡ withPc
 unfolding withMark withReg
 cleared-twice s v = refl
 
-module _ {map : List ℕ} {op : ℕ} (p : Plain (sourceOf op) (destinationOf op)) (eight : op / 512 ≡ 7) (out : Outside) (fit : out .settings .blocks ≡ true) (s : State) {m : List ℕ} where
+module _ {map : List ℕ} {op : ℕ} (p : Plain (blockSource op) (blockDestination op)) (eight : op / 512 ≡ 7) (out : Outside) (fit : out .settings .blocks ≡ true) (s : State) {m : List ℕ} where
   work-well : {n : ℕ} → 1 ≤ n → Ready map op n (withMark s false) m
       → (let u = withMark s false in let t = withPc u (plus (u .regs .pc) 2) in
-      run map (opWork out s) m ≡ value (again t (counted (rowOf op) t (sourceOf op) (destinationOf op))) (elementIn op u m))
+      run map (opWork out s) m ≡ value (again t (counted (rowOf op) t (blockSource op) (blockDestination op))) (elementIn op u m))
   unfolding opWork carry traced run along withMark
   work-well some a =
       let u = withMark s false in
       let t = withPc u (plus (u .regs .pc) 2) in
-      let from : reg t (sourceOf op) ≡ reg u (sourceOf op) = past-source (rowOf op) p u in
-      let to : reg t (destinationOf op) ≡ reg u (destinationOf op) = past-destination (rowOf op) p u in
-      let moved : run map (execute out t op) m ≡ value (again t (counted (rowOf op) t (sourceOf op) (destinationOf op))) (elementIn op t m) =
+      let from : reg t (blockSource op) ≡ reg u (blockSource op) = past-source (rowOf op) p u in
+      let to : reg t (blockDestination op) ≡ reg u (blockDestination op) = past-destination (rowOf op) p u in
+      let moved : run map (execute out t op) m ≡ value (again t (counted (rowOf op) t (blockSource op) (blockDestination op))) (elementIn op t m) =
       rw (executes out t op fit eight)
-      (element-well map (rowOf op) t (sourceOf op) (destinationOf op) m (rw from (a .reads 0 (omega arith))) (rw to (a .writes 0 (omega arith)))) in
+      (element-well map (rowOf op) t (blockSource op) (blockDestination op) m (rw from (a .reads 0 (omega arith))) (rw to (a .writes 0 (omega arith)))) in
       let past = withPc s (plus (s .regs .pc) 2) in
       let off : withMark past false ≡ t = cleared-twice s (plus (s .regs .pc) 2) in
       run-then map (fetch s) _ m (fetched map s m op (a .here) (a .code))
@@ -178,10 +179,10 @@ once-kept r i j s pc v = (refl, refl, refl)
 
 -- the state after an element that is not the last
 abbrev pub afterOne : ℕ → State → State
-afterOne op s = onceMore (rowOf op) (sourceOf op) (destinationOf op) s
+afterOne op s = onceMore (rowOf op) (blockSource op) (blockDestination op) s
 
 -- the first step of any state, marked or not: its element is the unmarked one's
-module _ {map : List ℕ} {op : ℕ} (p : Plain (sourceOf op) (destinationOf op)) (eight : op / 512 ≡ 7) (out : Outside) (fit : out .settings .blocks ≡ true)
+module _ {map : List ℕ} {op : ℕ} (p : Plain (blockSource op) (blockDestination op)) (eight : op / 512 ≡ 7) (out : Outside) (fit : out .settings .blocks ≡ true)
     (s : State) {m : List ℕ} (quiet : Unheard (hears s) out) where
   kind-is : {n : ℕ} → Ready map op n (withMark s false) m → OpCode ≡ kindOf s out
   unfolding withMark
@@ -194,7 +195,7 @@ module _ {map : List ℕ} {op : ℕ} (p : Plain (sourceOf op) (destinationOf op)
   step-once {k} l a =
       let u = withMark s false in
       let t = withPc u (plus (u .regs .pc) 2) in
-      let c = counted (rowOf op) t (sourceOf op) (destinationOf op) in
+      let c = counted (rowOf op) t (blockSource op) (blockDestination op) in
       let more : reg c 0 ≡ 0 → ⊥ = λ z. some-left (reg u 0) (suc (suc k)) (l .togo) (omega arith) (l .most)
       (sym (counted-count (rowOf op) p u) ∙ z) in
       let there : again t c ≡ afterOne op u = again-more t c more ∙ ap (λ x. withPc c x) (ap (λ x. minus x 2) (pc-past u) ∙ back (u .regs .pc) (a .address)) in
@@ -202,54 +203,54 @@ module _ {map : List ℕ} {op : ℕ} (p : Plain (sourceOf op) (destinationOf op)
 
   -- the last
   pub step-last : Left 1 (withMark s false) → Ready map op 1 (withMark s false) m
-      → stepOf map out s m ≡ after (stateAfter (rowOf op) (sourceOf op) (destinationOf op) 1 (withMark s false)) (elementIn op (withMark s false) m) Cause.OpCode
+      → stepOf map out s m ≡ after (stateAfter (rowOf op) (blockSource op) (blockDestination op) 1 (withMark s false)) (elementIn op (withMark s false) m) Cause.OpCode
   unfolding workOf
   step-last l a =
       let u = withMark s false in
       let t = withPc u (plus (u .regs .pc) 2) in
-      let c = counted (rowOf op) t (sourceOf op) (destinationOf op) in
+      let c = counted (rowOf op) t (blockSource op) (blockDestination op) in
       let none : plus (reg u 0) 65535 ≡ 0 = zero-left (reg u 0) 1 (l .togo) refl in
-      let there : again t c ≡ stateAfter (rowOf op) (sourceOf op) (destinationOf op) 1 u =
+      let there : again t c ≡ stateAfter (rowOf op) (blockSource op) (blockDestination op) 1 u =
       again-last t c (counted-count (rowOf op) p u ∙ none)
       ∙ last-after (rowOf op) p u none in
       sym (step-well map out s m {k = OpCode} (kind-is a) (rw there at (work-well p eight out fit s (omega arith) a)) refl)
 
 -- ---- what is left after an element comes to what the whole comes to
 
-module _ {map : List ℕ} {op : ℕ} (p : Plain (sourceOf op) (destinationOf op)) {s : State} {m : List ℕ} where
+module _ {map : List ℕ} {op : ℕ} (p : Plain (blockSource op) (blockDestination op)) {s : State} {m : List ℕ} where
   pub ready-on : {k : ℕ} → Ready map op (suc (suc k)) s m → Ready map op (suc k) (afterOne op s) (elementIn op s m)
   unfolding along
   ready-on a =
       let pc : afterOne op s .regs .pc ≡ s .regs .pc = once-pc (rowOf op) p s in
       record {
-        running = once-kept (rowOf op) (sourceOf op) (destinationOf op) s (s .regs .pc) (plus (s .regs .pc) 2) .0 ∙ a .running;
+        running = once-kept (rowOf op) (blockSource op) (blockDestination op) s (s .regs .pc) (plus (s .regs .pc) 2) .0 ∙ a .running;
         address = rw pc (a .address);
         here = rw pc (a .here);
-        code = rw pc (put-apart (sizeOf (rowOf op .bytes)) m (reg s (destinationOf op)) _ (s .regs .pc) (a .apart 0 (omega arith)) ∙ a .code);
+        code = rw pc (put-apart (sizeOf (rowOf op .bytes)) m (reg s (blockDestination op)) _ (s .regs .pc) (a .apart 0 (omega arith)) ∙ a .code);
         reads = λ i l. rw (once-source (rowOf op) p s) (a .reads (suc i) (omega arith));
         writes = λ i l. rw (once-destination (rowOf op) p s) (a .writes (suc i) (omega arith));
         apart = λ i l. rw (once-destination (rowOf op) p s, pc) (a .apart (suc i) (omega arith));
       }
 
-module _ (op : ℕ) (p : Plain (sourceOf op) (destinationOf op)) (s : State) where
+module _ (op : ℕ) (p : Plain (blockSource op) (blockDestination op)) (s : State) where
   pub left-on : (k : ℕ) → Left (suc (suc k)) s → Left (suc k) (afterOne op s)
   left-on k l = record { togo = once-count (rowOf op) p s ∙ one-less (reg s 0) k (l .togo); some = omega arith; most = omega (arith, l .most) }
 
-  pub image-on : (k : ℕ) (m : List ℕ) → imageAfter (rowOf op) (sourceOf op) (destinationOf op) (suc k) (afterOne op s) (elementIn op s m) ≡ imageAfter (rowOf op) (sourceOf op) (destinationOf op) (suc (suc k)) s m
+  pub image-on : (k : ℕ) (m : List ℕ) → imageAfter (rowOf op) (blockSource op) (blockDestination op) (suc k) (afterOne op s) (elementIn op s m) ≡ imageAfter (rowOf op) (blockSource op) (blockDestination op) (suc (suc k)) s m
   unfolding carried
   image-on k m = rw (once-source (rowOf op) p s, once-destination (rowOf op) p s)
 
-  pub state-on : (k : ℕ) → stateAfter (rowOf op) (sourceOf op) (destinationOf op) (suc k) (afterOne op s) ≡ stateAfter (rowOf op) (sourceOf op) (destinationOf op) (suc (suc k)) s
+  pub state-on : (k : ℕ) → stateAfter (rowOf op) (blockSource op) (blockDestination op) (suc k) (afterOne op s) ≡ stateAfter (rowOf op) (blockSource op) (blockDestination op) (suc (suc k)) s
   state-on k = once-after (rowOf op) p s k
 
   -- an element leaves no mark
   pub unmarked-on : withMark (afterOne op (withMark s false)) false ≡ afterOne op (withMark s false)
   unfolding withMark
-  unmarked-on = once-kept (rowOf op) (sourceOf op) (destinationOf op) (withMark s false) (s .regs .pc) (plus (s .regs .pc) 2) .1
+  unmarked-on = once-kept (rowOf op) (blockSource op) (blockDestination op) (withMark s false) (s .regs .pc) (plus (s .regs .pc) 2) .1
 
   pub hearing-on : hears (afterOne op s) ≡ hears s
-  hearing-on = once-kept (rowOf op) (sourceOf op) (destinationOf op) s (s .regs .pc) (plus (s .regs .pc) 2) .2
+  hearing-on = once-kept (rowOf op) (blockSource op) (blockDestination op) s (s .regs .pc) (plus (s .regs .pc) 2) .2
 
-  pub image-last : (m : List ℕ) → imageAfter (rowOf op) (sourceOf op) (destinationOf op) 1 s m ≡ elementIn op s m
+  pub image-last : (m : List ℕ) → imageAfter (rowOf op) (blockSource op) (blockDestination op) 1 s m ≡ elementIn op s m
   unfolding carried
   image-last m = refl

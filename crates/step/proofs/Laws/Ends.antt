@@ -82,17 +82,19 @@ code-is Waits e = absurd (unlike (sym e))
 code-is Stuck e = absurd (unlike (sym e))
 
 -- no option is an op code
-halt-no-code : (n : ℕ) → isCode (getD (Boots ∷ Saves ∷ LocksUp ∷ []) n Restarts) ≡ false
+halt-no-code : (n : ℕ) → isCode (getD (Boots ∷ Saves ∷ LocksUp ∷ Restarts ∷ []) n Restarts) ≡ false
 halt-no-code zero = refl
 halt-no-code (suc zero) = refl
 halt-no-code (suc (suc zero)) = refl
-halt-no-code (suc (suc (suc n))) = refl
+halt-no-code (suc (suc (suc zero))) = refl
+halt-no-code (suc (suc (suc (suc n)))) = refl
 
-power-no-code : (n : ℕ) (k : Kind) → isCode k ≡ false → isCode (getD (Boots ∷ Restores ∷ k ∷ []) n Restarts) ≡ false
+power-no-code : (n : ℕ) (k : Kind) → isCode k ≡ false → isCode (getD (Boots ∷ Restores ∷ k ∷ Restarts ∷ []) n Restarts) ≡ false
 power-no-code zero k h = refl
 power-no-code (suc zero) k h = refl
 power-no-code (suc (suc zero)) k h = h
-power-no-code (suc (suc (suc n))) k h = refl
+power-no-code (suc (suc (suc zero))) k h = refl
+power-no-code (suc (suc (suc (suc n)))) k h = refl
 
 pub option-no-code : (settings : Settings) {k : Kind} → k ≡ powerUpOption settings → isCode k ≡ false
 unfolding powerUpOption haltOption

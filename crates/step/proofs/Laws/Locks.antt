@@ -71,12 +71,13 @@ rank Vectored = 0
 rank Waits = 0
 rank Stuck = 2
 
-option-locks : {out : Outside} {mode : Mode} (i3 : Bool) (h : ℕ) (other : Kind) → rank other ≡ 0 → (rank (cond i3 (getD (Boots ∷ Saves ∷ Kind.LocksUp ∷ []) h Restarts) other) ≡ 0 → ⊥)
+option-locks : {out : Outside} {mode : Mode} (i3 : Bool) (h : ℕ) (other : Kind) → rank other ≡ 0 → (rank (cond i3 (getD (Boots ∷ Saves ∷ Kind.LocksUp ∷ Restarts ∷ []) h Restarts) other) ≡ 0 → ⊥)
     → out .i3 ≡ i3 → out .settings .halt ≡ h → LocksUp out mode
 option-locks true zero other e n i j = absurd (n refl)
 option-locks true (suc zero) other e n i j = absurd (n refl)
 option-locks true (suc (suc zero)) other e n i j = byOption i j
-option-locks true (suc (suc (suc h))) other e n i j = absurd (n refl)
+option-locks true (suc (suc (suc zero))) other e n i j = absurd (n refl)
+option-locks true (suc (suc (suc (suc h)))) other e n i j = absurd (n refl)
 option-locks false h other e n i j = absurd (n e)
 
 heard-none : (hearing i1 i0 : Bool) (other : Kind) → rank other ≡ 0 → rank (cond hearing (cond i1 NonVectored (cond i0 Vectored other)) other) ≡ 0

@@ -1,7 +1,7 @@
 use mathlib.Core.List.{[], _∷_}
-use mathlib.Core.Path.{_≡_}
+use mathlib.Core.Path.{_≡_, refl}
 use native.Mathlib.Omega.{arith}
-use Rattle.codes.proofs.Laws.Past.{past}
+use Rattle.codes.proofs.Laws.Past.{last}
 use Rattle.step.specs.declared.Kind.the-variants.{Boots, Saves, LocksUp, Restarts}
 use Rattle.step.specs.Step.{haltOption}
 use Rattle.step.proofs.halt_option.Statement.{statement}
@@ -21,7 +21,7 @@ returns-3 c = let e : c .before .args .settings .halt ≡ 2 = omega arith in rw 
 
 returns-4 : tie.Need-returns-4
 unfolding haltOption
-returns-4 c = past (Boots ∷ Saves ∷ LocksUp ∷ []) Restarts (c .before .args .settings .halt) (c .match .rest)
+returns-4 c = last (Boots ∷ Saves ∷ LocksUp ∷ Restarts ∷ []) Restarts (c .before .args .settings .halt) refl (c .match .rest)
 
 pub halt-option-spec : {M : Type 1} → statement M
 halt-option-spec =

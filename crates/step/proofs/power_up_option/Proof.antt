@@ -1,7 +1,7 @@
 use mathlib.Core.List.{[], _∷_}
-use mathlib.Core.Path.{_≡_}
+use mathlib.Core.Path.{_≡_, refl}
 use native.Mathlib.Omega.{arith}
-use Rattle.codes.proofs.Laws.Past.{past}
+use Rattle.codes.proofs.Laws.Past.{last}
 use Rattle.step.specs.declared.Kind.the-variants.{Boots, Restores, Restarts}
 use Rattle.step.specs.Step.{haltOption, powerUpOption}
 use borrow.Author.Needs.{needs}
@@ -22,7 +22,7 @@ returns-3 c = let e : c .before .before .args .settings .powerup ≡ 2 = omega a
 
 returns-4 : tie.Need-returns-4
 unfolding powerUpOption
-returns-4 c = past (Boots ∷ Restores ∷ haltOption (c .before .args .settings) ∷ []) Restarts (c .before .args .settings .powerup) (c .match .rest)
+returns-4 c = last (Boots ∷ Restores ∷ haltOption (c .before .args .settings) ∷ Restarts ∷ []) Restarts (c .before .args .settings .powerup) refl (c .match .rest)
 
 pub power-up-option-spec : {M : Type 1} → statement M
 power-up-option-spec =

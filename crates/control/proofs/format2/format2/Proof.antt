@@ -1,9 +1,7 @@
 use mathlib.Core.Path.{refl, sym, _∙_}
 use Rattle.board.proofs.Laws.{got-give, did}
-use Rattle.codes.proofs.Laws.Past.{at-least}
-use Prim.Native.Nat.{_/_, _+_, _%_}
+use borrow.Author.Tests.{ne-eqb}
 use Rattle.control.specs.Format2.{format2}
-use Rattle.control.proofs.Laws.Format2.{format2-last}
 use borrow.Author.Needs.{needs}
 use Rattle.control.proofs.format2.format2.Statement.{statement}
 use Rattle.control.proofs.format2.format2.Tie as tie
@@ -34,13 +32,12 @@ returns-3 c = rw (c .before .before .before .before .before .match .keys3) (reco
 
 returns-4 : tie.Need-returns-4
 unfolding format2
-returns-4 c = rw (format2-last _ _ (c .before .before .before .before .before .args .op) (at-least 3 ((c .before .before .before .before .before .args .op / 8 + 6) % 8) (c .before .before .match .rest))) (record { got = c .prtn .ensures .got; board = c .before .before .before .before .before .pre })
+returns-4 c = rw (ne-eqb _ _ (c .before .before .match .rest .0 .0 .1), ne-eqb _ _ (c .before .before .match .rest .0 .1), ne-eqb _ _ (c .before .before .match .rest .1)) (record { got = c .prtn .ensures .got; board = c .before .before .before .before .before .pre })
 
 pub format2-spec : {M : Type 1} → statement M
 format2-spec =
     tie.close
     (tie.spec
-    (λ c. search needs)
     (λ c κs. search needs)
     rtn-requires
     msko-requires
