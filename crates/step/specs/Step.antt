@@ -97,53 +97,38 @@ workOf Vectored out s = vectored out s
 workOf Waits out s = give s
 workOf Stuck out s = give s
 
--- ---- bus error: from the state before the step
-
--- PC plus 2 if the step had come to fetching or executing an op code
-abbrev pub past : Kind → State → State
-past OpCode s = withPc s (plus (s .regs .pc) 2)
-past HaltEnd s = s
-past Boots s = s
-past Saves s = s
-past LocksUp s = s
-past Restarts s = s
-past Restores s = s
-past NonVectored s = s
-past Vectored s = s
-past Waits s = s
-past Stuck s = s
-
--- ↓ PS, with the bus error's bit; ↓ PC; I2 reset, running, PC from 12
-unfoldable pub busError : Kind → Outside → State → Work State
-busError k out s = trap (past k s) (psOf out true (past k s)) 0x12
-
 -- ---- causes
 
--- the page's number: 0 op code or its trap, 1 I3, 2 I1, 3 I0, 4 nothing done, 5 bus error in an op code, 6 in an interrupt, 8 locked, now or before, 9 bus error in a save; 7 is given to none
-abbrev pub causeNumber : Cause → ℕ
-causeNumber Cause.OpCode = 0
-causeNumber Cause.Switch = 1
-causeNumber Cause.NonVectored = 2
-causeNumber Cause.Vectored = 3
-causeNumber Cause.Nothing = 4
-causeNumber (OpCodeBlank a) = 5
-causeNumber (InterruptBlank a) = 6
-causeNumber (SaveBlank a) = 9
-causeNumber (LockedAt a) = 8
-causeNumber Cause.Locked = 8
+-- of a cause: the page's number; the address that a step tells, which is that of a blank or of a lock-up newly met; and that of a blank alone, after which the bus error's trap succeeded
+pub record CauseRow : Type 0 where
+  pub number : ℕ
+  pub address : Told
+  pub blank : Told
 
--- the address of a blank: the bus error's trap succeeded
+abbrev pub causeRow : ℕ → Told → Told → CauseRow
+causeRow n a b = record { number = n; address = a; blank = b }
+
+-- 7 is given to none
+abbrev pub ofCause : Cause → CauseRow
+ofCause Cause.OpCode = causeRow 0 Nowhere Nowhere  -- an op code or its trap
+ofCause Cause.Switch = causeRow 1 Nowhere Nowhere  -- I3
+ofCause Cause.NonVectored = causeRow 2 Nowhere Nowhere  -- I1
+ofCause Cause.Vectored = causeRow 3 Nowhere Nowhere  -- I0
+ofCause Cause.Nothing = causeRow 4 Nowhere Nowhere  -- nothing done
+ofCause (OpCodeBlank a) = causeRow 5 (At a) (At a)  -- bus error in an op code
+ofCause (InterruptBlank a) = causeRow 6 (At a) (At a)  -- in an interrupt
+ofCause (SaveBlank a) = causeRow 9 (At a) (At a)  -- in a save
+ofCause (LockedAt a) = causeRow 8 (At a) Nowhere  -- locked now
+ofCause Cause.Locked = causeRow 8 Nowhere Nowhere  -- locked before, or by the option
+
+abbrev pub causeNumber : Cause → ℕ
+causeNumber cause = ofCause cause .number
+
+abbrev pub addressOf : Cause → Told
+addressOf cause = ofCause cause .address
+
 abbrev pub blankAt : Cause → Told
-blankAt Cause.OpCode = Nowhere
-blankAt Cause.Switch = Nowhere
-blankAt Cause.NonVectored = Nowhere
-blankAt Cause.Vectored = Nowhere
-blankAt Cause.Nothing = Nowhere
-blankAt (OpCodeBlank a) = At a
-blankAt (InterruptBlank a) = At a
-blankAt (SaveBlank a) = At a
-blankAt (LockedAt a) = Nowhere
-blankAt Cause.Locked = Nowhere
+blankAt cause = ofCause cause .blank
 
 abbrev pub isTold : Told → Bool
 isTold Nowhere = false
@@ -152,46 +137,48 @@ isTold (At a) = true
 abbrev pub isBlank : Cause → Bool
 isBlank cause = isTold (blankAt cause)
 
--- the address that a step tells: that of a blank, and that of a lock-up which is newly met
-abbrev pub addressOf : Cause → Told
-addressOf Cause.OpCode = Nowhere
-addressOf Cause.Switch = Nowhere
-addressOf Cause.NonVectored = Nowhere
-addressOf Cause.Vectored = Nowhere
-addressOf Cause.Nothing = Nowhere
-addressOf (OpCodeBlank a) = At a
-addressOf (InterruptBlank a) = At a
-addressOf (SaveBlank a) = At a
-addressOf (LockedAt a) = At a
-addressOf Cause.Locked = Nowhere
+-- of a kind of step: its cause; its cause where the work met a blank and the bus error's trap succeeded; whether it had come to fetching or executing an op code
+pub record KindRow : Type 0 where
+  pub cause : Cause
+  pub error : ℕ → Cause
+  pub code : Bool
 
--- a halt option is 1, and so is the end of a save; the end of a halt on power fail is 0; the lock-up option locks
+abbrev pub kindRow : Cause → (ℕ → Cause) → Bool → KindRow
+kindRow cause error code = record { cause = cause; error = error; code = code }
+
+-- a halt option is 1, and so is the end of a save; the end of a halt on power fail is 0; the lock-up option locks.
+-- Where 16 can't be fetched or the places can't be picked up, the trap never succeeds (proofs Laws/Told); where nothing is read or written there is no bus error.
+abbrev pub ofKind : Kind → KindRow
+ofKind OpCode = kindRow Cause.OpCode OpCodeBlank true
+ofKind HaltEnd = kindRow Cause.OpCode LockedAt false
+ofKind Boots = kindRow Cause.Switch LockedAt false
+ofKind Saves = kindRow Cause.Switch SaveBlank false
+ofKind LocksUp = kindRow Cause.Locked LockedAt false
+ofKind Restarts = kindRow Cause.Switch LockedAt false
+ofKind Restores = kindRow Cause.Switch LockedAt false
+ofKind NonVectored = kindRow Cause.NonVectored InterruptBlank false
+ofKind Vectored = kindRow Cause.Vectored InterruptBlank false
+ofKind Waits = kindRow Cause.Nothing LockedAt false
+ofKind Stuck = kindRow Cause.Locked LockedAt false
+
 abbrev pub causeOf : Kind → Cause
-causeOf OpCode = Cause.OpCode
-causeOf HaltEnd = Cause.OpCode
-causeOf Boots = Cause.Switch
-causeOf Saves = Cause.Switch
-causeOf LocksUp = Cause.Locked
-causeOf Restarts = Cause.Switch
-causeOf Restores = Cause.Switch
-causeOf NonVectored = Cause.NonVectored
-causeOf Vectored = Cause.Vectored
-causeOf Waits = Cause.Nothing
-causeOf Stuck = Cause.Locked
+causeOf k = ofKind k .cause
 
--- a bus error at the address a, where its trap succeeds. Where 16 can't be fetched or the places can't be picked up it never does (Restart.antt); where nothing is read or written there is no bus error.
 abbrev pub errorCauseOf : Kind → ℕ → Cause
-errorCauseOf OpCode a = OpCodeBlank a
-errorCauseOf HaltEnd a = LockedAt a
-errorCauseOf Boots a = LockedAt a
-errorCauseOf Saves a = SaveBlank a
-errorCauseOf LocksUp a = LockedAt a
-errorCauseOf Restarts a = LockedAt a
-errorCauseOf Restores a = LockedAt a
-errorCauseOf NonVectored a = InterruptBlank a
-errorCauseOf Vectored a = InterruptBlank a
-errorCauseOf Waits a = LockedAt a
-errorCauseOf Stuck a = LockedAt a
+errorCauseOf k a = ofKind k .error a
+
+abbrev pub isCode : Kind → Bool
+isCode k = ofKind k .code
+
+-- ---- bus error: from the state before the step
+
+-- PC plus 2 if the step had come to fetching or executing an op code
+abbrev pub past : Kind → State → State
+past k s = cond (isCode k) (withPc s (plus (s .regs .pc) 2)) s
+
+-- ↓ PS, with the bus error's bit; ↓ PC; I2 reset, running, PC from 12
+unfoldable pub busError : Kind → Outside → State → Work State
+busError k out s = trap (past k s) (psOf out true (past k s)) 0x12
 
 -- ---- the step
 
@@ -250,21 +237,6 @@ pub record Stepped (map : List ℕ) (a : After) (r : Turn) (st : Store) : Type 0
 pub record Powered (map : List ℕ) (u : Up) (s : State) (m : List ℕ) : Type 0 where
   pub came : up s m ≡ u
   pub lent : Lent map m
-
--- ---- a step that is an op code, and the others
-
-abbrev pub isCode : Kind → Bool
-isCode OpCode = true
-isCode HaltEnd = false
-isCode Boots = false
-isCode Saves = false
-isCode LocksUp = false
-isCode Restarts = false
-isCode Restores = false
-isCode NonVectored = false
-isCode Vectored = false
-isCode Waits = false
-isCode Stuck = false
 
 -- what an op code's work on a board promises: what it comes to; where it was not answered, the log takes back what was done
 pub record Coded (map : List ℕ) (out : Outside) (s : State) (m : List ℕ) (r : Went) (st : Store) : Type 0 where

@@ -360,19 +360,10 @@ fn error_cause_of(k: Kind, a: u16) -> Cause
 fn past(k: Kind, s: State) -> State
     ensures { λ r. ⌜ r ≡ Spec.past k s ⌝ }
 {
-    match k {
-        Kind::OpCode => s.with_pc(plus(s.regs.pc, 2)),
-        Kind::HaltEnd => s,
-        Kind::Boots => s,
-        Kind::Saves => s,
-        Kind::LocksUp => s,
-        Kind::Restarts => s,
-        Kind::Restores => s,
-        Kind::NonVectored => s,
-        Kind::Vectored => s,
-        Kind::Waits => s,
-        Kind::Stuck => s,
+    if is_code(k) {
+        return s.with_pc(plus(s.regs.pc, 2));
     }
+    s
 }
 
 // ↓ PS, with the bus error's bit; ↓ PC; I2 reset, running, PC from 12.
