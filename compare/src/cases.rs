@@ -7,7 +7,7 @@ use crate::machine::{Ran, Stepped};
 use crate::recorder::{Channel, Report, Tallies, CHANNELS};
 use crate::state::{Flags, Mode, State};
 use crate::trace::{check_trace, Verdict};
-use crate::{bench, listing, machine, recorder, text, Placed, Refusal};
+use crate::{bench, listing, machine, recorder, text, writer, Placed, Refusal};
 
 /// The lent memory of a case.
 #[derive(Clone)]
@@ -532,7 +532,7 @@ impl Answers for Plain {
     }
 
     fn write(&mut self, level: Level, words: &[u16], text: &mut [u8]) -> Answer<(usize, usize)> {
-        placed(text::write_text(level, words, text))
+        placed(writer::write_text(level, words, text))
     }
 
     fn read(&mut self, level: Level, text: &[u8], words: &mut [u16]) -> Answer<usize> {

@@ -3,7 +3,7 @@
 use std::sync::OnceLock;
 
 use crate::level::Level;
-use crate::text::template;
+use crate::writer::template;
 use crate::Placed;
 
 /// Stands for any digit, where a text has the digits of a further word.

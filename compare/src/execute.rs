@@ -2,7 +2,7 @@
 
 use crate::alu::{self, Way};
 use crate::board::Blank;
-use crate::machine::Cpu;
+use crate::cpu::Cpu;
 use crate::operand::Place;
 use crate::state::{Flags, Mode, PC, SP};
 

@@ -10,8 +10,8 @@ use crate::level::Level;
 use crate::recorder::CHANNELS;
 use crate::state::{Mode, State, PC};
 use crate::table::{rows, Operands};
-use crate::text::{text_of, word_text};
 use crate::trace::{steps_of, FIELDS};
+use crate::writer::{text_of, word_text};
 
 /// The kinds of case lines that are made here.
 #[derive(Clone, Copy, PartialEq, Eq, Debug)]

@@ -14,6 +14,7 @@ pub mod calls;
 pub mod cases;
 mod columns;
 pub mod coverage;
+mod cpu;
 mod execute;
 pub mod gen;
 pub mod gencases;
@@ -30,6 +31,7 @@ pub mod table;
 pub mod text;
 pub mod through;
 pub mod trace;
+pub mod writer;
 
 pub use level::{Level, Settings, Setup, Wish};
 pub use machine::{power_up, run, step, Ran, Stepped};

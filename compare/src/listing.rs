@@ -3,7 +3,7 @@
 use crate::bench::load;
 use crate::board::PAGES;
 use crate::level::Level;
-use crate::text::{text_of, word_text};
+use crate::writer::{text_of, word_text};
 use crate::Refusal;
 
 /// The lines from a first to a last even address. Refusal 23.

@@ -1,8 +1,9 @@
 //! Power-up, step and run.
 
 use crate::board::{Blank, Board, IMAGE, PAGES, READ_ONLY, WRITABLE};
+use crate::cpu::Cpu;
 use crate::execute::location;
-use crate::level::{Settings, Setup, Wish};
+use crate::level::{Setup, Wish};
 use crate::state::{Cause, Line, Mode, State, PC};
 use crate::Refusal;
 
@@ -28,22 +29,6 @@ pub struct Ran {
     pub first: Option<u16>,
     /// The address that was blank there (wish 4).
     pub address: Option<u16>,
-}
-
-/// The processor at work: its state, the lent memory, this step's line word.
-pub(crate) struct Cpu<'a> {
-    pub(crate) s: State,
-    pub(crate) board: Board<'a>,
-    pub(crate) line: Line,
-    pub(crate) settings: Settings,
-    /// The jumpers as a PS shows them.
-    pub(crate) jumpers: u16,
-    /// IEN holds off I0 and I1 for one op code (wish 3).
-    pub(crate) late_ien: bool,
-    /// A blank's address is told (wish 4).
-    tells: bool,
-    /// The address of the last bus error, if it is told.
-    told: Option<u16>,
 }
 
 /// What a step sets out to do.

@@ -1,7 +1,7 @@
 //! The eight addressing modes, and operands of a word or a byte.
 
 use crate::board::Blank;
-use crate::machine::Cpu;
+use crate::cpu::Cpu;
 use crate::state::{PC, SP};
 
 /// Where an operand is.

@@ -3,7 +3,8 @@
 mod common;
 
 use common::{Rig, BASE, I0, I1, I3, POWER_FAIL};
-use wd16::text::{read_text, write_text};
+use wd16::text::read_text;
+use wd16::writer::write_text;
 use wd16::{power_up, run, step, Cause, Level, Mode, Refusal, State, PC};
 
 // ---- the examples, in the page's order ----

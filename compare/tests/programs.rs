@@ -1,7 +1,7 @@
 //! The programs that the speed is measured with do what they say.
 
 use wd16::programs::{read_programs, LIST};
-use wd16::text::write_text;
+use wd16::writer::write_text;
 use wd16::{power_up, run, Level, Mode, Setup};
 
 #[test]
@@ -11,9 +11,10 @@ fn the_programs_run_on_and_only_the_storm_is_blank() {
         .iter()
         .map(|program| program.name.as_str())
         .collect();
-    assert_eq!(names, [
-            "sob", "copy", "call", "byte", "storm", "lines", "block"
-        ]);
+    assert_eq!(
+        names,
+        ["sob", "copy", "call", "byte", "storm", "lines", "block"]
+    );
     for mut program in programs {
         let setup = Setup::bench(Level::LANDED);
         let (image, map) = (&mut program.image, &program.map);

@@ -1,6 +1,7 @@
 //! The text of one op code.
 
-use wd16::text::{read_text, write_text};
+use wd16::text::read_text;
+use wd16::writer::write_text;
 use wd16::{Level, Placed, Refusal};
 
 const BASE: Level = Level::BASE;

@@ -32,8 +32,8 @@ use wd16::gencases::{shown, text_call, Kind, TEXT_ANSWERS};
 use wd16::machine::MOST_LINES;
 use wd16::recorder::{Tallies, CHANNELS};
 use wd16::served::{printed, Served};
-use wd16::text::text_of;
 use wd16::through::Through;
+use wd16::writer::text_of;
 use wd16::{step, Cause, Level, Mode, Ran, Refusal, Settings, Setup, State, Stepped, Wish, PC};
 
 /// What differs, told to a person.

@@ -1,7 +1,8 @@
 //! Wishes 1, 6 and 9: texts, columns, listings.
 
 use wd16::listing::list;
-use wd16::text::{read_text, read_text_to_bytes, text_of, word_text, write_text_of_bytes};
+use wd16::text::{read_text, read_text_to_bytes, write_text_of_bytes};
+use wd16::writer::{text_of, word_text};
 use wd16::{Level, Placed, Refusal};
 
 const ALL: Level = Level::ALL;
