@@ -1,0 +1,23 @@
+use native.Mathlib.Omega.{arith}
+use Rattle.letters.proofs.Laws.Laid.{at-part}
+use borrow.Author.Needs.{needs}
+use Rattle.stepline.proofs.tab_at.Statement.{statement}
+use Rattle.stepline.proofs.tab_at.Tie as tie
+
+add-result : tie.Need-add-result
+add-result c = omega (arith, c .before .before .put-tab .ensures .count, c .before .before .before .before .before .pre)
+
+returns : tie.Need-returns
+returns c = at-part _ _ _ _ _ (omega (arith, c .before .before .before .before .before .pre)) (c .before .before .put-tab .ensures)
+
+pub tab-at-spec : {M : Type 1} → statement M
+tab-at-spec =
+    tie.close
+    (tie.spec
+    (λ c. search needs)
+    (λ c. search needs)
+    (λ c. search needs)
+    (λ c κs. search needs)
+    add-result
+    (λ c. search needs)
+    returns)

@@ -1,0 +1,34 @@
+use mathlib.Core.Path.{sym}
+use lib.Seq.{length-take-le}
+use borrow.Author.Needs.{needs}
+use Rattle.steps.proofs.step_first.Statement.{statement}
+use Rattle.steps.proofs.step_first.Tie as tie
+
+slice-aggregate-step-up : tie.Need-slice-aggregate-step-up
+slice-aggregate-step-up c = sym (length-take-le _ _ (c .before .before .if1 .taken))
+
+step-up-requires : tie.Need-step-up-requires
+step-up-requires c κs = search needs
+
+same-length : tie.Need-same-length
+same-length c = search needs
+
+returns : tie.Need-returns
+returns c = search needs
+
+put-refused-requires : tie.Need-put-refused-requires
+put-refused-requires c κs = search needs
+
+returns-2 : tie.Need-returns-2
+returns-2 c = search needs
+
+pub step-first-spec : {M : Type 1} → statement M
+step-first-spec =
+    tie.close
+    (tie.spec
+    slice-aggregate-step-up
+    step-up-requires
+    same-length
+    returns
+    put-refused-requires
+    returns-2)
