@@ -9,6 +9,11 @@ hitch: the programs of this repository, proved and built on first use
                                   with SOURCE, a patch in mnemonics, JOB is text, and the words of SOURCE go
                                   among its own by address; a word at the same address is replaced;
                                   --words tells the line in words, --dump the memory after the run
+  hitch trace [--unproved] [--asm SOURCE] [--blanks] JOB [FROM-TO]
+                                  tells a job step by step, a line each: the step, its line word, the op code's address, words
+                                  and text, the registers, PS and mode that changed, the words written, and the cause in
+                                  words where it is no op code alone, with a blank's address and page; FROM-TO are steps,
+                                  counted from 0; --blanks tells those alone that met one
   hitch text [--unproved] [FILE]  reads each line as the text of an op code and prints its words, or writes the one to three
                                   words of an op code, of four hex digits each, as text; letters are upper case; a refused
                                   line is printed with a mark under its column

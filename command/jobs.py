@@ -34,7 +34,7 @@ class Job:
         """Refuses a board of its own where only bench's is."""
         if self.board() != BENCH_BOARD:
             place = sorted(self.text.board_places.items())[0][1]
-            raise TextError(f"{what} is of bench's board; another is for run and record", place)
+            raise TextError(f"{what} is of bench's board; another is for run, trace and record", place)
         return self
 
     def no_scans(self):

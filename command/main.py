@@ -1,5 +1,5 @@
 """hitch's commands, and the one place where it ends."""
-from command import assembling, ends, listing, recording, running, scripts, tracing
+from command import assembling, ends, listing, recording, running, scripts, stepping, tracing
 from command.ends import DONE, NOT_DONE, REFUSED, WRONG_USE, Signalled, Stop, Streams, say
 from command.help import HELP
 from command.options import Help
@@ -21,6 +21,7 @@ def version_(words):
 
 COMMANDS = {
     "run": running.run,
+    "trace": stepping.trace,
     "job": running.make,
     "text": assembling.text,
     "list": listing.show,

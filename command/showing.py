@@ -13,11 +13,19 @@ def status_in_words(ps):
     return f"{flags}; {enable}; jumpers up {ps >> 8 & 3} halt {ps >> 10 & 3}"
 
 
+def indicators(ps):
+    """The indicators of a PS as letters, a dash for each that is 0."""
+    return "".join(name if ps & bit else "-" for name, bit in INDICATORS)
+
+
+def page_of_kind(kind, address):
+    """What the map's byte says of the page of an address at which a step met a blank."""
+    return f"page {address // 256:02X} " + ("can't be written" if kind == 2 else f"is {words_for('page', kind)}")
+
+
 def page_in_words(pages, address):
-    """What the map says of an address at which a step met a blank."""
-    kind = pages[address // 256]
-    words = "can't be written" if kind == 2 else words_for("page", kind)
-    return f"page {address // 256:02X} is {words}" if kind != 2 else f"page {address // 256:02X} {words}"
+    """The same by the map."""
+    return page_of_kind(pages[address // 256], address)
 
 
 def end_in_words(line, pages):

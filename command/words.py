@@ -1,4 +1,5 @@
 """Words for numbers: the one table, c/numbers.tsv, from which the header for C and docs/BENCH.md have theirs too."""
+import functools
 import os
 
 from command.ends import NOT_DONE, Stop
@@ -8,6 +9,7 @@ TABLE = os.path.join(ROOT, "c", "numbers.tsv")
 VERSION = os.path.join(ROOT, "VERSION")
 
 
+@functools.lru_cache(maxsize=None)
 def rows():
     """Each row of the table: kind, number, name in C, words."""
     try:

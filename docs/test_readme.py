@@ -24,7 +24,7 @@ SKIPPED = {
     "board/build.sh mps2": "takes the chip's compiler: .ci/release",
     "board/test.sh mps2": "takes an emulator: .ci/release",
 }
-UNPROVED = re.compile(r"\./hitch (run|text|list|record|asm|check-trace|make-trace)\b")
+UNPROVED = re.compile(r"\./hitch (run|trace|text|list|record|asm|check-trace|make-trace)\b")
 
 
 def blocks(paper):

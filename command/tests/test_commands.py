@@ -85,7 +85,7 @@ class Run(Case):
         example = "0100 00 0600 12009000 16008000 8000BF09 8200C0B7 84000080 9000810C 0300 0000 0000 0000"
         self.ends(0, bytes.fromhex(example), "", "job", "--unproved", "jobs/example.txt")
         name = self.file("board.txt", "pages 0\nmicrom no\n")
-        self.ends(1, "", shown(f"{name}:2", "a job's bytes is of bench's board; another is for run and record", "microm no", 8, 2), "job", name)
+        self.ends(1, "", shown(f"{name}:2", "a job's bytes is of bench's board; another is for run, trace and record", "microm no", 8, 2), "job", name)
 
 
 class WrongUse(Case):

@@ -48,7 +48,7 @@ class Traces(Case):
 
     def test_bench_s_board_alone(self):
         name = self.file("board.txt", "pages 0\njumpers up 1\n")
-        said = f"hitch: {name}:2:12: a trace is of bench's board; another is for run and record\n    jumpers up 1\n               ^\n"
+        said = f"hitch: {name}:2:12: a trace is of bench's board; another is for run, trace and record\n    jumpers up 1\n               ^\n"
         self.ends(1, "", said, "make-trace", name)
         self.ends(1, "", said, "check-trace", name, "jobs/example.trace")
 
