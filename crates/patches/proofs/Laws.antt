@@ -1,5 +1,6 @@
 -- The laws of the crate's definitions.
 pub mod Again
+pub mod Given
 pub mod Listed
 pub mod Padded
 pub mod Pieces

@@ -4,3 +4,4 @@ pub mod Again
 pub mod Padded
 pub mod Pieces
 pub mod Listed
+pub mod Given

@@ -54,7 +54,7 @@ module _ (s : List ℕ) (i : ℕ) (e : misplaced s i ≡ false) where
   rest : (ltb 65536 (endAt s i) ≡ false) × (ltb (firstFrom (overlaps s i) i 0) i ≡ false)
   rest = cond-left (ltb 65536 (endAt s i)) _ (parts .1)
 
-  ends-below : endAt s i ≤ 65536
+  pub ends-below : endAt s i ≤ 65536
   ends-below = ltb-false _ _ (rest .0)
 
   apart : (k : ℕ) → k < i → overlaps s i k ≡ false
@@ -97,7 +97,7 @@ put-count s u how third h o = go (eqb (length u) 0)
     go true = refl
     go false = with-count how third (valueOf s u) h o
 
-words-count : (s : List ℕ) (i : ℕ) → wordsIn s (hereOf s i) (textAt s i) .count ≡ saidAt s i .op .count
+pub words-count : (s : List ℕ) (i : ℕ) → wordsIn s (hereOf s i) (textAt s i) .count ≡ saidAt s i .op .count
 unfolding wordsIn saidAt
 words-count s i = put-count s _ _ _ _ _ ∙ put-count s _ _ _ _ _
 

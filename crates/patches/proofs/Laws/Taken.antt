@@ -29,7 +29,7 @@ use Rattle.patches.specs.Taken.{AtMostUnfitted, SectionTaken}
 -- ---- bytes that stand from a place on
 
 module _ (input : List ℕ) (at : ℕ) where
-  byte-is : (l : List ℕ) → drop at input ≡ l → (k : ℕ) → byteAt input (at + k) ≡ getD l k 0
+  pub byte-is : (l : List ℕ) → drop at input ≡ l → (k : ℕ) → byteAt input (at + k) ≡ getD l k 0
   byte-is l e k = sym (getD-drop at input k 0) ∙ ap (λ (z : List ℕ). getD z k 0) e
 
   byte-at : (l : List ℕ) → drop at input ≡ l → byteAt input at ≡ getD l 0 0
@@ -43,7 +43,7 @@ module _ (input : List ℕ) (at : ℕ) where
       omega arith
 
   -- the word at a place, from its two bytes
-  word-is : (a b : ℕ) (l : List ℕ) → drop at input ≡ a ∷ b ∷ l → wordAt input at ≡ a + b * 256
+  pub word-is : (a b : ℕ) (l : List ℕ) → drop at input ≡ a ∷ b ∷ l → wordAt input at ≡ a + b * 256
   word-is a b l e = rw (byte-at (a ∷ b ∷ l) e, byte-is (a ∷ b ∷ l) e 1) refl
 
 -- ---- the entries of a section
@@ -105,7 +105,7 @@ entered-few o h l =
     three : (x y z : ℕ) → length (inserted z (inserted y (inserted x l))) ≤ length l + 3
     three x y z = rw (inserted-length z (inserted y (inserted x l)), inserted-length y (inserted x l), inserted-length x l) (omega arith)
 
-placed-few : (s : List ℕ) (i : ℕ) → length (placed s i) ≤ 3 * i
+pub placed-few : (s : List ℕ) (i : ℕ) → length (placed s i) ≤ 3 * i
 unfolding placed
 placed-few s zero = omega arith
 placed-few s (suc i) =
@@ -118,10 +118,10 @@ module _ (input rest l : List ℕ) (at : ℕ) (few : length l ≤ 4096) (q : dro
   unfolding sectionOf
   bytes = q
 
-  count-is : wordAt input at ≡ length l
+  pub count-is : wordAt input at ≡ length l
   count-is = word-is input at _ _ _ bytes ∙ omega arith
 
-  behind : drop (at + 2) input ≡ flat l ++ rest
+  pub behind : drop (at + 2) input ≡ flat l ++ rest
   behind = sym (drop-drop 2 at input) ∙ ap (λ (z : List ℕ). drop 2 z) bytes
 
   count-taken : whyCount section.Words input at ≡ 0
