@@ -18,7 +18,10 @@ use Rattle.state.specs.State.{modeNumber}
 use Rattle.step.specs.Step.{causeNumber}
 use Rattle.machine.specs.declared.Powered.the-variants as Powered
 use Rattle.machine.specs.declared.Stepped.the-variants as Stepped
-use Rattle.refusal.specs.Page.{left}
+use Rattle.refusal.specs.Page.{left, told}
+use Rattle.words.specs.Words.{byteAt}
+use Rattle.firmware.specs.Layout.{stateFrom}
+use Rattle.firmware.specs.Calls.{powerUpCall, stepCall}
 use Rattle.machine.specs.Entry.{poweredPage, steppedPage, powerUpPage, stepPage}
 
 -- IEN is 0002, SAVS 000B
@@ -112,3 +115,37 @@ module _ (settings : Settings) (map : List ℕ) (m m₁ m₂ m₃ : List ℕ) (l
   LateOnce = s .mode ≡ Running → s .i2 ≡ false → enables (executed s m) ≡ true → t₁ .cause ≡ Cause.OpCode
       → bit 3 l₂ ≡ false → bit 3 l₃ ≡ false → (bit 1 l₃ || bit 0 l₃) ≡ true
       → (fromOpCode (t₂ .cause) ≡ true) × (t₂ .cause ≡ Cause.OpCode → t₂ .state .mode ≡ Running → t₂ .state .i2 ≡ true → interrupted (t₃ .cause) ≡ true)
+
+-- ---- THE SAME FOR C, on the bytes that `wd16_step` and `wd16_power_up` leave; w are the settings' bytes. Byte 18 is the mode, 19 the cause
+-- of the step that left them, 20 the mark; `stateFrom` is the state that the bytes hold
+
+-- a call of `wd16_step` that answered 0
+abbrev pub LentSteps : List ℕ → List ℕ → List ℕ → List ℕ → ℕ → List ℕ → List ℕ → Type 0
+LentSteps w b m map line b′ m′ = told 0 (b′, m′) ≡ stepCall b m map w line
+
+-- the mark after a step, by the number of the step's cause: an executed op code (0); an interrupt's trap and a bus error (2, 3, 5, 6, 9)
+abbrev pub markBy : State → List ℕ → ℕ → Bool
+markBy s m n =
+    cond (eqb n 0) (cond (isRunning (s .mode)) (enables (executed s m) && not (s .i2)) (s .mark))
+    (cond (among (2 ∷ 3 ∷ 5 ∷ 6 ∷ 9 ∷ []) n) false (s .mark))
+
+abbrev pub Wd16MarkAfter : Type 0
+Wd16MarkAfter = (w b m map : List ℕ) (line : ℕ) (b′ m′ : List ℕ) → LentSteps w b m map line b′ m′ → stateFrom b′ .mark ≡ markBy (stateFrom b) m (byteAt b′ 19)
+
+abbrev pub Wd16PowerUpClears : Type 0
+Wd16PowerUpClears = (w b m map b′ m′ : List ℕ) → told 0 (b′, m′) ≡ powerUpCall b m map w → stateFrom b′ .mark ≡ false
+
+abbrev pub Wd16HoldsOff : Type 0
+Wd16HoldsOff = (w b m map : List ℕ) (line : ℕ) (b′ m′ : List ℕ) → LentSteps w b m map line b′ m′ → stateFrom b .mark ≡ true → among (2 ∷ 3 ∷ 6 ∷ []) (byteAt b′ 19) ≡ false
+
+abbrev pub Wd16SwitchHeard : Type 0
+Wd16SwitchHeard = (w b m map : List ℕ) (line : ℕ) (b′ m′ : List ℕ) → LentSteps w b m map line b′ m′
+    → runsOrWaits (stateFrom b .mode) ≡ true → bit 3 line ≡ true → among (1 ∷ 8 ∷ 9 ∷ []) (byteAt b′ 19) ≡ true
+
+abbrev pub Wd16LateOnce : Type 0
+Wd16LateOnce = (w b m map : List ℕ) (l₁ l₂ l₃ : ℕ) (b₁ m₁ b₂ m₂ b₃ m₃ : List ℕ)
+    → LentSteps w b m map l₁ b₁ m₁ → LentSteps w b₁ m₁ map l₂ b₂ m₂ → LentSteps w b₂ m₂ map l₃ b₃ m₃
+    → stateFrom b .mode ≡ Running → stateFrom b .i2 ≡ false → enables (executed (stateFrom b) m) ≡ true → byteAt b₁ 19 ≡ 0
+    → bit 3 l₂ ≡ false → bit 3 l₃ ≡ false → (bit 1 l₃ || bit 0 l₃) ≡ true
+    → (among (0 ∷ 5 ∷ 8 ∷ []) (byteAt b₂ 19) ≡ true)
+    × (byteAt b₂ 19 ≡ 0 → stateFrom b₂ .mode ≡ Running → stateFrom b₂ .i2 ≡ true → among (2 ∷ 3 ∷ 6 ∷ 8 ∷ []) (byteAt b₃ 19) ≡ true)

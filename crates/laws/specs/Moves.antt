@@ -30,7 +30,8 @@ use Rattle.machine.specs.Block.{blockMove}
 use Rattle.machine.specs.Entry.{finishedPage, runPage}
 use Rattle.firmware.specs.Layout.{stateFrom, settingsFrom}
 use Rattle.firmware.specs.Calls.{runCall}
-use Rattle.laws.specs.Mark.{Steps}
+use Rattle.words.specs.Words.{byteAt}
+use Rattle.laws.specs.Mark.{Steps, LentSteps}
 
 -- ---- runs one after another, each from where the last ended: `lines` are the line words of all, `blanks` the blanks of all
 
@@ -111,3 +112,15 @@ abbrev pub XctElement : Type 0
 XctElement = (settings : Settings) (m map : List ℕ) (line : ℕ) (s : State) (t : Turn) (n : List ℕ) → Steps settings m map line s t n
     → settings .blocks ≡ true → s .mode ≡ Running → t .cause ≡ Cause.OpCode → wordAt m (s .regs .pc) ≡ 0x5
     → (let op = wordAt m (wordAt m (s .regs .sp)) in op / 512 ≡ 7 → OneElement settings map line op s m (t .state) n)
+
+-- ---- the same for C: a step that leaves cause 5 drops only its own element; and under XCT a step that leaves cause 0
+
+abbrev pub Wd16ElementDropped : Type 0
+Wd16ElementDropped = (w b m map : List ℕ) (line : ℕ) (b′ m′ : List ℕ) → LentSteps w b m map line b′ m′ → byteAt b′ 19 ≡ 5
+    → (let s = stateFrom b in let sp = minus (s .regs .sp) 2 in let past = plus (s .regs .pc) 2 in
+    ((k : ℕ) → k < 6 → reg (stateFrom b′) k ≡ reg s k) × (m′ ≡ withWord (withWord m sp (psOf (heard (settingsFrom w) line) true s)) (minus sp 2) past))
+
+abbrev pub Wd16XctElement : Type 0
+Wd16XctElement = (w b m map : List ℕ) (line : ℕ) (b′ m′ : List ℕ) → LentSteps w b m map line b′ m′
+    → (let s = stateFrom b in settingsFrom w .blocks ≡ true → s .mode ≡ Running → byteAt b′ 19 ≡ 0 → wordAt m (s .regs .pc) ≡ 0x5
+    → (let op = wordAt m (wordAt m (s .regs .sp)) in op / 512 ≡ 7 → OneElement (settingsFrom w) map line op s m (stateFrom b′) m′))

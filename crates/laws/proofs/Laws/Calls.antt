@@ -11,7 +11,7 @@ use Rattle.state.specs.declared.Settings.{Settings}
 use Rattle.state.specs.State.{heard, modeNumber}
 use Rattle.step.specs.declared.Cause.{Cause}
 use Rattle.step.specs.declared.Cause.the-variants as Cause
-use Rattle.step.specs.Step.{After, stepOf, causeNumber, isBlank}
+use Rattle.step.specs.Step.{After, stepOf, powerUpOf, causeNumber, isBlank}
 use Rattle.refusal.specs.Numbers.{noState}
 use Rattle.refusal.specs.Page.{left, Told, told, reading}
 use Rattle.refusal.proofs.Laws.Page.{first-both}
@@ -26,12 +26,16 @@ use Rattle.machine.specs.Run.{End, end, runOf, ranOf}
 use Rattle.machine.specs.Trail.{trailOf, moved, firstIn, Least, least}
 use Rattle.machine.specs.Counted.{orFirst}
 use Rattle.machine.proofs.Laws.Counted.{run-trail, first-least, trail-length}
-use Rattle.machine.specs.Entry.{runWhy, finishedPage, runPage, stepWhy, stepPage}
+use Rattle.machine.specs.declared.Stepped.the-variants as Stepped
+use Rattle.step.specs.declared.Turn.{Turn}
+use Rattle.firmware.proofs.Laws.Again.{state-again}
+use Rattle.machine.specs.Entry.{runWhy, finishedPage, runPage, stepWhy, steppedPage, stepPage, powerWhy, poweredPage, powerUpPage}
+use Rattle.machine.specs.declared.Powered.the-variants as Powered
 use Rattle.machine.proofs.Laws.Entry.{run-answered}
 use Rattle.machine.specs.Entry as Entry
-use Rattle.firmware.specs.Layout.{bytesOf, tallyBytes, placeNumber, placeTold, stateFrom, settingsFrom, refusedState, refusedSettings, refusedStep, refusedRun, notTally}
-use Rattle.firmware.specs.Calls.{runIn, runCall, stepIn, stepCall}
-use Rattle.demands.proofs.Laws.Demand1.{wd16-step-answers, wd16-run-answers}
+use Rattle.firmware.specs.Layout.{bytesOf, tallyBytes, placeNumber, placeTold, stateFrom, settingsFrom, refusedState, refusedSettings, refusedUp, refusedStep, refusedRun, notTally}
+use Rattle.firmware.specs.Calls.{upIn, powerUpCall, runIn, runCall, stepIn, stepCall}
+use Rattle.demands.proofs.Laws.Demand1.{wd16-power-up-answers, wd16-step-answers, wd16-run-answers}
 use Rattle.refusal.proofs.Laws.Refusal.{neither}
 use Rattle.laws.specs.Halves.{firstPlace, firstTold}
 
@@ -172,3 +176,69 @@ number-no-blank (Cause.InterruptBlank a) f s n = absurd (s refl)
 number-no-blank (Cause.SaveBlank a) f s n = absurd (n refl)
 number-no-blank (Cause.LockedAt a) f s n = refl
 number-no-blank Cause.Locked f s n = refl
+
+-- ---- a step for C that is not refused: what `step` answers, in bytes
+
+pub record StepDone (w b m map : List ℕ) (line : ℕ) (b′ m′ : List ℕ) : Type 0 where
+  pub turn : Turn
+  pub page : left (steppedPage (Stepped.Done turn)) m′ ≡ stepPage (settingsFrom w) m map line (stateFrom b)
+  pub state : stateFrom b′ ≡ turn .state
+  pub cause : byteAt b′ 19 ≡ causeNumber (turn .cause)
+
+pub step-done : (w b m map : List ℕ) (line : ℕ) (b′ m′ : List ℕ) → told 0 (b′, m′) ≡ stepCall b m map w line → StepDone w b m map line b′ m′
+unfolding stepPage
+step-done w b m map line b′ m′ e =
+    let free = step-not-refused b m map w line b′ m′ e in
+    let a = stepOf map (heard (settingsFrom w) line) (stateFrom b) m in
+    let is = e ∙ step-call-is b m map w line (free .0) (free .1) in
+    let bytes = ap (λ z. z .lent .0) is in
+    record {
+      turn = record { state = a .state; cause = a .cause };
+      page = rw (free .1, ap (λ z. z .lent .1) is) refl;
+      state = ap stateFrom bytes ∙ state-again (a .state) _ _;
+      cause = ap (λ z. byteAt z 19) bytes ∙ cause-byte (a .state) _ _;
+    }
+
+-- causes by their numbers
+pub cause-0 : (c : Cause) → causeNumber c ≡ 0 → c ≡ Cause.OpCode
+cause-0 Cause.OpCode e = refl
+cause-0 Cause.Switch e = absurd (omega (arith, e))
+cause-0 Cause.NonVectored e = absurd (omega (arith, e))
+cause-0 Cause.Vectored e = absurd (omega (arith, e))
+cause-0 Cause.Nothing e = absurd (omega (arith, e))
+cause-0 (Cause.OpCodeBlank a) e = absurd (omega (arith, e))
+cause-0 (Cause.InterruptBlank a) e = absurd (omega (arith, e))
+cause-0 (Cause.SaveBlank a) e = absurd (omega (arith, e))
+cause-0 (Cause.LockedAt a) e = absurd (omega (arith, e))
+cause-0 Cause.Locked e = absurd (omega (arith, e))
+
+pub cause-5 : (c : Cause) → causeNumber c ≡ 5 → (a : ℕ) × (c ≡ Cause.OpCodeBlank a)
+cause-5 Cause.OpCode e = absurd (omega (arith, e))
+cause-5 Cause.Switch e = absurd (omega (arith, e))
+cause-5 Cause.NonVectored e = absurd (omega (arith, e))
+cause-5 Cause.Vectored e = absurd (omega (arith, e))
+cause-5 Cause.Nothing e = absurd (omega (arith, e))
+cause-5 (Cause.OpCodeBlank a) e = (a, refl)
+cause-5 (Cause.InterruptBlank a) e = absurd (omega (arith, e))
+cause-5 (Cause.SaveBlank a) e = absurd (omega (arith, e))
+cause-5 (Cause.LockedAt a) e = absurd (omega (arith, e))
+cause-5 Cause.Locked e = absurd (omega (arith, e))
+
+-- ---- and a power-up
+
+pub record PowerDone (w b m map b′ m′ : List ℕ) : Type 0 where
+  pub up : State
+  pub page : left (poweredPage (Powered.Up up)) m′ ≡ powerUpPage (settingsFrom w) m map
+  pub state : stateFrom b′ ≡ up
+
+pub power-done : (w b m map b′ m′ : List ℕ) → told 0 (b′, m′) ≡ powerUpCall b m map w → PowerDone w b m map b′ m′
+unfolding powerUpCall powerUpPage
+power-done w b m map b′ m′ e =
+    let both = first-both (cond (refusedUp b w) noState 0) (powerWhy (settingsFrom w) m map) (sym (wd16-power-up-answers b m map w (told 0 (b′, m′)) e .numberIs)) in
+    let u = powerUpOf (settingsFrom w) map m in
+    let is : told 0 (b′, m′) ≡ told 0 (upIn (statePage (u .state)) (u .image)) = rw (told-none (refusedUp b w) (both .0), both .1) at e in
+    record {
+      up = u .state;
+      page = rw (both .1, ap (λ z. z .lent .1) is) refl;
+      state = ap (λ z. stateFrom (z .lent .0)) is ∙ state-again (u .state) 0 nowhere;
+    }

@@ -1,8 +1,8 @@
 -- The theorems that specs/Mark.antt states.
 use Prim.Native.Nat.{ℕ}
 use mathlib.Core.Bool.{Bool, true, false, not, _&&_, cond}
-use mathlib.Core.List.{List}
-use mathlib.Core.Path.{_≡_, refl, sym, ap, _∙_}
+use mathlib.Core.List.{List, [], _∷_}
+use mathlib.Core.Path.{_≡_, refl, sym, ap, _∙_, subst}
 use Rattle.word.specs.Number.{bit}
 use Rattle.state.specs.declared.State.{State}
 use Rattle.state.specs.declared.Settings.{Settings}
@@ -11,13 +11,17 @@ use Rattle.state.specs.State.{heard}
 use Rattle.step.specs.declared.Turn.{Turn}
 use Rattle.step.specs.declared.Kind.{Kind}
 use Rattle.step.specs.declared.Kind.the-variants.{OpCode, NonVectored, Vectored}
-use Rattle.step.specs.Step.{stepOf, kindOf, causeOf, errorCauseOf}
+use Rattle.step.specs.declared.Cause.{Cause}
+use Rattle.step.specs.declared.Cause.the-variants as Cause
+use Rattle.step.specs.Step.{stepOf, kindOf, causeNumber, causeOf, errorCauseOf}
+use Rattle.firmware.specs.Layout.{stateFrom, settingsFrom}
+use Rattle.laws.proofs.Laws.Calls.{step-done, power-done, cause-0}
 use Rattle.step.proofs.Laws.Late.{held, unmarked-hears}
 use Rattle.refusal.proofs.Laws.Page.{answered-one}
 use Rattle.machine.proofs.Laws.Back.{state-one, turn-one}
 use Rattle.machine.proofs.Laws.Answered.{power-answer, step-answer}
 use Rattle.laws.proofs.Laws.Marked.{step-marks, held-off, switch-heard, power-clears, cause-by, enabled-runs}
-use Rattle.laws.specs.Mark.{executed, enables, isRunning, markAfter, fromOpCode, interrupted, fromInterrupt, fromSwitch, Steps, MarkAfter, PowerUpClears, HoldsOff, SwitchHeard, LateOnce}
+use Rattle.laws.specs.Mark.{executed, enables, isRunning, markAfter, fromOpCode, interrupted, fromInterrupt, fromSwitch, Steps, MarkAfter, PowerUpClears, HoldsOff, SwitchHeard, LateOnce, among, markBy, Wd16MarkAfter, Wd16PowerUpClears, Wd16HoldsOff, Wd16SwitchHeard, Wd16LateOnce}
 
 -- what a call of `step` answered and left is the definition's
 pub turn-is : (settings : Settings) (m map : List ℕ) (line : ℕ) (s : State) (t : Turn) (n : List ℕ) → Steps settings m map line s t n
@@ -78,3 +82,51 @@ module _ (settings : Settings) (map : List ℕ) (m m₁ m₂ m₃ : List ℕ) (l
             let hears = begun-by (bit 1 l₃) (kindOf (t₂ .state) (heard settings l₃)) (unmarked-hears (t₂ .state) (heard settings l₃) runs₂ set₂ unmarked (record { quiet = quiet′; asks = asks })) in
             ap interrupted (three .1) ∙ cause-by map (heard settings l₃) (t₂ .state) m₂ interrupted true (hears .0) (hears .1) (λ a. refl),
       )
+
+-- ---- for C
+
+by-number : (s : State) (m : List ℕ) (c : Cause) → markAfter s m c ≡ markBy s m (causeNumber c)
+by-number s m Cause.OpCode = refl
+by-number s m Cause.Switch = refl
+by-number s m Cause.NonVectored = refl
+by-number s m Cause.Vectored = refl
+by-number s m Cause.Nothing = refl
+by-number s m (Cause.OpCodeBlank a) = refl
+by-number s m (Cause.InterruptBlank a) = refl
+by-number s m (Cause.SaveBlank a) = refl
+by-number s m (Cause.LockedAt a) = refl
+by-number s m Cause.Locked = refl
+
+pub wd16-mark-after : Wd16MarkAfter
+wd16-mark-after w b m map line b′ m′ e =
+    let d = step-done w b m map line b′ m′ e in
+    ap (λ z. z .mark) (d .state) ∙ mark-after (settingsFrom w) m map line (stateFrom b) (d .turn) m′ (d .page) ∙ by-number (stateFrom b) m (d .turn .cause) ∙ ap (λ n. markBy (stateFrom b) m n) (sym (d .cause))
+
+pub wd16-power-up-clears : Wd16PowerUpClears
+wd16-power-up-clears w b m map b′ m′ e =
+    let d = power-done w b m map b′ m′ e in
+    ap (λ z. z .mark) (d .state) ∙ power-up-clears (settingsFrom w) m map (d .up) m′ (d .page)
+
+pub wd16-holds-off : Wd16HoldsOff
+wd16-holds-off w b m map line b′ m′ e mark =
+    let d = step-done w b m map line b′ m′ e in
+    ap (λ n. among (2 ∷ 3 ∷ 6 ∷ []) n) (d .cause) ∙ holds-off (settingsFrom w) m map line (stateFrom b) (d .turn) m′ (d .page) mark
+
+pub wd16-switch-heard : Wd16SwitchHeard
+wd16-switch-heard w b m map line b′ m′ e runs i3 =
+    let d = step-done w b m map line b′ m′ e in
+    ap (λ n. among (1 ∷ 8 ∷ 9 ∷ []) n) (d .cause) ∙ switch-heard-too (settingsFrom w) m map line (stateFrom b) (d .turn) m′ (d .page) runs i3
+
+pub wd16-late-once : Wd16LateOnce
+wd16-late-once w b m map l₁ l₂ l₃ b₁ m₁ b₂ m₂ b₃ m₃ e₁ e₂ e₃ runs clear enables-it done quiet quiet′ asks =
+    let one = step-done w b m map l₁ b₁ m₁ e₁ in
+    let two = step-done w b₁ m₁ map l₂ b₂ m₂ e₂ in
+    let three = step-done w b₂ m₂ map l₃ b₃ m₃ e₃ in
+    let next : Steps (settingsFrom w) m₁ map l₂ (one .turn .state) (two .turn) m₂ = subst (λ (s : State). Steps (settingsFrom w) m₁ map l₂ s (two .turn) m₂) (one .state) (two .page) in
+    let last : Steps (settingsFrom w) m₂ map l₃ (two .turn .state) (three .turn) m₃ = subst (λ (s : State). Steps (settingsFrom w) m₂ map l₃ s (three .turn) m₃) (two .state) (three .page) in
+    let late = late-once (settingsFrom w) map m m₁ m₂ m₃ l₁ l₂ l₃ (stateFrom b) (one .turn) (two .turn) (three .turn) (one .page) next last runs clear enables-it (cause-0 (one .turn .cause) (sym (one .cause) ∙ done)) quiet quiet′ asks in (
+      ap (λ n. among (0 ∷ 5 ∷ 8 ∷ []) n) (two .cause) ∙ late .0,
+      λ code runs₂ set₂.
+          ap (λ n. among (2 ∷ 3 ∷ 6 ∷ 8 ∷ []) n) (three .cause)
+          ∙ late .1 (cause-0 (two .turn .cause) (sym (two .cause) ∙ code)) (ap (λ z. z .mode) (sym (two .state)) ∙ runs₂) (ap (λ z. z .i2) (sym (two .state)) ∙ set₂),
+    )

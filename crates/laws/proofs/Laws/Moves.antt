@@ -47,12 +47,12 @@ use Rattle.firmware.proofs.Laws.Again.{state-again}
 use Rattle.machine.specs.Numbers.{nowhere}
 use Rattle.laws.proofs.Laws.Append.{behind, goOn, run-append}
 use Rattle.laws.proofs.Laws.Taken.{ran-is}
-use Rattle.laws.proofs.Laws.Calls.{call-answered, run-not-refused}
+use Rattle.laws.proofs.Laws.Calls.{call-answered, run-not-refused, step-done, cause-0, cause-5}
 use Rattle.laws.proofs.Laws.Always.{Always, always-value, run-split}
 use Rattle.codes.proofs.Laws.Past.{Below, below}
 use Rattle.laws.proofs.Laws.Marked.{code-work}
 use Rattle.laws.proofs.Laws.Mark.{turn-is}
-use Rattle.laws.specs.Moves.{Runs, LentRuns, quiet, Moves, RunMoves, RunsMove, Wd16RunsMove, ElementDropped, opened, OneElement, XctElement}
+use Rattle.laws.specs.Moves.{Runs, LentRuns, quiet, Moves, RunMoves, RunsMove, Wd16RunsMove, ElementDropped, opened, OneElement, XctElement, Wd16ElementDropped, Wd16XctElement}
 use Rattle.laws.specs.Moves as Spec
 
 -- ---- quiet lines
@@ -267,3 +267,18 @@ xct-element settings m map line s t n e fit runs c five eight =
     let work = xct-run map out s m (a .state) (a .image) (eq-eqb (wordAt m (s .regs .pc)) 5 five) (code-work map out s m runs (sym (is .1) ∙ c)) in
     let one = one-element settings map line op s m (a .state) (a .image) fit eight (rw (chosen-eight out (fetched s m) op fit eight) at work) in
     subst (λ (x : State). OneElement settings map line op s m x n) (sym (is .0)) (subst (λ (x : List ℕ). OneElement settings map line op s m (a .state) x) (sym (is .2)) one)
+
+-- ---- for C
+
+pub wd16-element-dropped : Wd16ElementDropped
+wd16-element-dropped w b m map line b′ m′ e five =
+    let d = step-done w b m map line b′ m′ e in
+    let c = cause-5 (d .turn .cause) (sym (d .cause) ∙ five) in
+    let x = element-dropped (settingsFrom w) m map line (stateFrom b) (d .turn) m′ (c .0) (d .page) (c .1) in
+    (λ k h. ap (λ (s : State). reg s k) (d .state) ∙ x .0 k h, x .1)
+
+pub wd16-xct-element : Wd16XctElement
+wd16-xct-element w b m map line b′ m′ e fit runs zero five eight =
+    let d = step-done w b m map line b′ m′ e in
+    let x = xct-element (settingsFrom w) m map line (stateFrom b) (d .turn) m′ (d .page) fit runs (cause-0 (d .turn .cause) (sym (d .cause) ∙ zero)) five eight in
+    subst (λ (s : State). OneElement (settingsFrom w) map line (wordAt m (wordAt m (stateFrom b .regs .sp))) (stateFrom b) m s m′) (sym (d .state)) x
