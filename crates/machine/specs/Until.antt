@@ -5,7 +5,7 @@ use mathlib.Core.Bool.{Bool, true, false, _||_, cond}
 use mathlib.Core.List.{List, [], _∷_}
 use mathlib.Core.Path.{_≡_}
 use lib.ListN.{getD, length, take}
-use Rattle.board.specs.Exec.{Lent}
+use Rattle.board.specs.Exec.{Lent, Store, Board}
 use Rattle.state.specs.declared.State.{State}
 use Rattle.state.specs.declared.Settings.{Settings}
 use Rattle.state.specs.declared.Mode.{Mode}
@@ -90,12 +90,12 @@ runUntilPage settings image map lines u s = call (runWhy settings image map line
 
 -- ---- what a stride promises: the step at its place
 
-pub record Strode (settings : Settings) (map lines : List ℕ) (b : Stage) (m : List ℕ) (r : Stage) (m′ : List ℕ) : Type 0 where
-  pub step : after (r .state) m′ (r .cause) ≡ stepOf map (heard settings (getD lines (b .at) 0)) (b .state) m
+pub record Strode (settings : Settings) (map lines : List ℕ) (b : Stage) (m : List ℕ) (r : Stage) (st : Store) : Type 0 where
+  pub step : after (r .state) (st .image) (r .cause) ≡ stepOf map (heard settings (getD lines (b .at) 0)) (b .state) m
   pub tally : r .tally ≡ noted (b .tally) (b .at) (blankAt (r .cause))
   pub next : r .at ≡ b .at + 1
   pub few : r .tally .blanks ≤ r .at
-  pub lent : Lent map m′
+  pub board : Board map st
 
 abbrev pub stopAt : Stage → Stop
 stopAt r = record { turn = record { state = r .state; cause = r .cause }; tally = r .tally; steps = r .at }

@@ -4,8 +4,8 @@ use super::Stage;
 use super::Stop;
 use super::Tally;
 use super::Until;
+use super::door;
 use super::runs::noted;
-use super::runs::run_on;
 use state::Mode;
 use state::Settings;
 use state::State;
@@ -15,7 +15,8 @@ use step::blank_at;
 ghost use mathlib.Core.Path.{_≡_};
 ghost use Prim.Native.Nat.{_≤_, _<_};
 ghost use lib.ListN.{length};
-ghost use Rattle.board.specs.Exec.{Lent};
+ghost use Rattle.board.specs.Exec.{beside, Lent};
+ghost use Rattle.machine.specs.Door as Door;
 ghost use Rattle.machine.specs.Until as Spec;
 
 // Is a cause asked for?
@@ -61,18 +62,24 @@ fn ends(until: Until, stage: Stage) -> bool
 }
 
 // One step on.
-fn stride(stage: Stage, image: &mut [u8], map: &[u8], settings: Settings, lines: &[u16]) -> Stage
-    requires { ⌜ (Lent (now map) (now image)) × (length (now lines) ≤ 4096) × (stage .at < length (now lines)) × (stage .tally .blanks ≤ stage .at) ⌝ }
-    ensures { λ r. ⌜ Spec.Strode settings (now (map .entry)) (now (lines .entry)) stage (now (image .entry)) r (now (image .exit)) ⌝ }
+fn stride(
+    stage: Stage,
+    image: &mut [u8],
+    map: &[u8],
+    log: &mut [u16; 32],
+    settings: Settings,
+    lines: &[u16],
+    sheet: &[u8; 256],
+) -> Stage
+    requires { ⌜ (Door.Plated (now map) (now image) (now log) (now sheet)) × (length (now lines) ≤ 4096) × (stage .at < length (now lines)) × (stage .tally .blanks ≤ stage .at) ⌝ }
+    ensures { λ r. ⌜ Spec.Strode settings (now (map .entry)) (now (lines .entry)) stage (now (image .entry)) r (beside (now (image .exit)) (now (log .exit))) ⌝ }
 {
     let s = stage.state;
     let tally = stage.tally;
     let at = stage.at;
-    let line = [lines[at]];
-    let last = run_on(s, image, map, settings, &line);
-    let ran = last.ran;
-    let state = ran.state;
-    let cause = last.cause;
+    let turn = door::step(s, image, map, log, settings, lines[at], sheet);
+    let state = turn.state;
+    let cause = turn.cause;
     Stage {
         state,
         tally: noted(tally, at as u16, blank_at(cause)),
@@ -95,6 +102,7 @@ fn stop_at(stage: Stage) -> Stop
     }
 }
 
+// The log is made once and cleared for each step; the plate is laid out once.
 pub(crate) fn until_on(
     s: State,
     image: &mut [u8],
@@ -106,6 +114,8 @@ pub(crate) fn until_on(
     requires { ⌜ (Lent (now map) (now image)) × (length (now lines) ≤ 4096) ⌝ }
     ensures { λ r. ⌜ Spec.Ended settings (now (map .entry)) (now (lines .entry)) until s (now (image .entry)) r (now (image .exit)) ⌝ }
 {
+    let mut log = [0u16; 32];
+    let sheet = plate::PLATE;
     let tally = Tally {
         blanks: 0,
         first: First::Never,
@@ -117,7 +127,7 @@ pub(crate) fn until_on(
         at: 0,
     };
     while stage.at < lines.len() {
-        stage = stride(stage, image, map, settings, lines);
+        stage = stride(stage, image, map, &mut log, settings, lines, &sheet);
         if ends(until, stage) {
             return stop_at(stage);
         }

@@ -7,7 +7,7 @@ use mathlib.Core.List.{List, [], _∷_}
 use mathlib.Core.Path.{_≡_, refl, sym, ap, _∙_}
 use lib.ListN.{length, take, drop, getD}
 use lib.Seq.{drop-cons, drop-length}
-use Rattle.board.specs.Exec.{Lent}
+use Rattle.board.specs.Exec.{Lent, Store}
 use Rattle.state.specs.declared.State.{State}
 use Rattle.state.specs.declared.Settings.{Settings}
 use Rattle.state.specs.State.{heard}
@@ -69,10 +69,10 @@ onto-none settings map lines s m = record {
     none k = omega arith
 
 -- one step on
-pub onto-more : (settings : Settings) (map lines : List ℕ) (s : State) (m : List ℕ) (b r : Stage) (n n′ : List ℕ) → Onto settings map lines s m b n → b .at < length lines
-    → Strode settings map lines b n r n′ → Onto settings map lines s m r n′
-onto-more settings map lines s m b r n n′ h l g =
-    let a = after (r .state) n′ (r .cause) in
+pub onto-more : (settings : Settings) (map lines : List ℕ) (s : State) (m : List ℕ) (b r : Stage) (n : List ℕ) (st : Store) → Onto settings map lines s m b n → b .at < length lines
+    → Strode settings map lines b n r st → Onto settings map lines s m r (st .image)
+onto-more settings map lines s m b r n st h l g =
+    let a = after (r .state) (st .image) (r .cause) in
     let on : (k : ℕ) → b .at + suc k ≡ b .at + 1 + k = λ k. omega arith in
     rw (g .next) (record {
       runs = λ k. rest-took settings map lines (b .at) (b .state) n a l (g .step) k (b .tally) (r .tally) (g .tally) ∙ h .runs (suc k) ∙ ap (λ z. runOf settings map (take z lines) s m) (on k);
@@ -81,15 +81,15 @@ onto-more settings map lines s m b r n n′ h l g =
 
 -- ---- how many steps it makes
 
-module _ (settings : Settings) (map lines : List ℕ) (u : Until) (all : ℕ) (b r : Stage) (n n′ : List ℕ) (l : b .at < length lines) (g : Strode settings map lines b n r n′)
+module _ (settings : Settings) (map lines : List ℕ) (u : Until) (all : ℕ) (b r : Stage) (n : List ℕ) (st : Store) (l : b .at < length lines) (g : Strode settings map lines b n r st)
     (h : b .at + stepsTo settings map u (drop (b .at) lines) (b .state) n ≡ all) where
-  here : stepsTo settings map u (drop (b .at) lines) (b .state) n ≡ cond (ends u (r .cause) (r .state .mode)) 1 (1 + stepsTo settings map u (drop (b .at + 1) lines) (r .state) n′)
-  here = steps-took settings map lines (b .at) (b .state) n (after (r .state) n′ (r .cause)) l (g .step) u
+  here : stepsTo settings map u (drop (b .at) lines) (b .state) n ≡ cond (ends u (r .cause) (r .state .mode)) 1 (1 + stepsTo settings map u (drop (b .at + 1) lines) (r .state) (st .image))
+  here = steps-took settings map lines (b .at) (b .state) n (after (r .state) (st .image) (r .cause)) l (g .step) u
 
   -- this step doesn't end it
-  pub steps-more : ends u (r .cause) (r .state .mode) ≡ false → r .at + stepsTo settings map u (drop (r .at) lines) (r .state) n′ ≡ all
+  pub steps-more : ends u (r .cause) (r .state .mode) ≡ false → r .at + stepsTo settings map u (drop (r .at) lines) (r .state) (st .image) ≡ all
   steps-more e =
-      let more : stepsTo settings map u (drop (b .at) lines) (b .state) n ≡ 1 + stepsTo settings map u (drop (b .at + 1) lines) (r .state) n′ = here ∙ rw e in
+      let more : stepsTo settings map u (drop (b .at) lines) (b .state) n ≡ 1 + stepsTo settings map u (drop (b .at + 1) lines) (r .state) (st .image) = here ∙ rw e in
       rw (g .next) (omega (arith, more, h))
 
   -- or it does
