@@ -13,15 +13,39 @@
    as it was, but for the answer where a text is refused with its column or a source with its line.
 
    Nothing is kept between calls: no memory is allocated, and the library has no data of its own. So calls on different buffers
-   may go on at the same time, in threads and in interrupts. The work of a call is bounded: a run is a fixed part, a look at each
-   byte of the map and at each line word, and a step for each, which is one op code or one element of a block move.
-   docs/CHIPS.md has, for each chip, the instructions of a step and of a call, the code's bytes and each function's stack. Of a C
-   library it needs memset, memcpy and memmove at most; docs/CHIPS.md tells which function calls which.
+   may go on at the same time, in threads and in interrupts. The work of a call is bounded, by the lengths of what it is lent. A run
+   is a fixed part, a look at each byte of the map and at each line word, and a step for each, which is one op code or one element
+   of a block move and costs less than a call of wd16_step: below is how many instructions. The library's memory is its code, whose
+   bytes docs/CHIPS.md has, and the stack of the function that is called, which stands below too. Of a C library it needs memset,
+   memcpy and memmove at most, and there is which function calls which on which chip.
 
    What the old program puts out is in the image: it writes a card's page, and the caller reads that page's bytes when the call
    has come back. A value that is written over within one call is not seen; where each one counts, call wd16_step. */
 #ifndef HITCHBRIAR_H
 #define HITCHBRIAR_H
+
+/* Measured on each chip, of the module that is proved; docs/CHIPS.md tells how, and chips/measure.py --write writes it here.
+   instructions                            cortex-m4           riscv32imc          aarch64             x86-64
+   a step of wd16_run                      155 to 300          174 to 383          87 to 198           144 to 279
+   a step of wd16_run_same                 147 to 290          165 to 372          81 to 192           134 to 268
+   a step of wd16_run_until                495 to 631          803 to 914          292 to 379          379 to 483
+   a step of wd16_step                     1904 to 2040        4200 to 4311        1577 to 1664        1420 to 1524
+   a call of wd16_step, the most seen      2840                5852                2223                2354
+   bytes of stack, and what is called      cortex-m4           riscv32imc          aarch64             x86-64
+   wd16_assemble                           24040 memset        24112 memset        24144 memset        23976 memset
+   wd16_check_trace                        76008 memset        75664 both          75728 memset        75736 memset
+   wd16_labels                             11704 memset        11792 memset        11856 memset        11624 memset
+   wd16_list_line                          1532                1488                1568                1400
+   wd16_power_up                           372 memset          160 memset          480                 448
+   wd16_read_job                           440 memset          400 memset          352 memset          256 memset
+   wd16_read_text                          2824                2912                2880                2680
+   wd16_report                             752 memcpy          720 memcpy          1504 memcpy         1456 memcpy
+   wd16_run                                2096 memset         1648 both           1808                1872
+   wd16_run_same                           2328 memset         1872 both           1952                2024
+   wd16_run_until                          2144 memset         1728 both           1808                1832
+   wd16_scan                               3432 both           2992 both           3664 memcpy         3888 memcpy
+   wd16_step                               1976 memset         1600 both           1664                1720
+   wd16_write_text                         1460                1440                1472                1304 */
 
 #include <stddef.h>
 #include <stdint.h>
