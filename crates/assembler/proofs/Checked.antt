@@ -1,43 +1,58 @@
--- Laws of the answer: the first fault, or the section.
+-- Laws of a call over a source: what is refused, the first fault, and what is right.
 use mathlib.Core.Path.{_≡_, refl}
+use mathlib.Core.Bool.{Bool, true, false, cond}
 use mathlib.Core.List.{List, [], _∷_}
 use Prim.Native.Nat.{ℕ, _%_, _≤_, _<_}
-use borrow.Author.Tests.{lt-ltb, le-ltb, eq-eqb, ne-eqb}
+use native.Mathlib.Omega.{arith}
+use borrow.Author.Tests.{lt-ltb, le-ltb, ltb-false}
+use lib.Dec.{ltb, eqb}
 use lib.ListN.{length, take}
 use Rattle.letters.specs.Over.{Wrote}
+use Rattle.refusal.specs.Numbers.{outputShort, sourceLines}
+use Rattle.refusal.specs.Page.{refused, refusedAt, answered, Left, left, first}
+use Rattle.refusal.proofs.Laws.Page.{call-refused, call-answered, first-both}
 use Rattle.assembler.specs.Source.{countOf, lowest}
 use Rattle.assembler.specs.Section.{placed, sectionOf}
-use Rattle.assembler.specs.Answer.{faults, numberOf, section, refused, refusedAt, After, after, assembled, checked, asmOf}
+use Rattle.assembler.specs.Answer.{faults, numberOf, sourceWhy, written, checked, longestSection, assembled, asmOf}
 use Rattle.assembler.specs.declared.source.Fault.{Fault}
 
-module _ (s out : List ℕ) (n : ℕ) (e : n ≡ countOf s) where
-  pub stopped : (f : Fault) (fs : List Fault) (x : ℕ) → x ≡ lowest f s → x < n → after (refusedAt (numberOf f) x) out ≡ checked (f ∷ fs) s out
+module _ (s out : List ℕ) (right : Left ℕ (List ℕ)) (n : ℕ) (e : n ≡ countOf s) where
+  pub stopped : (f : Fault) (fs : List Fault) (x : ℕ) → x ≡ lowest f s → x < n → left (refusedAt (numberOf f) x) out ≡ checked (f ∷ fs) s right out
   unfolding checked
   stopped f fs x q h = rw (← q, ← e, lt-ltb x n h) refl
 
-  pub passed : (f : Fault) (fs : List Fault) (x : ℕ) → x ≡ lowest f s → n ≤ x → checked fs s out ≡ checked (f ∷ fs) s out
+  pub passed : (f : Fault) (fs : List Fault) (x : ℕ) → x ≡ lowest f s → n ≤ x → checked fs s right out ≡ checked (f ∷ fs) s right out
   unfolding checked
   passed f fs x q h = rw (← q, ← e, le-ltb x n h) refl
 
-pub finished : (s out table e : List ℕ) (n k : ℕ) → take n table ≡ placed s (countOf s) → Wrote (sectionOf (take n table)) out e k
-    → after (section k) e ≡ checked [] s out
-unfolding checked assembled
-finished s out table e n k q w = rw (w .bytes, w .count, ← q) refl
+-- what was written is right
+pub finished : (s out bytes e : List ℕ) (k : ℕ) → Wrote bytes out e k → left (answered k) e ≡ checked [] s (written bytes out) out
+unfolding checked
+finished s out bytes e k w = rw (w .bytes, w .count) refl
 
--- 10 and 36
+-- the section of a table
+pub section-is : (s out table e : List ℕ) (n k : ℕ) → take n table ≡ placed s (countOf s) → Wrote (sectionOf (take n table)) out e k → Wrote (assembled s) out e k
+unfolding assembled
+section-is s out table e n k q w = rw (← q) w
+
+-- ---- 10 and 36
+
+none-told : (a b n : ℕ) (x : Bool) → ltb a b ≡ x → 0 < n → cond x n 0 ≡ 0 → b ≤ a
+none-told a b n true e l h = absurd (omega arith)
+none-told a b n false e l h = ltb-false a b e
+
+pub source-sound : (room : ℕ) (s : List ℕ) (size : ℕ) → sourceWhy room s size ≡ 0 → (countOf s ≤ 1024) × (room ≤ size)
+unfolding sourceWhy
+source-sound room s size e =
+    let short = first-both (cond (ltb size room) outputShort 0) (first (cond (eqb (length s % 32) 0) 0 sourceLines) (cond (ltb 1024 (countOf s)) sourceLines 0)) e in
+    let lines = first-both (cond (eqb (length s % 32) 0) 0 sourceLines) (cond (ltb 1024 (countOf s)) sourceLines 0) (short .1) in
+    (none-told 1024 (countOf s) sourceLines (ltb 1024 (countOf s)) refl (omega arith) (lines .1), none-told size room outputShort (ltb size room) refl (omega arith) (short .0))
+
 module _ (s out : List ℕ) where
-  pub refused-10 : length out < 12290 → after (refused 10) out ≡ asmOf s out
+  pub source-refused : (why : ℕ) → why ≡ sourceWhy longestSection s (length out) → (why ≡ 0 → ⊥) → left (refused why) out ≡ asmOf s out
   unfolding asmOf
-  refused-10 h = rw (lt-ltb _ 12290 h) refl
+  source-refused why e n = call-refused (sourceWhy longestSection s (length out)) (checked faults s (written (assembled s) out) out) out why e n
 
-  pub refused-cut : 12290 ≤ length out → (length s % 32 ≡ 0 → ⊥) → after (refused 36) out ≡ asmOf s out
+  pub source-taken : (x : Left ℕ (List ℕ)) → sourceWhy longestSection s (length out) ≡ 0 → x ≡ checked faults s (written (assembled s) out) out → x ≡ asmOf s out
   unfolding asmOf
-  refused-cut h p = rw (le-ltb _ 12290 h, ne-eqb _ 0 p) refl
-
-  pub refused-long : 12290 ≤ length out → length s % 32 ≡ 0 → 1024 < countOf s → after (refused 36) out ≡ asmOf s out
-  unfolding asmOf
-  refused-long h p q = rw (le-ltb _ 12290 h, eq-eqb _ 0 p, lt-ltb 1024 _ q) refl
-
-  pub taken-on : (a : After) → 12290 ≤ length out → length s % 32 ≡ 0 → countOf s ≤ 1024 → a ≡ checked faults s out → a ≡ asmOf s out
-  unfolding asmOf
-  taken-on a h p q r = rw (le-ltb _ 12290 h, eq-eqb _ 0 p, le-ltb 1024 _ q) r
+  source-taken x e h = call-answered (sourceWhy longestSection s (length out)) (checked faults s (written (assembled s) out) out) out x e h

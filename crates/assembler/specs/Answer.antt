@@ -1,4 +1,4 @@
--- What the assembler answers and leaves in the lent output, on any source and any output.
+-- What the assembler answers and leaves in the lent output, on any source and any output. A refusal leaves it as lent.
 use mathlib.Core.Bool.{cond}
 use mathlib.Core.List.{List, [], _∷_}
 use Prim.Native.Nat.{ℕ, _%_}
@@ -6,6 +6,7 @@ use lib.Dec.{ltb, eqb}
 use lib.ListN.{length}
 use Rattle.letters.specs.Over.{over}
 use Rattle.refusal.specs.Numbers.{unknownText, labelAgain, labelMissing, outOfReach, outOfPlace, sourceLines, outputShort}
+use Rattle.refusal.specs.Page.{Page, refused, refusedAt, answered, Left, left, call, first}
 use Rattle.assembler.specs.Source.{countOf, lowest}
 use Rattle.assembler.specs.Section.{placed, sectionOf}
 use Rattle.assembler.specs.declared.Assembled.{Assembled}
@@ -24,42 +25,39 @@ numberOf Missing = labelMissing
 numberOf Place = outOfPlace
 numberOf Far = outOfReach
 
--- 10: an output under 12,290 bytes, which is a count and three words a line with their addresses
-abbrev pub longestSection : ℕ
-longestSection = 12290
-
 -- an answer in the page's numbers: the section's length, a refusal's number alone, or with its line
-pub data Page : Type 0 where
-  section : ℕ → Page
-  refused : ℕ → Page
-  refusedAt : ℕ → ℕ → Page
-
-abbrev pub pageOf : Assembled → Page
-pageOf (Section n) = section n
+abbrev pub pageOf : Assembled → Page ℕ
+pageOf (Section n) = answered n
 pageOf (Refused why) = refused why
 pageOf (RefusedAt why line) = refusedAt why line
 
--- an answer, and the lent output after it
-pub record After : Type 0 where
-  pub page : Page
-  pub out : List ℕ
+-- ---- a call over a source
 
-abbrev pub after : Page → List ℕ → After
-after page out = record { page = page; out = out }
+-- 10: an output under so many bytes; then 36: not whole lines of 32 bytes, or over 1,024
+unfoldable pub sourceWhy : ℕ → List ℕ → ℕ → ℕ
+sourceWhy room s size =
+    first (cond (ltb size room) outputShort 0)
+    (first (cond (eqb (length s % 32) 0) 0 sourceLines)
+    (cond (ltb 1024 (countOf s)) sourceLines 0))
+
+-- what is written in front of the output, of which the rest is as lent, and its length
+abbrev pub written : List ℕ → List ℕ → Left ℕ (List ℕ)
+written bytes out = left (answered (length bytes)) (over bytes out)
+
+-- the first of these faults with its lowest line, or else what is right
+unfoldable pub checked : List Fault → List ℕ → Left ℕ (List ℕ) → List ℕ → Left ℕ (List ℕ)
+checked [] s right out = right
+checked (f ∷ fs) s right out = cond (ltb (lowest f s) (countOf s)) (left (refusedAt (numberOf f) (lowest f s)) out) (checked fs s right out)
+
+-- ---- the assembler
+
+-- the longest section: a count, and three words a line with their addresses
+abbrev pub longestSection : ℕ
+longestSection = 12290
 
 -- the section of a source that has no fault
 unfoldable pub assembled : List ℕ → List ℕ
 assembled s = sectionOf (placed s (countOf s))
 
--- the first fault with its lowest line, or else the section, and the rest of the output as lent
-unfoldable pub checked : List Fault → List ℕ → List ℕ → After
-checked [] s out = after (section (length (assembled s))) (over (assembled s) out)
-checked (f ∷ fs) s out = cond (ltb (lowest f s) (countOf s)) (after (refusedAt (numberOf f) (lowest f s)) out) (checked fs s out)
-
--- 10; then 36: not whole lines of 32 bytes, or over 1,024
-unfoldable pub asmOf : List ℕ → List ℕ → After
-asmOf s out =
-    cond (ltb (length out) longestSection) (after (refused outputShort) out)
-    (cond (eqb (length s % 32) 0)
-    (cond (ltb 1024 (countOf s)) (after (refused sourceLines) out) (checked faults s out))
-    (after (refused sourceLines) out))
+unfoldable pub asmOf : List ℕ → List ℕ → Left ℕ (List ℕ)
+asmOf s out = call (sourceWhy longestSection s (length out)) (checked faults s (written (assembled s) out) out) out

@@ -1,15 +1,16 @@
 -- How an assembly ends, by the number of the first refusal that applies; and what a line is like that has no fault.
-use Prim.Native.Nat.{ℕ, _%_}
+use Prim.Native.Nat.{ℕ}
 use mathlib.Core.Bool.{Bool, _&&_, cond, false}
 use mathlib.Core.List.{List, [], _∷_}
 use mathlib.Core.Path.{_≡_}
-use lib.Dec.{eqb, leb, ltb}
+use lib.Dec.{leb, ltb}
 use lib.ListN.{length}
-use Rattle.refusal.specs.Numbers.{outputShort, sourceLines, unknownText, outOfPlace}
+use Rattle.refusal.specs.Numbers.{unknownText, outOfPlace}
 use Rattle.refusal.specs.Page.{first}
 use Rattle.assembler.specs.declared.source.Fault.{Fault}
 use Rattle.assembler.specs.Source.{countOf, lowest, lineAt, textAt, saidAt, hereOf, isUnknown, isGiven, lacks, misplaced, far}
-use Rattle.assembler.specs.Answer.{faults, numberOf, longestSection}
+use Rattle.assembler.specs.Answer.{faults, numberOf, sourceWhy, longestSection}
+use Rattle.assembler.specs.Labels.{labelFaults, mostLabels}
 use Rattle.patchline.specs.Text.{labelOf}
 
 -- the number of the first fault that a line has, 0 where none has any
@@ -18,12 +19,12 @@ faultWhy [] s = 0
 faultWhy (f ∷ fs) s = cond (ltb (lowest f s) (countOf s)) (numberOf f) (faultWhy fs s)
 
 -- 10; 36, not whole lines, or over 1,024; then 24, 25, 26, 28, 27
-unfoldable pub assembleWhy : List ℕ → List ℕ → ℕ
-assembleWhy s out =
-    first (cond (ltb (length out) longestSection) outputShort 0)
-    (first (cond (eqb (length s % 32) 0) 0 sourceLines)
-    (first (cond (ltb 1024 (countOf s)) sourceLines 0)
-    (faultWhy faults s)))
+abbrev pub assembleWhy : List ℕ → List ℕ → ℕ
+assembleWhy s out = first (sourceWhy longestSection s (length out)) (faultWhy faults s)
+
+-- 10; 36; then 24, 25
+abbrev pub labelsWhy : List ℕ → List ℕ → ℕ
+labelsWhy s out = first (sourceWhy mostLabels s (length out)) (faultWhy labelFaults s)
 
 -- 24 to 28 tell a line
 abbrev pub tellsLine : ℕ → Bool

@@ -3,9 +3,9 @@ ghost use mathlib.Core.Path.{_≡_};
 ghost use Prim.Native.Nat.{_≤_};
 ghost use lib.ListN.{length};
 ghost use Rattle.assembler.specs.Source.{countOf};
-ghost use Rattle.assembler.specs.Answer.{faults, pageOf, after, checked, asmOf};
+ghost use Rattle.assembler.specs.Answer.{faults, pageOf, sourceWhy, written, checked, assembled, asmOf};
 ghost use Rattle.refusal.specs.Page.{left};
-ghost use Rattle.assembler.specs.Labels.{labelledPage, labelsPage, labelsWhy};
+ghost use Rattle.assembler.specs.Labels.{labelledPage, labelsPage};
 use crate::source::Fault;
 use refusal::number::LABEL_AGAIN;
 use refusal::number::LABEL_MISSING;
@@ -48,7 +48,7 @@ pub enum Labelled {
 // A source of whole lines: its first fault, or its section in front of the output.
 fn assemble_lines(source: &[u8], out: &mut [u8]) -> Assembled
     requires { ⌜ (countOf (now source) ≤ 1024) × (12290 ≤ length (now out)) ⌝ }
-    ensures { λ r. ⌜ after (pageOf r) (now (out .exit)) ≡ checked faults (now (source .entry)) (now (out .entry)) ⌝ }
+    ensures { λ r. ⌜ left (pageOf r) (now (out .exit)) ≡ checked faults (now (source .entry)) (written (assembled (now (source .entry))) (now (out .entry))) (now (out .entry)) ⌝ }
 {
     let n = source::count(source);
     let mut starts = [0u32; 1025];
@@ -80,27 +80,11 @@ fn assemble_lines(source: &[u8], out: &mut [u8]) -> Assembled
     Assembled::Section(length as u16)
 }
 
-// Assembles a source into the front of the output; a refusal leaves the output as lent.
-pub fn assemble(source: &[u8], out: &mut [u8]) -> Assembled
-    ensures { λ r. ⌜ after (pageOf r) (now (out .exit)) ≡ asmOf (now (source .entry)) (now (out .entry)) ⌝ }
+// 10 for an output under so many bytes, 36 for a source that is not whole lines or has too many; 0 for none.
+fn source_refusal(source: &[u8], out: usize, room: usize) -> u8
+    ensures { λ r. ⌜ r ≡ sourceWhy room (now (source .entry)) out ⌝ }
 {
-    if out.len() < LONGEST_SECTION {
-        return Assembled::Refused(OUTPUT_SHORT);
-    }
-    if source.len() % 32 != 0 {
-        return Assembled::Refused(SOURCE_LINES);
-    }
-    if MOST_LINES < source::count(source) {
-        return Assembled::Refused(SOURCE_LINES);
-    }
-    assemble_lines(source, out)
-}
-
-// 10 or 36 for the labels, 0 for none.
-fn labels_refusal(source: &[u8], out: usize) -> u8
-    ensures { λ r. ⌜ r ≡ labelsWhy (now (source .entry)) out ⌝ }
-{
-    if out < MOST_LABELS {
+    if out < room {
         return OUTPUT_SHORT;
     }
     if source.len() % 32 != 0 {
@@ -113,12 +97,23 @@ fn labels_refusal(source: &[u8], out: usize) -> u8
     0
 }
 
+// Assembles a source into the front of the output; a refusal leaves the output as lent.
+pub fn assemble(source: &[u8], out: &mut [u8]) -> Assembled
+    ensures { λ r. ⌜ left (pageOf r) (now (out .exit)) ≡ asmOf (now (source .entry)) (now (out .entry)) ⌝ }
+{
+    let why = source_refusal(source, out.len(), LONGEST_SECTION);
+    if why != 0 {
+        return Assembled::Refused(why);
+    }
+    assemble_lines(source, out)
+}
+
 // Tells each line's label and its value: four bytes a line in front of the output, the label's length and the address that the line
 // begins at. A refusal leaves the output as lent: 10, 36, 24 or 25.
 pub fn labels(source: &[u8], out: &mut [u8]) -> Labelled
     ensures { λ r. ⌜ left (labelledPage r) (now (out .exit)) ≡ labelsPage (now (source .entry)) (now (out .entry)) ⌝ }
 {
-    let why = labels_refusal(source, out.len());
+    let why = source_refusal(source, out.len(), MOST_LABELS);
     if why != 0 {
         return Labelled::Refused(why);
     }

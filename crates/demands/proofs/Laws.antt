@@ -7,6 +7,7 @@ pub mod Demand2
 pub mod Demand3
 pub mod Pages
 pub mod Programs
+pub mod Runs
 pub mod Scans
 pub mod Sources
 pub mod Texts

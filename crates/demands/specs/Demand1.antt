@@ -5,19 +5,25 @@
 -- each call a line that says which refusals it has. Numbers 24 to 28 of the assembler tell a line beside, 9 and 30 to 32 of
 -- the text's reader a column.
 use Prim.Native.Nat.{ℕ}
-use mathlib.Core.Bool.{cond}
+use mathlib.Core.Bool.{Bool, false, cond}
 use mathlib.Core.List.{List}
 use mathlib.Core.Path.{_≡_}
-use lib.Dec.{eqb, ltb}
+use lib.Dec.{ltb}
 use lib.ListN.{length}
 use Rattle.state.specs.declared.State.{State}
 use Rattle.state.specs.declared.Settings.{Settings}
 use Rattle.refusal.specs.Numbers.{noState, wordsOdd, textShort}
-use Rattle.refusal.specs.Page.{Page, refused, answered, Left, left, call, first, Told, reading}
+use Rattle.refusal.specs.Page.{Page, refused, refusedAt, answered, Left, left, call, first, Told, readingAt}
+use Rattle.answer.specs.Answer.{answerWhy, placeWords}
+use Rattle.machine.specs.declared.Until.{Until}
 use Rattle.machine.specs.Entry.{powerWhy, stepWhy, runWhy, powerUpPage, stepPage, runPage}
+use Rattle.machine.specs.Same.{runSamePage}
+use Rattle.machine.specs.Until.{runUntilPage}
 use Rattle.firmware.specs.Layout.{settingsFrom, refusedUp, refusedStep, refusedRun}
 use Rattle.firmware.specs.Calls.{powerUpCall, stepCall, runCall}
+use Rattle.firmware.specs.Runs.{refusedUntil, runSameCall, runUntilCall}
 use Rattle.job.specs.Job.{whyJob, whyRead, jobOf}
+use Rattle.job_c.specs.Calls.{readCall}
 use Rattle.optext.specs.declared.Written.{Written}
 use Rattle.optext.specs.declared.ReadBack.{ReadBack}
 use Rattle.optext.specs.Answer.{refusal, refusalAt, writtenAs, readAs, Writes, WritesWord}
@@ -27,17 +33,16 @@ use Rattle.line.specs.Line.{printWhy, printOf}
 use Rattle.runjob.specs.Bench.{jobRun, benchWhy, benchOf}
 use Rattle.listing.specs.Calls.{lineWhy, lineCall}
 use Rattle.listjob.specs.Stretch.{listWhy, listOf}
+use Rattle.listing_c.specs.Calls.{listCall}
 use Rattle.textc.specs.Calls.{wordsIn, odd, notAnswer, writeCall, ReadCall}
 use Rattle.textc.specs.Calls as Textc
-use Rattle.assembler.specs.declared.Assembled.{Assembled}
 use Rattle.assembler.specs.Answer.{asmOf}
-use Rattle.assembler.specs.Answer as Patch
-use Rattle.assembler.specs.Ends.{assembleWhy, tellsLine, FaultLine}
-use Rattle.assembler_c.specs.Call.{assembleCall}
-use Rattle.assembler_c.specs.Call as AssemblerC
+use Rattle.assembler.specs.Labels.{labelsPage}
+use Rattle.assembler.specs.Ends.{assembleWhy, labelsWhy, tellsLine, FaultLine}
+use Rattle.assembler_c.specs.Call.{assembleCall, labelsCall}
 use Rattle.trace.specs.Trace.{whyTrace, whyCheck, checkOf, whyMake, makeOf}
 use Rattle.tracecall.specs.Calls.{checkCall}
-use Rattle.demands.specs.Terms.{Answers, Numbered, OrPlace, placeBytes, numberOf, writeWhy, roomWhy, Reading, tellsColumn, lineless}
+use Rattle.demands.specs.Terms.{Numbered, OrPlace, numberOf, writeWhy, roomWhy, Reading, tellsColumn}
 
 -- ---- the theorem. `why` is the number of the first refusal that applies, 0 where there is none; `promised` is what the contract says
 
@@ -64,7 +69,34 @@ abbrev pub KeepsC : {B : Type 0} → ℕ → B → Told B → Type 0
 KeepsC {B} why lent promised = (x : Told B) → x ≡ promised → KeptC why lent x
 
 abbrev pub ReadingKeeps : Type 1
-ReadingKeeps = (A B C : Type 0) (bytes : A → B → C) (kept : B → C) (why : ℕ) (right : Left A B) (lent : B) → IsAnswer (right .page) → KeepsC why (kept lent) (reading bytes kept (call why right lent))
+ReadingKeeps = (A B C : Type 0) (bytes : A → B → C) (beside : ℕ → B → C) (kept : B → C) (why : ℕ) (right : Left A B) (lent : B) → IsAnswer (right .page)
+    → KeepsC why (kept lent) (readingAt bytes beside kept (call why right lent))
+
+-- ---- the same of calls with a number that tells a place beside, a line or a column: `tells` says whether a number does, `IsPlace` what its place is
+
+pub record KeptAt {A B : Type 0} (why : ℕ) (tells : ℕ → Bool) (IsPlace : ℕ → ℕ → Type 0) (lent : B) (x : Left A B) : Type 0 where
+  pub refusedOnly : (why ≡ 0 → ⊥) → OrPlace (tells why) (IsPlace why) (left (refused why) lent) (λ place. left (refusedAt why place) lent) x
+  pub notRefused : why ≡ 0 → IsAnswer (x .page)
+
+abbrev pub KeepsAt : {A B : Type 0} → ℕ → (ℕ → Bool) → (ℕ → ℕ → Type 0) → B → Left A B → Type 0
+KeepsAt {A} {B} why tells IsPlace lent promised = (x : Left A B) → x ≡ promised → KeptAt why tells IsPlace lent x
+
+-- for C the place is in what is left of a refusal
+pub record KeptCAt {B : Type 0} (why : ℕ) (tells : ℕ → Bool) (IsPlace : ℕ → ℕ → Type 0) (lent : B) (beside : ℕ → B) (x : Told B) : Type 0 where
+  pub numberIs : x .number ≡ why
+  pub unchanged : (x .number ≡ 0 → ⊥) → OrPlace (tells why) (IsPlace why) lent beside (x .lent)
+
+abbrev pub KeepsCAt : {B : Type 0} → ℕ → (ℕ → Bool) → (ℕ → ℕ → Type 0) → B → (ℕ → B) → Told B → Type 0
+KeepsCAt {B} why tells IsPlace lent beside promised = (x : Told B) → x ≡ promised → KeptCAt why tells IsPlace lent beside x
+
+-- a first refusal that tells no place, before a call that keeps; and what is read in bytes of a call that keeps
+abbrev pub CallKeepsAt : Type 1
+CallKeepsAt = (A B : Type 0) (why later : ℕ) (tells : ℕ → Bool) (IsPlace : ℕ → ℕ → Type 0) (right : Left A B) (lent : B) → tells why ≡ false
+    → KeptAt later tells IsPlace lent right → KeptAt (first why later) tells IsPlace lent (call why right lent)
+
+abbrev pub ReadingKeepsAt : Type 1
+ReadingKeepsAt = (A B C : Type 0) (bytes : A → B → C) (beside : ℕ → B → C) (kept : B → C) (why : ℕ) (tells : ℕ → Bool) (IsPlace : ℕ → ℕ → Type 0) (lent : B) (l : Left A B)
+    → KeptAt why tells IsPlace lent l → KeepsCAt why tells IsPlace (kept lent) (λ place. beside place lent) (readingAt bytes beside kept l)
 
 -- ---- the calls, with their refusals in their order
 
@@ -79,6 +111,14 @@ StepAnswers = (settings : Settings) (m map : List ℕ) (line : ℕ) (s : State) 
 -- A RUN: 1, 2, 3, 35, 4, 5
 abbrev pub RunAnswers : Type 0
 RunAnswers = (settings : Settings) (m map lines : List ℕ) (s : State) → Keeps (runWhy settings m map lines) m (runPage settings m map lines s)
+
+-- A RUN OVER ONE LINE WORD: 1, 2, 3, 35, 5
+abbrev pub RunSameAnswers : Type 0
+RunSameAnswers = (settings : Settings) (m map : List ℕ) (line n : ℕ) (s : State) → Keeps (stepWhy settings m map line) m (runSamePage settings m map line n s)
+
+-- A RUN UNTIL SOMETHING HAPPENS: 1, 2, 3, 35, 4, 5
+abbrev pub RunUntilAnswers : Type 0
+RunUntilAnswers = (settings : Settings) (m map lines : List ℕ) (u : Until) (s : State) → Keeps (runWhy settings m map lines) m (runUntilPage settings m map lines u s)
 
 -- THE JOB READER: 1, 2, 4, then 11 to 20 and 22 in reading order; and a job's run
 abbrev pub JobAnswers : Type 0
@@ -127,9 +167,11 @@ ReadAnswers = (text words : List ℕ) (r : ReadBack) (words′ : List ℕ) → R
 
 -- THE ASSEMBLER: 10, 36, then 24, 25, 26, 28, 27 with the lowest line that has it
 abbrev pub AssembleAnswers : Type 0
-AssembleAnswers = (s out : List ℕ) (r : Assembled) (out′ : List ℕ) → Patch.after (Patch.pageOf r) out′ ≡ asmOf s out
-    → (let why = assembleWhy s out in
-    Answers why (lineless (Patch.pageOf r)) ((out′ ≡ out) × OrPlace (tellsLine why) (FaultLine s why) (Patch.refused why) (Patch.refusedAt why) (Patch.pageOf r)))
+AssembleAnswers = (s out : List ℕ) → KeepsAt (assembleWhy s out) tellsLine (FaultLine s) out (asmOf s out)
+
+-- THE LABELS OF A SOURCE: 10, 36, then 24, 25 with the lowest line that has it
+abbrev pub LabelsAnswers : Type 0
+LabelsAnswers = (s out : List ℕ) → KeepsAt (labelsWhy s out) tellsLine (FaultLine s) out (labelsPage s out)
 
 -- THE SAME FOR C, whose answer is the number, with 21 before the others. w are the settings' bytes
 
@@ -145,11 +187,27 @@ Wd16StepAnswers = (b m map w : List ℕ) (line : ℕ) → KeepsC (first (cond (r
 abbrev pub Wd16RunAnswers : Type 0
 Wd16RunAnswers = (b t m map w lines : List ℕ) → KeepsC (first (cond (refusedRun b t w) noState 0) (runWhy (settingsFrom w) m map lines)) (b, t, m) (runCall b t m map w lines)
 
--- a trace checked: the job's own but for 1, 2 and 4, as its buffers are the call's own; 29
-abbrev pub Wd16CheckTraceAnswers : Type 0
-Wd16CheckTraceAnswers = (job t b : List ℕ) → KeepsC (first (cond (eqb (length b) 6) 0 noState) (first (whyJob job) (whyTrace t))) b (checkCall job t b)
+-- over one line word: 21, 1, 2, 3, 35, 5
+abbrev pub Wd16RunSameAnswers : Type 0
+Wd16RunSameAnswers = (b t m map w : List ℕ) (line n : ℕ) → KeepsC (first (cond (refusedRun b t w) noState 0) (stepWhy (settingsFrom w) m map line)) (b, t, m) (runSameCall b t m map w line n)
 
--- the text written: 21, 38, 8, 6, 7. a is the answer's buffer
+-- until something happens: 21, 1, 2, 3, 35, 4, 5
+abbrev pub Wd16RunUntilAnswers : Type 0
+Wd16RunUntilAnswers = (b t m map w lines : List ℕ) (asked : ℕ) → KeepsC (first (cond (refusedUntil b t w asked) noState 0) (runWhy (settingsFrom w) m map lines)) (b, t, m) (runUntilCall b t m map w lines asked)
+
+-- the job reader: 21, 1, 2, 4, then 11 to 20 and 22 in reading order. a is the answer's buffer, here and below
+abbrev pub Wd16ReadJobAnswers : Type 0
+Wd16ReadJobAnswers = (input image map lines a : List ℕ) → KeepsC (first (answerWhy a) (whyRead (length image) (length map) (length lines) input)) (image, map, lines, a) (readCall input image map lines a)
+
+-- a line of a listing: 21, 1, 2, 3, 23, 8
+abbrev pub Wd16ListLineAnswers : Type 0
+Wd16ListLineAnswers = (image map : List ℕ) (x last : ℕ) (text a : List ℕ) → KeepsC (first (answerWhy a) (lineWhy (length image) map x last (length text))) (text, a) (listCall image map x last text a)
+
+-- a trace checked: 21, the job's own but for 1, 2 and 4, as its buffers are the call's own; 29
+abbrev pub Wd16CheckTraceAnswers : Type 0
+Wd16CheckTraceAnswers = (job t a : List ℕ) → KeepsC (first (answerWhy a) (first (whyJob job) (whyTrace t))) a (checkCall job t a)
+
+-- the text written: 21, 38, 8, 6, 7
 abbrev pub Wd16WriteTextAnswers : Type 0
 Wd16WriteTextAnswers = (b t a : List ℕ) (number : ℕ) (t′ a′ : List ℕ) → Textc.left number t′ a′ ≡ writeCall b t a
     → Numbered (first (cond (notAnswer a) noState 0) (first (cond (odd b) wordsOdd 0) (writeWhy (wordsIn b) t))) number ((t′ ≡ t) × (a′ ≡ a))
@@ -157,9 +215,12 @@ Wd16WriteTextAnswers = (b t a : List ℕ) (number : ℕ) (t′ a′ : List ℕ) 
 -- and read: 21, 38, 10, then 32, 31, 9 or 30, which tell their column in the answer
 abbrev pub Wd16ReadTextAnswers : Type 0
 Wd16ReadTextAnswers = (t b a : List ℕ) (number : ℕ) (b′ a′ : List ℕ) → ReadCall t b a (Textc.left number b′ a′)
-    → Reading (first (cond (notAnswer a) noState 0) (first (cond (odd b) wordsOdd 0) (roomWhy (wordsIn b)))) t number ((b′ ≡ b) × OrPlace (tellsColumn number) (Column t) a placeBytes a′)
+    → Reading (first (cond (notAnswer a) noState 0) (first (cond (odd b) wordsOdd 0) (roomWhy (wordsIn b)))) t number ((b′ ≡ b) × OrPlace (tellsColumn number) (Column t) a placeWords a′)
 
 -- the assembler: 21, 10, 36, then 24, 25, 26, 28, 27, which tell their line in the answer
 abbrev pub Wd16AssembleAnswers : Type 0
-Wd16AssembleAnswers = (s out b : List ℕ) (number : ℕ) (out′ b′ : List ℕ) → AssemblerC.went number out′ b′ ≡ assembleCall s out b
-    → Numbered (first (cond (eqb (length b) 6) 0 noState) (assembleWhy s out)) number ((out′ ≡ out) × OrPlace (tellsLine number) (FaultLine s number) b placeBytes b′)
+Wd16AssembleAnswers = (s out a : List ℕ) → KeepsCAt (first (answerWhy a) (assembleWhy s out)) tellsLine (FaultLine s) (out, a) (λ line. (out, placeWords line)) (assembleCall s out a)
+
+-- the labels: 21, 10, 36, then 24, 25, which tell their line in the answer
+abbrev pub Wd16LabelsAnswers : Type 0
+Wd16LabelsAnswers = (s out a : List ℕ) → KeepsCAt (first (answerWhy a) (labelsWhy s out)) tellsLine (FaultLine s) (out, a) (λ line. (out, placeWords line)) (labelsCall s out a)

@@ -13,13 +13,22 @@ use Rattle.refusal.specs.Page.{answered, left, told}
 use Rattle.machine.specs.declared.Powered.{Powered}
 use Rattle.machine.specs.declared.Stepped.{Stepped}
 use Rattle.machine.specs.declared.Finished.{Finished}
+use Rattle.machine.specs.declared.Stopped.{Stopped}
+use Rattle.machine.specs.declared.Until.{Until}
 use Rattle.machine.specs.Numbers.{TurnPage, RanPage}
 use Rattle.machine.specs.Entry.{poweredPage, powerUpPage, steppedPage, stepPage, finishedPage, runPage}
+use Rattle.machine.specs.Same.{runSamePage}
+use Rattle.machine.specs.Until.{stoppedPage, runUntilPage}
 use Rattle.machine.specs.Blind.{Blind}
 use Rattle.firmware.specs.Layout.{stateFrom, settingsFrom}
 use Rattle.firmware.specs.Calls.{powerUpCall, stepCall, runCall}
+use Rattle.firmware.specs.Runs.{runSameCall, runUntilCall}
+use Rattle.job.specs.declared.Answer.{Answer}
+use Rattle.job.specs.Job.{pageOf, whyRead, jobOf}
+use Rattle.job_c.specs.Calls.{readCall}
 use Rattle.listing.specs.declared.Listed.{Listed}
 use Rattle.listing.specs.Calls.{listedPage, lineCall}
+use Rattle.listing_c.specs.Calls.{listCall}
 use Rattle.trace.specs.declared.Checked.{Checked}
 use Rattle.trace.specs.declared.Made.{Made}
 use Rattle.trace.specs.Trace.{checkedPage, whyCheck, checkOf, madePage, whyMake, makeOf}
@@ -40,6 +49,14 @@ module _ (settings : Settings) (map m n : List ℕ) (l : length m ≡ length n) 
   RunBlind = (lines : List ℕ) (s : State) (r q : Finished) (m′ n′ : List ℕ)
       → left (finishedPage r) m′ ≡ runPage settings m map lines s → left (finishedPage q) n′ ≡ runPage settings n map lines s → Blind map m n r q m′ n′
 
+  abbrev pub RunSameBlind : Type 0
+  RunSameBlind = (line steps : ℕ) (s : State) (r q : Finished) (m′ n′ : List ℕ)
+      → left (finishedPage r) m′ ≡ runSamePage settings m map line steps s → left (finishedPage q) n′ ≡ runSamePage settings n map line steps s → Blind map m n r q m′ n′
+
+  abbrev pub RunUntilBlind : Type 0
+  RunUntilBlind = (lines : List ℕ) (u : Until) (s : State) (r q : Stopped) (m′ n′ : List ℕ)
+      → left (stoppedPage r) m′ ≡ runUntilPage settings m map lines u s → left (stoppedPage q) n′ ≡ runUntilPage settings n map lines u s → Blind map m n r q m′ n′
+
 -- the same for C: the number, the state's bytes, the tally's; w are the settings' bytes
 module _ (w map m n : List ℕ) (l : length m ≡ length n) (g : Agree map m n) where
   abbrev pub Wd16PowerUpBlind : Type 0
@@ -54,15 +71,39 @@ module _ (w map m n : List ℕ) (l : length m ≡ length n) (g : Agree map m n) 
   Wd16RunBlind = (b t lines : List ℕ) (k j : ℕ) (b₁ b₂ t₁ t₂ m′ n′ : List ℕ) → told k (b₁, t₁, m′) ≡ runCall b t m map w lines → told j (b₂, t₂, n′) ≡ runCall b t n map w lines
       → Blind {A = ℕ × List ℕ × List ℕ} map m n (k, b₁, t₁) (j, b₂, t₂) m′ n′
 
+  abbrev pub Wd16RunSameBlind : Type 0
+  Wd16RunSameBlind = (b t : List ℕ) (line steps k j : ℕ) (b₁ b₂ t₁ t₂ m′ n′ : List ℕ) → told k (b₁, t₁, m′) ≡ runSameCall b t m map w line steps → told j (b₂, t₂, n′) ≡ runSameCall b t n map w line steps
+      → Blind {A = ℕ × List ℕ × List ℕ} map m n (k, b₁, t₁) (j, b₂, t₂) m′ n′
+
+  abbrev pub Wd16RunUntilBlind : Type 0
+  Wd16RunUntilBlind = (b t lines : List ℕ) (asked k j : ℕ) (b₁ b₂ t₁ t₂ m′ n′ : List ℕ) → told k (b₁, t₁, m′) ≡ runUntilCall b t m map w lines asked → told j (b₂, t₂, n′) ≡ runUntilCall b t n map w lines asked
+      → Blind {A = ℕ × List ℕ × List ℕ} map m n (k, b₁, t₁) (j, b₂, t₂) m′ n′
+
 -- a line of a listing: the same answer, and the same text
 abbrev pub ListLineBlind : Type 0
 ListLineBlind = (map m n : List ℕ) → length m ≡ length n → Agree map m n → (a last : ℕ) (text : List ℕ) (r q : Listed) (text₁ text₂ : List ℕ)
     → left (listedPage r) text₁ ≡ lineCall m map a last text → left (listedPage q) text₂ ≡ lineCall n map a last text → (r ≡ q) × (text₁ ≡ text₂)
 
--- ---- A TRACE IS OF A JOB, which fills the lent image, the map and the line words from its own bytes: whatever stands in them before,
+-- for C: the same number, text and answer
+abbrev pub Wd16ListLineBlind : Type 0
+Wd16ListLineBlind = (map m n : List ℕ) → length m ≡ length n → Agree map m n → (x last : ℕ) (text a : List ℕ) (k j : ℕ) (text₁ text₂ a₁ a₂ : List ℕ)
+    → told k (text₁, a₁) ≡ listCall m map x last text a → told j (text₂, a₂) ≡ listCall n map x last text a → (k ≡ j) × (text₁ ≡ text₂) × (a₁ ≡ a₂)
+
+-- ---- A JOB FILLS the lent image, the map and the line words from its own bytes, and a trace is of a job: whatever stands in them before,
 -- the answer is the same, and where nothing is refused, so is what is left in them
 
 module _ (input i₁ i₂ m₁ m₂ l₁ l₂ : List ℕ) (hi : length i₁ ≡ length i₂) (hm : length m₁ ≡ length m₂) (hl : length l₁ ≡ length l₂) where
+  abbrev pub JobBlind : Type 0
+  JobBlind = (r q : Answer) (i₁′ m₁′ l₁′ i₂′ m₂′ l₂′ : List ℕ)
+      → left (pageOf r) (i₁′, m₁′, l₁′) ≡ jobOf input i₁ m₁ l₁ → left (pageOf q) (i₂′, m₂′, l₂′) ≡ jobOf input i₂ m₂ l₂
+      → (r ≡ q) × (whyRead (length i₁) (length m₁) (length l₁) input ≡ 0 → (i₁′ ≡ i₂′) × (m₁′ ≡ m₂′) × (l₁′ ≡ l₂′))
+
+  -- for C: the same number and answer
+  abbrev pub Wd16ReadJobBlind : Type 0
+  Wd16ReadJobBlind = (a : List ℕ) (k j : ℕ) (i₁′ m₁′ l₁′ a₁ i₂′ m₂′ l₂′ a₂ : List ℕ)
+      → told k (i₁′, m₁′, l₁′, a₁) ≡ readCall input i₁ m₁ l₁ a → told j (i₂′, m₂′, l₂′, a₂) ≡ readCall input i₂ m₂ l₂ a
+      → (k ≡ j) × (a₁ ≡ a₂) × (k ≡ 0 → (i₁′ ≡ i₂′) × (m₁′ ≡ m₂′) × (l₁′ ≡ l₂′))
+
   abbrev pub CheckBlind : Type 0
   CheckBlind = (t : List ℕ) (r q : Checked) (i₁′ m₁′ l₁′ i₂′ m₂′ l₂′ : List ℕ)
       → left (checkedPage r) (i₁′, m₁′, l₁′) ≡ checkOf input t i₁ m₁ l₁ → left (checkedPage q) (i₂′, m₂′, l₂′) ≡ checkOf input t i₂ m₂ l₂

@@ -1,11 +1,10 @@
 -- The terms in which the demands are stated.
 use Prim.Native.Nat.{ℕ, _<_}
 use mathlib.Core.Bool.{Bool, true, false, _&&_, _||_, cond}
-use mathlib.Core.List.{List, [], _∷_}
+use mathlib.Core.List.{List}
 use mathlib.Core.Path.{_≡_}
 use lib.Dec.{eqb, leb, ltb}
 use lib.ListN.{length, take, getD}
-use Rattle.words.specs.Words.{bytesIn}
 use Rattle.board.specs.Work.{value, run}
 use Rattle.state.specs.declared.State.{State}
 use Rattle.state.specs.declared.Settings.{Settings}
@@ -18,12 +17,10 @@ use Rattle.step.specs.Step as Step
 use Rattle.step.specs.Told.{accesses, StopsAt, trapAnswered, isBlankStep}
 use Rattle.step.specs.Locks.{LocksUp}
 use Rattle.refusal.specs.Numbers.{textShort, outputShort}
-use Rattle.refusal.specs.Page.{Page, refused, answered, first}
+use Rattle.refusal.specs.Page.{first}
 use Rattle.optext.specs.Answer.{Answer, found, refusal, refusalAt}
 use Rattle.optext.specs.Line.{taken}
 use Rattle.optext.specs.Column.{IsText, Column, Why}
-use Rattle.assembler.specs.Answer.{section, refusedAt}
-use Rattle.assembler.specs.Answer as Patch
 use Rattle.machine.specs.Numbers.{statePage, address, nowhere, TurnPage, Place}
 use Rattle.machine.specs.Trail.{trailOf, lastOf, blanksIn, causeAt, Least}
 use Rattle.firmware.specs.Layout.{bytesOf, tallyBytes}
@@ -31,25 +28,16 @@ use Rattle.firmware.specs.Layout.{bytesOf, tallyBytes}
 -- ---- demand 1. `why` is the number of the first refusal that applies, 0 where there is none; `AsLent` says that every buffer
 -- lent for writing is as it was lent
 
--- a call that answers by cases: refused, it gives the number alone and changes nothing; not refused, it gives an answer
-pub record Answers {A : Type 0} (why : ℕ) (page : Page A) (AsLent : Type 0) : Type 0 where
-  pub refusedAlone : (why ≡ 0 → ⊥) → (page ≡ refused why) × AsLent
-  pub notRefused : why ≡ 0 → (k : ℕ) → page ≡ refused k → ⊥
-
 -- a call that answers by a number: it is `why`, and where it is not 0 nothing is changed
 pub record Numbered (why number : ℕ) (AsLent : Type 0) : Type 0 where
   pub numberIs : number ≡ why
   pub unchanged : (number ≡ 0 → ⊥) → AsLent
 
 -- what a refused call tells beside its number: nothing, which leaves `alone`; or, where the number tells a place, a line or a column, that place.
--- x is the answer in Rattle, or the answer's bytes for C
+-- x is what the call left
 pub data OrPlace {A : Type 0} (tells : Bool) (IsPlace : ℕ → Type 0) (alone : A) (beside : ℕ → A) (x : A) : Type 0 where
   numberAlone : tells ≡ false → x ≡ alone → OrPlace tells IsPlace alone beside x
   placeToo : tells ≡ true → (place : ℕ) → IsPlace place → x ≡ beside place → OrPlace tells IsPlace alone beside x
-
--- the place in the answer's bytes for C, after two words that are 0
-abbrev pub placeBytes : ℕ → List ℕ
-placeBytes place = bytesIn (0 ∷ 0 ∷ place ∷ [])
 
 -- the text of an op code: an answer's number, 0 where it is no refusal
 abbrev pub numberOf : Answer → ℕ
@@ -82,12 +70,6 @@ pub record Reading (lentWhy : ℕ) (t : List ℕ) (number : ℕ) (AsLent : Type 
 -- 9, and 30 to 32 tell a column
 abbrev pub tellsColumn : ℕ → Bool
 tellsColumn n = eqb n 9 || (leb 30 n && leb n 32)
-
--- the assembler's answer: the section's length, or a refusal's number without its line
-abbrev pub lineless : Patch.Page → Page ℕ
-lineless (section n) = answered n
-lineless (Patch.refused why) = refused why
-lineless (refusedAt why line) = refused why
 
 -- ---- demand 2
 

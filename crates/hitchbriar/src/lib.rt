@@ -6,7 +6,6 @@ ghost use Rattle.firmware.specs.Runs as Runs;
 ghost use Rattle.lentrecorder.specs.Calls as Recorder;
 ghost use Rattle.textc.specs.Calls as Text;
 ghost use Rattle.assembler_c.specs.Call as Assembler;
-ghost use Rattle.assembler_c.specs.Labels as Labels;
 ghost use Rattle.listing_c.specs.Calls as Listing;
 ghost use Rattle.job_c.specs.Calls as Job;
 ghost use Rattle.tracecall.specs.Calls as Trace;
@@ -99,7 +98,7 @@ pub extern "C" fn wd16_scan(
     readings: &[u16],
     recorder: &mut [u8],
 ) -> u8
-    ensures { λ r. ⌜ Recorder.scanned r (now (state .exit)) (now (tally .exit)) (now (image .exit)) (now (recorder .exit))
+    ensures { λ r. ⌜ told r (now (state .exit), now (tally .exit), now (image .exit), now (recorder .exit))
         ≡ Recorder.scanCall (now (state .entry)) (now (tally .entry)) (now (image .entry)) (now (map .entry)) (now (settings .entry)) (now (lines .entry)) (now (cards .entry)) (now (readings .entry)) (now (recorder .entry)) ⌝ }
 {
     lentrecorder::wd16_scan(
@@ -118,7 +117,7 @@ pub extern "C" fn wd16_scan(
 // The report of the channel whose number the one byte is; or 21 or 34.
 #[no_mangle]
 pub extern "C" fn wd16_report(recorder: &[u8], channel: &[u8], report: &mut [u8]) -> u8
-    ensures { λ r. ⌜ Recorder.told r (now (report .exit)) ≡ Recorder.reportCall (now (recorder .entry)) (now (channel .entry)) (now (report .entry)) ⌝ }
+    ensures { λ r. ⌜ told r (now (report .exit)) ≡ Recorder.reportCall (now (recorder .entry)) (now (channel .entry)) (now (report .entry)) ⌝ }
 {
     lentrecorder::wd16_report(recorder, channel, report)
 }
@@ -144,7 +143,7 @@ pub extern "C" fn wd16_read_text(text: &[u8], words: &mut [u8], answer: &mut [u8
 // Assembles a source into the front of the section; or 21, 10, 36, 24, 25, 26, 28 or 27.
 #[no_mangle]
 pub extern "C" fn wd16_assemble(source: &[u8], section: &mut [u8], answer: &mut [u8]) -> u8
-    ensures { λ r. ⌜ Assembler.went r (now (section .exit)) (now (answer .exit)) ≡ Assembler.assembleCall (now (source .entry)) (now (section .entry)) (now (answer .entry)) ⌝ }
+    ensures { λ r. ⌜ told r (now (section .exit), now (answer .exit)) ≡ Assembler.assembleCall (now (source .entry)) (now (section .entry)) (now (answer .entry)) ⌝ }
 {
     assembler_c::wd16_assemble(source, section, answer)
 }
@@ -152,7 +151,7 @@ pub extern "C" fn wd16_assemble(source: &[u8], section: &mut [u8], answer: &mut 
 // Tells each line's label and its value, four bytes a line, in front of the labels; or 21, 10, 36, 24 or 25.
 #[no_mangle]
 pub extern "C" fn wd16_labels(source: &[u8], labels: &mut [u8], answer: &mut [u8]) -> u8
-    ensures { λ r. ⌜ told r (now (labels .exit), now (answer .exit)) ≡ Labels.labelsCall (now (source .entry)) (now (labels .entry)) (now (answer .entry)) ⌝ }
+    ensures { λ r. ⌜ told r (now (labels .exit), now (answer .exit)) ≡ Assembler.labelsCall (now (source .entry)) (now (labels .entry)) (now (answer .entry)) ⌝ }
 {
     assembler_c::wd16_labels(source, labels, answer)
 }

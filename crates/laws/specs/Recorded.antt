@@ -9,6 +9,7 @@ use mathlib.Core.Path.{_≡_}
 use lib.ListN.{length, replicate}
 use Rattle.state.specs.declared.State.{State}
 use Rattle.state.specs.declared.Settings.{Settings}
+use Rattle.refusal.specs.Page.{left, nothing, told}
 use Rattle.machine.specs.declared.Tally.{Tally}
 use Rattle.plugs.specs.declared.Channel.{Channel}
 use Rattle.plugs.specs.declared.Readings.{Readings}
@@ -20,9 +21,9 @@ use Rattle.recorder.specs.declared.Recorder.{Recorder}
 use Rattle.recorder.specs.declared.Answer.the-variants as Answer
 use Rattle.recorder.specs.declared.Reported.{Reported}
 use Rattle.recorder.specs.declared.Reported.the-variants as Reported
-use Rattle.recorder.specs.Scan.{begun, scannedPage, reportedPage, scanOf, reportPage}
+use Rattle.recorder.specs.Scan.{begun, answerPage, plugPage, reportedPage, scanOf, reportPage}
 use Rattle.lentrecorder.specs.Layout.{channelsFrom, reportBytes}
-use Rattle.lentrecorder.specs.Calls.{scanned, scanCall, told, reportCall}
+use Rattle.lentrecorder.specs.Calls.{scanCall, reportCall}
 
 -- ---- calls of `scan`, one after another
 
@@ -37,12 +38,12 @@ pub data Recorded : Recorder → List (List Channel) → Type 0 where
   -- a scan that was done: the recorder that it answers
   done : {r : Recorder} {scans : List (List Channel)} → Recorded r scans
       → (s : State) (channels : List Channel) (m map : List ℕ) (settings : Settings) (lines : List ℕ) (t : Tally) (r′ : Recorder) (m′ : List ℕ) → length channels ≡ 16
-      → scannedPage (record { recorder = r′; answer = Answer.Done t }) m′ ≡ scanOf (inState s r) channels m map settings lines
+      → left (answerPage (Answer.Done t)) (r′, m′) ≡ scanOf (inState s r) channels m map settings lines
       → Recorded r′ (scans ++ (channels ∷ []))
   -- one that was refused
   turnedAway : {r : Recorder} {scans : List (List Channel)} → Recorded r scans
       → (s : State) (channels : List Channel) (m map : List ℕ) (settings : Settings) (lines : List ℕ) (why : ℕ) (r′ : Recorder) (m′ : List ℕ)
-      → scannedPage (record { recorder = r′; answer = Answer.Refused why }) m′ ≡ scanOf (inState s r) channels m map settings lines
+      → left (answerPage (Answer.Refused why)) (r′, m′) ≡ scanOf (inState s r) channels m map settings lines
       → Recorded r′ scans
 
 -- ---- the report of a channel, by what it was in each scan
@@ -65,7 +66,7 @@ pub record Reports (q : Reported) (column : List Channel) : Type 0 where
 
 abbrev pub ScansReported : Type 0
 ScansReported = (r : Recorder) (scans : List (List Channel)) (k : ℕ) (q : Reported) → Recorded r scans → k < 16
-    → reportedPage q ≡ reportPage r k → Reports q (columnOf k scans)
+    → left (reportedPage q) nothing ≡ reportPage r k → Reports q (columnOf k scans)
 
 -- "Over up to 4,096 such scans": the scans counted are those that were not refused, and there are no more
 abbrev pub ScansCounted : Type 0
@@ -79,15 +80,15 @@ pub data Lent : List ℕ → List (List Channel) → Type 0 where
   zeros : Lent (replicate 194 0) []
   done : {d : List ℕ} {scans : List (List Channel)} → Lent d scans
       → (b t m map w lines cards readings b′ t′ m′ d′ : List ℕ)
-      → scanned 0 b′ t′ m′ d′ ≡ scanCall b t m map w lines cards readings d
+      → told 0 (b′, t′, m′, d′) ≡ scanCall b t m map w lines cards readings d
       → Lent d′ (scans ++ (channelsFrom cards readings ∷ []))
   turnedAway : {d : List ℕ} {scans : List (List Channel)} → Lent d scans
       → (b t m map w lines cards readings : List ℕ) (why : ℕ) (b′ t′ m′ d′ : List ℕ) → (why ≡ 0 → ⊥)
-      → scanned why b′ t′ m′ d′ ≡ scanCall b t m map w lines cards readings d
+      → told why (b′, t′, m′, d′) ≡ scanCall b t m map w lines cards readings d
       → Lent d′ scans
 
 -- a call of `wd16_report` for the channel k, lent 12 bytes, is not refused and leaves the bytes of the report over that channel's column
 abbrev pub Wd16ScansReported : Type 0
 Wd16ScansReported = (d : List ℕ) (scans : List (List Channel)) (k : ℕ) (b : List ℕ) (number : ℕ) (b′ : List ℕ) → Lent d scans → k < 16 → length b ≡ 12
     → told number b′ ≡ reportCall d (k ∷ []) b
-    → (number ≡ 0) × (b′ ≡ reportBytes (reportOf (columnOf k scans))) × Reads (reportOf (columnOf k scans)) (columnOf k scans)
+    → (number ≡ 0) × (b′ ≡ reportBytes (plugPage (reportOf (columnOf k scans)))) × Reads (reportOf (columnOf k scans)) (columnOf k scans)

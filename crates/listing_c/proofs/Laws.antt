@@ -5,9 +5,7 @@ use mathlib.Core.Bool.{Bool, true, false, cond}
 use mathlib.Core.List.{List, [], _∷_}
 use mathlib.Core.Path.{_≡_, refl, ap}
 use lib.ListN.{length, take, getD, length-append}
-use borrow.Author.Tests.{eq-eqb, ne-eqb}
-use Rattle.words.specs.Words.{bytesIn, wordAt}
-use Rattle.refusal.specs.Numbers.{noState}
+use Rattle.words.specs.Words.{wordAt}
 use Rattle.refusal.specs.Page.{Page, refused, refusedAt, answered, left, call, told}
 use Rattle.letters.specs.Over.{over}
 use Rattle.board.specs.Work.{fitted}
@@ -22,7 +20,9 @@ use Rattle.listing.specs.declared.Listed.the-variants.{Line, Last, Refused}
 use Rattle.listing.specs.Listing.{allStand, wordsAt, foundAt, lineOf, lineAt, nextAt}
 use Rattle.listing.specs.Calls.{Lined, lined, listedPage, lineWhy, nextOf, lineCall}
 use Rattle.listing.proofs.Laws.{word-length}
-use Rattle.listing_c.specs.Calls.{listCall}
+use Rattle.answer.specs.Answer.{threeWords, placeWords, answerWhy}
+use Rattle.answer.proofs.Laws.{bad, given}
+use Rattle.listing_c.specs.Calls.{lineWords, listCall}
 
 -- ---- a line is short
 
@@ -58,20 +58,23 @@ last-told image map a last b e r n q h = told-short image map a last b e (listed
 
 -- ---- the call
 
-module _ (image map : List ℕ) (a last : ℕ) (t b : List ℕ) where
-  pub bad : (length b ≡ 6 → ⊥) → told noState (t, b) ≡ listCall image map a last t b
+module _ (image map : List ℕ) (a last : ℕ) (t b : List ℕ) (n : ℕ) (h : n ≡ answerWhy b) where
+  abbrev beside : ℕ → List ℕ → List ℕ × List ℕ
+  beside place t = (t, placeWords place)
+
+  pub list-bad : (n ≡ 0 → ⊥) → told n (t, b) ≡ listCall image map a last t b
   unfolding listCall
-  bad h = rw (ne-eqb (length b) 6 h) refl
+  list-bad some = bad (λ p t. (t, lineWords p)) beside (λ t. (t, b)) (answerWhy b) n (lineCall image map a last t) t h some
 
-  module _ (t′ : List ℕ) (r : Listed) (l : length b ≡ 6) (e : left (listedPage r) t′ ≡ lineCall image map a last t) where
-    pub goes-on : (n x : ℕ) (b′ : List ℕ) → r ≡ Line n x → b′ ≡ bytesIn (n ∷ x ∷ 0 ∷ []) → told 0 (t′, b′) ≡ listCall image map a last t b
+  module _ (none : n ≡ 0) (t′ : List ℕ) (r : Listed) (e : left (listedPage r) t′ ≡ lineCall image map a last t) where
+    pub goes-on : (k x : ℕ) (b′ : List ℕ) → r ≡ Line k x → b′ ≡ threeWords k x 0 → told 0 (t′, b′) ≡ listCall image map a last t b
     unfolding listCall
-    goes-on n x b′ q p = rw (eq-eqb (length b) 6 l, ← e, q, p) refl
+    goes-on k x b′ q p = given (λ p t. (t, lineWords p)) beside (λ t. (t, b)) (answerWhy b) n (lineCall image map a last t) t h none _ (rw (← e, q, p) refl)
 
-    pub ended : (n : ℕ) (b′ : List ℕ) → r ≡ Last n → b′ ≡ bytesIn (n ∷ 0 ∷ 1 ∷ []) → told 0 (t′, b′) ≡ listCall image map a last t b
+    pub ended : (k : ℕ) (b′ : List ℕ) → r ≡ Last k → b′ ≡ threeWords k 0 1 → told 0 (t′, b′) ≡ listCall image map a last t b
     unfolding listCall
-    ended n b′ q p = rw (eq-eqb (length b) 6 l, ← e, q, p) refl
+    ended k b′ q p = given (λ p t. (t, lineWords p)) beside (λ t. (t, b)) (answerWhy b) n (lineCall image map a last t) t h none _ (rw (← e, q, p) refl)
 
     pub stopped : (why : ℕ) → r ≡ Refused why → told why (t′, b) ≡ listCall image map a last t b
     unfolding listCall
-    stopped why q = rw (eq-eqb (length b) 6 l, ← e, q) refl
+    stopped why q = given (λ p t. (t, lineWords p)) beside (λ t. (t, b)) (answerWhy b) n (lineCall image map a last t) t h none _ (rw (← e, q) refl)

@@ -14,8 +14,7 @@ use Rattle.listing.specs.Listing.{stands, wordsAt, foundAt, line, nextAt, listi
 use Rattle.assembler.specs.Section.{entryOf, sectionOf}
 use Rattle.patches.specs.Pieces.{Piece, linesOf}
 use mathlib.Core.Path.{_≡_}
-use Rattle.letters.specs.Over.{over}
-use Rattle.assembler.specs.Answer.{section, after, asmOf}
+use Rattle.assembler.specs.Answer.{written, asmOf}
 use Rattle.patches.specs.Padded.{sourceOf}
 
 -- ---- the pieces of a listing
@@ -63,4 +62,4 @@ module _ (first last : ℕ) (map image : List ℕ) where
     abbrev pub ListingAgain : Type 0
     ListingAgain = (out : List ℕ) → length (piecesOf first last map image) ≤ 512 → 12290 ≤ length out
         → asmOf (sourceOf (linesOf (piecesOf first last map image))) out
-        ≡ after (section (length (sectionOf (fittedWords first last map image)))) (over (sectionOf (fittedWords first last map image)) out)
+        ≡ written (sectionOf (fittedWords first last map image)) out

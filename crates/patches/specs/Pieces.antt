@@ -9,8 +9,7 @@ use Rattle.patchline.specs.declared.oneline.How.the-variants.{Plain}
 use Rattle.patchline.specs.Line.{says, saidOf}
 use Rattle.assembler.specs.Section.{entryOf, sectionOf}
 use Rattle.patches.specs.Again.{originLine}
-use Rattle.letters.specs.Over.{over}
-use Rattle.assembler.specs.Answer.{section, after, asmOf}
+use Rattle.assembler.specs.Answer.{written, asmOf}
 use Rattle.patches.specs.Padded.{sourceOf}
 
 -- ---- pieces: words from an address on, and the text that gives them
@@ -59,4 +58,4 @@ module _ (ps : List Piece) (r : Rise 0 ps) where
   -- THE SECTION OF THE PIECES IS THEIR WORDS
   abbrev pub PiecesAgain : Type 0
   PiecesAgain = (out : List ℕ) → 12290 ≤ length out → length ps ≤ 512
-      → asmOf (sourceOf (linesOf ps)) out ≡ after (section (length (sectionOf (entriesOf ps)))) (over (sectionOf (entriesOf ps)) out)
+      → asmOf (sourceOf (linesOf ps)) out ≡ written (sectionOf (entriesOf ps)) out

@@ -29,6 +29,10 @@ pub record Left (A B : Type 0) : Type 0 where
 abbrev pub left : {A B : Type 0} → Page A → B → Left A B
 left p b = record { page = p; lent = b }
 
+-- where nothing is lent for writing
+abbrev pub nothing : Unit {0}
+nothing = tt
+
 -- where `why` is not 0, that number alone and everything as lent; else what is right
 abbrev pub call : {A B : Type 0} → ℕ → Left A B → B → Left A B
 call zero right lent = right
@@ -43,11 +47,15 @@ pub record Told (B : Type 0) : Type 0 where
 abbrev pub told : {B : Type 0} → ℕ → B → Told B
 told n b = record { number = n; lent = b }
 
-abbrev pub tells : {A B C : Type 0} → (A → B → C) → (B → C) → Page A → B → Told C
-tells bytes kept (refused why) b = told why (kept b)
-tells bytes kept (refusedAt why place) b = told why (kept b)
-tells bytes kept (answered a) b = told 0 (bytes a b)
+abbrev pub tells : {A B C : Type 0} → (A → B → C) → (ℕ → B → C) → (B → C) → Page A → B → Told C
+tells bytes beside kept (refused why) b = told why (kept b)
+tells bytes beside kept (refusedAt why place) b = told why (beside place b)
+tells bytes beside kept (answered a) b = told 0 (bytes a b)
 
--- a call as C reads it: `bytes` are those of an answer, `kept` those of a refusal
+-- a call as C reads it: `bytes` are those of an answer, `beside` those of a refusal with its place, `kept` those of one without
+abbrev pub readingAt : {A B C : Type 0} → (A → B → C) → (ℕ → B → C) → (B → C) → Left A B → Told C
+readingAt bytes beside kept l = tells bytes beside kept (l .page) (l .lent)
+
+-- a call that tells no place
 abbrev pub reading : {A B C : Type 0} → (A → B → C) → (B → C) → Left A B → Told C
-reading bytes kept l = tells bytes kept (l .page) (l .lent)
+reading bytes kept l = readingAt bytes (λ place. kept) kept l

@@ -8,6 +8,7 @@ use lib.ListN.{length, take, getD}
 use lib.Dec.{eqb, ltb}
 use Rattle.letters.specs.Over.{over}
 use Rattle.words.specs.Words.{wordAt, bytesIn}
+use Rattle.answer.specs.Answer.{threeWords, placeWords}
 use Rattle.refusal.specs.Numbers.{noState, wordsOdd}
 use Rattle.optext.specs.Answer.{Answer, found, refusal, refusalAt, writeAnswer, writeBytes}
 use Rattle.optext.specs.Words.{Reads}
@@ -44,7 +45,7 @@ left n b a = record { number = n; buffer = b; answer = a }
 -- ---- writing: the line's length and the words taken, then 0
 
 abbrev pub writtenIn : Answer → List ℕ → List ℕ → Left
-writtenIn (found l) e a = left 0 e (bytesIn (getD l 0 0 ∷ getD l 1 0 ∷ 0 ∷ []))
+writtenIn (found l) e a = left 0 e (threeWords (getD l 0 0) (getD l 1 0) 0)
 writtenIn (refusal r) e a = left r e a
 writtenIn (refusalAt r c) e a = left r e a
 
@@ -57,9 +58,9 @@ writeCall b t a =
 -- ---- reading: the number of words, then 0 and 0; or 0, 0 and the column. Bytes past the words that are read stay
 
 abbrev pub readIn : Answer → List ℕ → List ℕ → List ℕ → Left
-readIn (found l) e b a = left 0 (over (bytesIn (take (getD l 0 0) e)) b) (bytesIn (getD l 0 0 ∷ 0 ∷ 0 ∷ []))
+readIn (found l) e b a = left 0 (over (bytesIn (take (getD l 0 0) e)) b) (threeWords (getD l 0 0) 0 0)
 readIn (refusal r) e b a = left r b a
-readIn (refusalAt r c) e b a = left r b (bytesIn (0 ∷ 0 ∷ c ∷ []))
+readIn (refusalAt r c) e b a = left r b (placeWords c)
 
 -- what optext's reader answers to the text and the words lent, with the words e that it leaves
 pub record ReadWith (t b a : List ℕ) (x : Left) : Type 0 where

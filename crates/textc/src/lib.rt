@@ -14,6 +14,7 @@ ghost use Prim.Native.Nat.{_/_, _≤_, _<_};
 ghost use lib.ListN.{length, take};
 ghost use Rattle.letters.specs.Over.{over};
 ghost use Rattle.words.specs.Words.{bytesIn};
+ghost use Rattle.answer.specs.Answer.{threeWords, placeWords};
 ghost use Rattle.textc.specs.Calls as Spec;
 
 // The text's own refusals: no words, a needed next word is missing.
@@ -30,19 +31,12 @@ const AFTER_TEXT: u8 = 31;
 
 const EARLY_END: u8 = 32;
 
-// The bytes of the answer's three words.
-fn answer_bytes(a: u16, b: u16, c: u16) -> [u8; 6]
-    ensures { λ r. ⌜ r ≡ bytesIn (a ∷ b ∷ c ∷ []) ⌝ }
-{
-    [low(a), high(a), low(b), high(b), low(c), high(c)]
-}
-
+// The answer's three words.
 fn put_answer(answer: &mut [u8], a: usize, b: usize, c: usize)
     requires { ⌜ (length (now answer) ≡ 6) × (a < 65536) × (b < 65536) × (c < 65536) ⌝ }
-    ensures { λ _. ⌜ now (answer .exit) ≡ bytesIn (a ∷ b ∷ c ∷ []) ⌝ }
+    ensures { λ _. ⌜ now (answer .exit) ≡ threeWords a b c ⌝ }
 {
-    let from = answer_bytes(a as u16, b as u16, c as u16);
-    bytes::copy(&from, answer);
+    answer::put(answer, a as u16, b as u16, c as u16);
 }
 
 // How many of the first three words so many bytes have.
@@ -103,7 +97,7 @@ fn put_words(out: &mut [u8], w: u16, x: u16, y: u16, n: usize)
 // A refusal with its column.
 fn refused_at(answer: &mut [u8], column: usize, why: u8) -> u8
     requires { ⌜ (length (now answer) ≡ 6) × (column < 65536) ⌝ }
-    ensures { λ r. ⌜ (r ≡ why) × (now (answer .exit) ≡ bytesIn (0 ∷ 0 ∷ column ∷ [])) ⌝ }
+    ensures { λ r. ⌜ (r ≡ why) × (now (answer .exit) ≡ placeWords column) ⌝ }
 {
     put_answer(answer, 0, 0, column);
     why

@@ -1,5 +1,5 @@
--- How an assembly ends: refused under the number of the first refusal that applies, with its line, or with the section.
-use Prim.Native.Nat.{ℕ, _%_}
+-- How a call over a source ends: refused under the number of the first refusal that applies, with its line, or answered.
+use Prim.Native.Nat.{ℕ, zero, suc, _%_}
 use mathlib.Core.Bool.{Bool, true, false, cond}
 use mathlib.Core.List.{List, [], _∷_}
 use mathlib.Core.Path.{_≡_, refl, ap, sym, _∙_}
@@ -7,40 +7,56 @@ use native.Mathlib.Omega.{arith}
 use lib.Dec.{eqb, ltb}
 use lib.ListN.{length}
 use Rattle.refusal.specs.Numbers.{outputShort, sourceLines}
-use Rattle.refusal.specs.Page.{first}
+use Rattle.refusal.specs.Page.{refused, refusedAt, answered, Left, left, call, first}
 use Rattle.assembler.specs.declared.source.Fault.{Fault}
 use Rattle.assembler.specs.declared.source.Fault.the-variants.{Text, Given, Missing, Place, Far}
 use Rattle.assembler.specs.Source.{countOf, lowest}
-use Rattle.assembler.specs.Answer.{faults, numberOf, longestSection, refused, refusedAt, after, assembled, checked, asmOf, section, After}
-use Rattle.assembler.specs.Ends.{faultWhy, assembleWhy, tellsLine, FaultLine}
+use Rattle.assembler.specs.Answer.{faults, numberOf, sourceWhy, written, checked, longestSection, assembled, asmOf}
+use Rattle.assembler.specs.Labels.{labelsOf, labelFaults, mostLabels, labelsPage}
+use Rattle.assembler.specs.Ends.{faultWhy, assembleWhy, labelsWhy, tellsLine, FaultLine}
 
 -- under the number `why`: done; refused alone; refused with a line. A refusal leaves the output as lent
-pub data Ends (s out : List ℕ) (why : ℕ) (x : After) : Type 0 where
-  done : why ≡ 0 → (n : ℕ) → x .page ≡ section n → Ends s out why x
-  alone : (why ≡ 0 → ⊥) → tellsLine why ≡ false → x ≡ after (refused why) out → Ends s out why x
-  atLine : (line : ℕ) → FaultLine s why line → x ≡ after (refusedAt why line) out → Ends s out why x
+pub data Ends (s out : List ℕ) (why : ℕ) (x : Left ℕ (List ℕ)) : Type 0 where
+  done : why ≡ 0 → (n : ℕ) → x .page ≡ answered n → Ends s out why x
+  alone : (why ≡ 0 → ⊥) → tellsLine why ≡ false → x ≡ left (refused why) out → Ends s out why x
+  atLine : (line : ℕ) → FaultLine s why line → x ≡ left (refusedAt why line) out → Ends s out why x
 
-checked-ends : (fs : List Fault) (s out : List ℕ) → Ends s out (faultWhy fs s) (checked fs s out)
-unfolding faultWhy checked
-checked-ends [] s out = done refl (length (assembled s)) refl
-checked-ends (f ∷ fs) s out = by (ltb (lowest f s) (countOf s)) (checked-ends fs s out)
-  where
-    by : (has : Bool) → Ends s out (faultWhy fs s) (checked fs s out)
-        → Ends s out (cond has (numberOf f) (faultWhy fs s)) (cond has (after (refusedAt (numberOf f) (lowest f s)) out) (checked fs s out))
-    by true h = atLine (lowest f s) (record { fault = f; numberIs = refl; lineIs = refl }) refl
-    by false h = h
+module _ (s out bytes : List ℕ) where
+  checked-ends : (fs : List Fault) → Ends s out (faultWhy fs s) (checked fs s (written bytes out) out)
+  unfolding faultWhy checked
+  checked-ends [] = done refl (length bytes) refl
+  checked-ends (f ∷ fs) = by (ltb (lowest f s) (countOf s)) (checked-ends fs)
+    where
+      by : (has : Bool) → Ends s out (faultWhy fs s) (checked fs s (written bytes out) out)
+          → Ends s out (cond has (numberOf f) (faultWhy fs s)) (cond has (left (refusedAt (numberOf f) (lowest f s)) out) (checked fs s (written bytes out) out))
+      by true h = atLine (lowest f s) (record { fault = f; numberIs = refl; lineIs = refl }) refl
+      by false h = h
+
+  call-ends : (why later : ℕ) (right : Left ℕ (List ℕ)) → tellsLine why ≡ false → Ends s out later right → Ends s out (first why later) (call why right out)
+  call-ends zero later right t h = h
+  call-ends (suc why) later right t h = alone (λ z. omega (arith, z)) t refl
+
+  -- 10 and 36 tell no line
+  source-alone : (room size : ℕ) → tellsLine (sourceWhy room s size) ≡ false
+  unfolding sourceWhy
+  source-alone room size = by (ltb size room) (eqb (length s % 32) 0) (ltb 1024 (countOf s))
+    where
+      by : (short whole many : Bool) → tellsLine (first (cond short outputShort 0) (first (cond whole 0 sourceLines) (cond many sourceLines 0))) ≡ false
+      by true whole many = refl
+      by false false many = refl
+      by false true true = refl
+      by false true false = refl
+
+  source-ends : (room : ℕ) (fs : List Fault) → Ends s out (first (sourceWhy room s (length out)) (faultWhy fs s)) (call (sourceWhy room s (length out)) (checked fs s (written bytes out) out) out)
+  source-ends room fs = call-ends (sourceWhy room s (length out)) (faultWhy fs s) (checked fs s (written bytes out) out) (source-alone room (length out)) (checked-ends fs)
 
 pub assemble-ends : (s out : List ℕ) → Ends s out (assembleWhy s out) (asmOf s out)
-unfolding assembleWhy asmOf
-assemble-ends s out = by (ltb (length out) longestSection) (eqb (length s % 32) 0) (ltb 1024 (countOf s)) (checked-ends faults s out)
-  where
-    by : (short whole many : Bool) → Ends s out (faultWhy faults s) (checked faults s out)
-        → Ends s out (first (cond short outputShort 0) (first (cond whole 0 sourceLines) (first (cond many sourceLines 0) (faultWhy faults s))))
-        (cond short (after (refused outputShort) out) (cond whole (cond many (after (refused sourceLines) out) (checked faults s out)) (after (refused sourceLines) out)))
-    by true whole many h = alone (λ z. omega (arith, z)) refl refl
-    by false false many h = alone (λ z. omega (arith, z)) refl refl
-    by false true true h = alone (λ z. omega (arith, z)) refl refl
-    by false true false h = h
+unfolding asmOf
+assemble-ends s out = source-ends s out (assembled s) longestSection faults
+
+pub labels-ends : (s out : List ℕ) → Ends s out (labelsWhy s out) (labelsPage s out)
+unfolding labelsPage
+labels-ends s out = source-ends s out (labelsOf s) mostLabels labelFaults
 
 fault-tells : (f : Fault) → (numberOf f ≡ 0 → ⊥) × (tellsLine (numberOf f) ≡ true)
 fault-tells Text = (λ e. omega (arith, e), refl)

@@ -3,41 +3,33 @@ use mathlib.Core.Path.{_≡_, refl, ap, sym, _∙_}
 use mathlib.Core.Bool.{Bool, true, false, cond}
 use mathlib.Core.List.{List, [], _∷_}
 use mathlib.Core.Logic.{⊎-elim}
-use Prim.Native.Nat.{ℕ, _%_, _≤_, _<_}
+use Prim.Native.Nat.{ℕ, zero, suc, _%_, _≤_, _<_}
 use native.Mathlib.Omega.{arith}
-use lib.Dec.{ltb, eqb}
+use lib.Dec.{ltb}
 use borrow.Author.Tests.{ltb-false, le-ltb}
 use lib.ListN.{length}
-use Rattle.letters.specs.Over.{over}
 use Rattle.optext.specs.First.{firstFrom}
 use Rattle.optext.proofs.Laws.Choose.{lt-cases, first-hit}
 use Rattle.patchline.proofs.Laws.Search.{first-none}
 use Rattle.assembler.specs.Source.{countOf, misplaced, fails, lowest}
-use Rattle.assembler.specs.Answer.{section, refused, refusedAt, faults, After, after, assembled, checked, asmOf}
+use Rattle.refusal.specs.Page.{refusedAt, answered, Left, left, call}
+use Rattle.refusal.proofs.Laws.Page.{apart, answered-one}
+use Rattle.assembler.specs.Answer.{faults, sourceWhy, written, checked, longestSection, assembled, asmOf}
+use Rattle.assembler.proofs.Checked.{source-sound}
 use Rattle.assembler.specs.declared.source.Fault.{Fault}
 use Rattle.assembler.specs.declared.source.Fault.the-variants.{Text, Given, Missing, Place, Far}
 use Rattle.assembler.specs.Ends.{Right}
 
-apart : (why n : ℕ) → refused why ≡ section n → ⊥
-apart why n e = let z : _≡_ {A = ℕ} 0 1 = cc in omega arith
-
-apart-at : (why line n : ℕ) → refusedAt why line ≡ section n → ⊥
+apart-at : (why line n : ℕ) → refusedAt why line ≡ answered n → ⊥
 apart-at why line n e = let z : _≡_ {A = ℕ} 0 1 = cc in omega arith
 
-one-length : (m n : ℕ) → section m ≡ section n → m ≡ n
-one-length m n e = cc
-
-not-refused : (b : Bool) (why n : ℕ) (out : List ℕ) (a : After) → cond b (after (refused why) out) a .page ≡ section n → (b ≡ false) × (a .page ≡ section n)
-not-refused true why n out a e = absurd (apart why n e)
-not-refused false why n out a e = (refl, e)
-
-not-stopped : (b : Bool) (why line n : ℕ) (out : List ℕ) (a : After) → cond b (after (refusedAt why line) out) a .page ≡ section n → (b ≡ false) × (a .page ≡ section n)
+not-stopped : (b : Bool) (why line n : ℕ) (out : List ℕ) (a : Left ℕ (List ℕ)) → cond b (left (refusedAt why line) out) a .page ≡ answered n → (b ≡ false) × (a .page ≡ answered n)
 not-stopped true why line n out a e = absurd (apart-at why line n e)
 not-stopped false why line n out a e = (refl, e)
 
-whole-lines : (b : Bool) (why n : ℕ) (out : List ℕ) (a : After) → cond b a (after (refused why) out) .page ≡ section n → a .page ≡ section n
-whole-lines true why n out a e = e
-whole-lines false why n out a e = absurd (apart why n e)
+not-refused : (why n : ℕ) (right : Left ℕ (List ℕ)) (out : List ℕ) → call why right out .page ≡ answered n → (why ≡ 0) × (right .page ≡ answered n)
+not-refused zero n right out e = (refl, e)
+not-refused (suc why) n right out e = absurd (apart (sym e))
 
 -- not too many lines, each in its place, and the section's length
 pub record Good (s : List ℕ) (n : ℕ) : Type 0 where
@@ -46,28 +38,28 @@ pub record Good (s : List ℕ) (n : ℕ) : Type 0 where
   pub size : n ≡ length (assembled s)
 
 module _ (s out : List ℕ) (n : ℕ) where
-  passed : (f : Fault) (fs : List Fault) → checked (f ∷ fs) s out .page ≡ section n → (countOf s ≤ lowest f s) × (checked fs s out .page ≡ section n)
+  passed : (f : Fault) (fs : List Fault) → checked (f ∷ fs) s (written (assembled s) out) out .page ≡ answered n
+      → (countOf s ≤ lowest f s) × (checked fs s (written (assembled s) out) out .page ≡ answered n)
   unfolding checked
   passed f fs e =
-      let z = not-stopped (ltb (lowest f s) (countOf s)) _ _ n out (checked fs s out) e in
+      let z = not-stopped (ltb (lowest f s) (countOf s)) _ _ n out (checked fs s (written (assembled s) out) out) e in
       (ltb-false _ _ (z .0), z .1)
 
-  finished : checked [] s out .page ≡ section n → n ≡ length (assembled s)
+  finished : checked [] s (written (assembled s) out) out .page ≡ answered n → n ≡ length (assembled s)
   unfolding checked
-  finished e = sym (one-length _ _ e)
+  finished e = sym (answered-one e)
 
   each : countOf s ≤ lowest Place s → (k : ℕ) → k < countOf s → misplaced s k ≡ false
   unfolding lowest
   each h k l = first-none (fails Place s) (countOf s) k h l
 
-  lines : asmOf s out .page ≡ section n → (countOf s ≤ 1024) × (checked faults s out .page ≡ section n)
+  lines : asmOf s out .page ≡ answered n → (countOf s ≤ 1024) × (checked faults s (written (assembled s) out) out .page ≡ answered n)
   unfolding asmOf
   lines e =
-      let a = not-refused (ltb (length out) _) _ n out _ e in
-      let b = not-refused (ltb 1024 (countOf s)) _ n out _ (whole-lines (eqb (length s % 32) 0) _ n out _ (a .1)) in
-      (ltb-false _ _ (b .0), b .1)
+      let a = not-refused (sourceWhy longestSection s (length out)) n _ out e in
+      (source-sound longestSection s (length out) (a .0) .0, a .1)
 
-  pub good : asmOf s out .page ≡ section n → Good s n
+  pub good : asmOf s out .page ≡ answered n → Good s n
   unfolding faults
   good e =
       let a = lines e in
@@ -87,8 +79,8 @@ no-first f n h = ⊎-elim (λ l. absurd (differ (sym (first-hit f n 0 (omega (ar
     differ e = let z : _≡_ {A = ℕ} 0 1 = ap (λ (b : Bool). cond b 0 1) e in omega arith
 
 pub nothing-wrong : (s out : List ℕ) → 12290 ≤ length out → length s % 32 ≡ 0 → countOf s ≤ 1024 → ((i : ℕ) → i < countOf s → Right s i)
-    → asmOf s out ≡ after (section (length (assembled s))) (over (assembled s) out)
-unfolding asmOf faults checked lowest
+    → asmOf s out ≡ written (assembled s) out
+unfolding asmOf sourceWhy faults checked lowest
 nothing-wrong s out l w c r =
     rw (
       le-ltb (length out) 12290 l,

@@ -3,7 +3,7 @@ use native.Mathlib.Omega.{arith}
 use Rattle.assembler.specs.Answer.{faults}
 use Rattle.assembler.specs.declared.source.Fault.the-variants.{Text, Given, Missing, Place, Far}
 use Rattle.assembler.proofs.Sorted.{section-few}
-use Rattle.assembler.proofs.Checked.{stopped, passed, finished}
+use Rattle.assembler.proofs.Checked.{stopped, passed, finished, section-is}
 use borrow.Author.Needs.{needs}
 use Rattle.assembler.proofs.assemble_lines.Statement.{statement}
 use Rattle.assembler.proofs.assemble_lines.Tie as tie
@@ -22,7 +22,7 @@ unfolding faults
 returns c =
     let a = c .before .before .before .before .before .before .before .before .before .before .args in
     let e = c .before .before .before .before .before .before .before .count .ensures in
-    stopped (a .source .now) (a .out .now) _ e Text _ _ (c .before .lowest-line .ensures .0) (c .if1 .taken)
+    stopped (a .source .now) (a .out .now) _ _ e Text _ _ (c .before .lowest-line .ensures .0) (c .if1 .taken)
 
 lowest-line-requires-2 : tie.Need-lowest-line-requires-2
 lowest-line-requires-2 c κs = c .before .before .before .before .before .before .survey .ensures
@@ -35,8 +35,8 @@ unfolding faults
 returns-2 c =
     let a = c .before .before .before .before .before .before .before .before .before .before .before .before .before .before .args in
     let e = c .before .before .before .before .before .before .before .before .before .before .before .count .ensures in
-    stopped (a .source .now) (a .out .now) _ e Given _ _ (c .before .lowest-line2 .ensures .0) (c .if2 .taken)
-    ∙ passed (a .source .now) (a .out .now) _ e Text _ _ (c .before .before .before .before .before .lowest-line .ensures .0) (c .before .before .before .before .if1 .left)
+    stopped (a .source .now) (a .out .now) _ _ e Given _ _ (c .before .lowest-line2 .ensures .0) (c .if2 .taken)
+    ∙ passed (a .source .now) (a .out .now) _ _ e Text _ _ (c .before .before .before .before .before .lowest-line .ensures .0) (c .before .before .before .before .if1 .left)
 
 lowest-line-requires-3 : tie.Need-lowest-line-requires-3
 lowest-line-requires-3 c κs = c .before .before .before .before .before .before .before .before .before .before .survey .ensures
@@ -49,9 +49,9 @@ unfolding faults
 returns-3 c =
     let a = c .before .before .before .before .before .before .before .before .before .before .before .before .before .before .before .before .before .before .args in
     let e = c .before .before .before .before .before .before .before .before .before .before .before .before .before .before .before .count .ensures in
-    stopped (a .source .now) (a .out .now) _ e Missing _ _ (c .before .lowest-line3 .ensures .0) (c .if3 .taken)
-    ∙ passed (a .source .now) (a .out .now) _ e Given _ _ (c .before .before .before .before .before .lowest-line2 .ensures .0) (c .before .before .before .before .if2 .left)
-    ∙ passed (a .source .now) (a .out .now) _ e Text _ _ (c .before .before .before .before .before .before .before .before .before .lowest-line .ensures .0) (c .before .before .before .before .before .before .before .before .if1 .left)
+    stopped (a .source .now) (a .out .now) _ _ e Missing _ _ (c .before .lowest-line3 .ensures .0) (c .if3 .taken)
+    ∙ passed (a .source .now) (a .out .now) _ _ e Given _ _ (c .before .before .before .before .before .lowest-line2 .ensures .0) (c .before .before .before .before .if2 .left)
+    ∙ passed (a .source .now) (a .out .now) _ _ e Text _ _ (c .before .before .before .before .before .before .before .before .before .lowest-line .ensures .0) (c .before .before .before .before .before .before .before .before .if1 .left)
 
 lowest-line-requires-4 : tie.Need-lowest-line-requires-4
 lowest-line-requires-4 c κs = c .before .before .before .before .before .before .before .before .before .before .before .before .before .before .survey .ensures
@@ -64,10 +64,10 @@ unfolding faults
 returns-4 c =
     let a = c .before .before .before .before .before .before .before .before .before .before .before .before .before .before .before .before .before .before .before .before .before .before .args in
     let e = c .before .before .before .before .before .before .before .before .before .before .before .before .before .before .before .before .before .before .before .count .ensures in
-    stopped (a .source .now) (a .out .now) _ e Place _ _ (c .before .lowest-line4 .ensures .0) (c .if4 .taken)
-    ∙ passed (a .source .now) (a .out .now) _ e Missing _ _ (c .before .before .before .before .before .lowest-line3 .ensures .0) (c .before .before .before .before .if3 .left)
-    ∙ passed (a .source .now) (a .out .now) _ e Given _ _ (c .before .before .before .before .before .before .before .before .before .lowest-line2 .ensures .0) (c .before .before .before .before .before .before .before .before .if2 .left)
-    ∙ passed (a .source .now) (a .out .now) _ e Text _ _ (c .before .before .before .before .before .before .before .before .before .before .before .before .before .lowest-line .ensures .0) (c .before .before .before .before .before .before .before .before .before .before .before .before .if1 .left)
+    stopped (a .source .now) (a .out .now) _ _ e Place _ _ (c .before .lowest-line4 .ensures .0) (c .if4 .taken)
+    ∙ passed (a .source .now) (a .out .now) _ _ e Missing _ _ (c .before .before .before .before .before .lowest-line3 .ensures .0) (c .before .before .before .before .if3 .left)
+    ∙ passed (a .source .now) (a .out .now) _ _ e Given _ _ (c .before .before .before .before .before .before .before .before .before .lowest-line2 .ensures .0) (c .before .before .before .before .before .before .before .before .if2 .left)
+    ∙ passed (a .source .now) (a .out .now) _ _ e Text _ _ (c .before .before .before .before .before .before .before .before .before .before .before .before .before .lowest-line .ensures .0) (c .before .before .before .before .before .before .before .before .before .before .before .before .if1 .left)
 
 lowest-line-requires-5 : tie.Need-lowest-line-requires-5
 lowest-line-requires-5 c κs = c .before .before .before .before .before .before .before .before .before .before .before .before .before .before .before .before .before .before .survey .ensures
@@ -80,11 +80,11 @@ unfolding faults
 returns-5 c =
     let a = c .before .before .before .before .before .before .before .before .before .before .before .before .before .before .before .before .before .before .before .before .before .before .before .before .before .before .args in
     let e = c .before .before .before .before .before .before .before .before .before .before .before .before .before .before .before .before .before .before .before .before .before .before .before .count .ensures in
-    stopped (a .source .now) (a .out .now) _ e Far _ _ (c .before .lowest-line5 .ensures .0) (c .if5 .taken)
-    ∙ passed (a .source .now) (a .out .now) _ e Place _ _ (c .before .before .before .before .before .lowest-line4 .ensures .0) (c .before .before .before .before .if4 .left)
-    ∙ passed (a .source .now) (a .out .now) _ e Missing _ _ (c .before .before .before .before .before .before .before .before .before .lowest-line3 .ensures .0) (c .before .before .before .before .before .before .before .before .if3 .left)
-    ∙ passed (a .source .now) (a .out .now) _ e Given _ _ (c .before .before .before .before .before .before .before .before .before .before .before .before .before .lowest-line2 .ensures .0) (c .before .before .before .before .before .before .before .before .before .before .before .before .if2 .left)
-    ∙ passed (a .source .now) (a .out .now) _ e Text _ _ (c .before .before .before .before .before .before .before .before .before .before .before .before .before .before .before .before .before .lowest-line .ensures .0) (c .before .before .before .before .before .before .before .before .before .before .before .before .before .before .before .before .if1 .left)
+    stopped (a .source .now) (a .out .now) _ _ e Far _ _ (c .before .lowest-line5 .ensures .0) (c .if5 .taken)
+    ∙ passed (a .source .now) (a .out .now) _ _ e Place _ _ (c .before .before .before .before .before .lowest-line4 .ensures .0) (c .before .before .before .before .if4 .left)
+    ∙ passed (a .source .now) (a .out .now) _ _ e Missing _ _ (c .before .before .before .before .before .before .before .before .before .lowest-line3 .ensures .0) (c .before .before .before .before .before .before .before .before .if3 .left)
+    ∙ passed (a .source .now) (a .out .now) _ _ e Given _ _ (c .before .before .before .before .before .before .before .before .before .before .before .before .before .lowest-line2 .ensures .0) (c .before .before .before .before .before .before .before .before .before .before .before .before .if2 .left)
+    ∙ passed (a .source .now) (a .out .now) _ _ e Text _ _ (c .before .before .before .before .before .before .before .before .before .before .before .before .before .before .before .before .before .lowest-line .ensures .0) (c .before .before .before .before .before .before .before .before .before .before .before .before .before .before .before .before .if1 .left)
 
 place-all-requires : tie.Need-place-all-requires
 place-all-requires c κs = (c .before .before .before .before .before .before .before .before .before .before .before .before .before .before .before .before .before .before .before .before .before .before .survey .ensures .0, search needs)
@@ -100,12 +100,12 @@ unfolding faults
 returns-6 c =
     let a = c .before .before .before .before .before .before .before .before .before .before .before .before .before .before .before .before .before .before .before .before .before .before .before .before .before .before .before .before .before .before .before .before .before .before .args in
     let e = c .before .before .before .before .before .before .before .before .before .before .before .before .before .before .before .before .before .before .before .before .before .before .before .before .before .before .before .before .before .before .before .count .ensures in
-    finished (a .source .now) (a .out .now) (c .before .before .before .before .before .place-all .last .1 .1 .0) _ (c .before .before .before .before .before .place-all .result) _ (c .before .before .before .before .before .place-all .ensures .0) (c .before .before .put-section .ensures)
-    ∙ passed (a .source .now) (a .out .now) _ e Far _ _ (c .before .before .before .before .before .before .before .before .before .lowest-line5 .ensures .0) (c .before .before .before .before .before .before .before .before .if5 .left)
-    ∙ passed (a .source .now) (a .out .now) _ e Place _ _ (c .before .before .before .before .before .before .before .before .before .before .before .before .before .lowest-line4 .ensures .0) (c .before .before .before .before .before .before .before .before .before .before .before .before .if4 .left)
-    ∙ passed (a .source .now) (a .out .now) _ e Missing _ _ (c .before .before .before .before .before .before .before .before .before .before .before .before .before .before .before .before .before .lowest-line3 .ensures .0) (c .before .before .before .before .before .before .before .before .before .before .before .before .before .before .before .before .if3 .left)
-    ∙ passed (a .source .now) (a .out .now) _ e Given _ _ (c .before .before .before .before .before .before .before .before .before .before .before .before .before .before .before .before .before .before .before .before .before .lowest-line2 .ensures .0) (c .before .before .before .before .before .before .before .before .before .before .before .before .before .before .before .before .before .before .before .before .if2 .left)
-    ∙ passed (a .source .now) (a .out .now) _ e Text _ _ (c .before .before .before .before .before .before .before .before .before .before .before .before .before .before .before .before .before .before .before .before .before .before .before .before .before .lowest-line .ensures .0) (c .before .before .before .before .before .before .before .before .before .before .before .before .before .before .before .before .before .before .before .before .before .before .before .before .if1 .left)
+    finished (a .source .now) (a .out .now) _ _ _ (section-is (a .source .now) (a .out .now) (c .before .before .before .before .before .place-all .last .1 .1 .0) _ (c .before .before .before .before .before .place-all .result) _ (c .before .before .before .before .before .place-all .ensures .0) (c .before .before .put-section .ensures))
+    ∙ passed (a .source .now) (a .out .now) _ _ e Far _ _ (c .before .before .before .before .before .before .before .before .before .lowest-line5 .ensures .0) (c .before .before .before .before .before .before .before .before .if5 .left)
+    ∙ passed (a .source .now) (a .out .now) _ _ e Place _ _ (c .before .before .before .before .before .before .before .before .before .before .before .before .before .lowest-line4 .ensures .0) (c .before .before .before .before .before .before .before .before .before .before .before .before .if4 .left)
+    ∙ passed (a .source .now) (a .out .now) _ _ e Missing _ _ (c .before .before .before .before .before .before .before .before .before .before .before .before .before .before .before .before .before .lowest-line3 .ensures .0) (c .before .before .before .before .before .before .before .before .before .before .before .before .before .before .before .before .if3 .left)
+    ∙ passed (a .source .now) (a .out .now) _ _ e Given _ _ (c .before .before .before .before .before .before .before .before .before .before .before .before .before .before .before .before .before .before .before .before .before .lowest-line2 .ensures .0) (c .before .before .before .before .before .before .before .before .before .before .before .before .before .before .before .before .before .before .before .before .if2 .left)
+    ∙ passed (a .source .now) (a .out .now) _ _ e Text _ _ (c .before .before .before .before .before .before .before .before .before .before .before .before .before .before .before .before .before .before .before .before .before .before .before .before .before .lowest-line .ensures .0) (c .before .before .before .before .before .before .before .before .before .before .before .before .before .before .before .before .before .before .before .before .before .before .before .before .if1 .left)
 
 pub assemble-lines-spec : {M : Type 1} → statement M
 assemble-lines-spec =

@@ -1,29 +1,30 @@
 use mathlib.Core.Path.{sym, _∙_}
 use lib.ListN.{length}
-use Rattle.assembler.proofs.Laws.Labels.{labels-sound, labels-refused, labels-answered}
+use Rattle.assembler.proofs.Laws.Labels.{labels-refused, labels-answered}
+use Rattle.assembler.proofs.Checked.{source-sound}
 use borrow.Author.Needs.{needs}
 use Rattle.assembler.proofs.labels.Statement.{statement}
 use Rattle.assembler.proofs.labels.Tie as tie
 use Rattle.assembler.proofs.labels.Reads as reads
 use Rattle.assembler.proofs.labels.Lts as lts
 use Rattle.assembler.proofs.labelling.label_lines.Reads as label-lines-reads
-use Rattle.assembler.proofs.labels_refusal.Reads as labels-refusal-reads
+use Rattle.assembler.proofs.source_refusal.Reads as source-refusal-reads
 
-labels-refusal-requires : tie.Need-labels-refusal-requires
-labels-refusal-requires c κs = search needs
+source-refusal-requires : tie.Need-source-refusal-requires
+source-refusal-requires c κs = search needs
 
 returns : tie.Need-returns
-returns c = labels-refused (c .before .before .before .before .args .source .now) (c .before .before .before .before .args .out .now) _ (c .before .labels-refusal .ensures) (c .if1 .taken)
+returns c = labels-refused (c .before .before .before .before .args .source .now) (c .before .before .before .before .args .out .now) _ (c .before .source-refusal .ensures) (c .if1 .taken)
 
 label-lines-requires : tie.Need-label-lines-requires
-label-lines-requires c κs = let k = labels-sound (c .before .before .before .before .before .args .source .now) (length (c .before .before .before .before .before .args .out .now)) (sym (c .before .before .labels-refusal .ensures) ∙ c .before .if1 .left) in (k .1, k .0)
+label-lines-requires c κs = source-sound _ (c .before .before .before .before .before .args .source .now) (length (c .before .before .before .before .before .args .out .now)) (sym (c .before .before .source-refusal .ensures) ∙ c .before .if1 .left)
 
 same-length : tie.Need-same-length
 same-length c = search needs
 
 returns-2 : tie.Need-returns-2
-returns-2 c = labels-answered (c .before .before .before .before .before .before .before .before .args .source .now) (c .before .before .before .before .before .before .before .before .args .out .now) _ (sym (c .before .before .before .before .before .labels-refusal .ensures) ∙ c .before .before .before .before .if1 .left) (c .before .before .label-lines .ensures)
+returns-2 c = labels-answered (c .before .before .before .before .before .before .before .before .args .source .now) (c .before .before .before .before .before .before .before .before .args .out .now) _ (sym (c .before .before .before .before .before .source-refusal .ensures) ∙ c .before .before .before .before .if1 .left) (c .before .before .label-lines .ensures)
 
 pub labels-spec : {M : Type 1} → statement M
 labels-spec =
-    tie.close (tie.spec labels-refusal-requires returns label-lines-requires same-length returns-2)
+    tie.close (tie.spec source-refusal-requires returns label-lines-requires same-length returns-2)

@@ -23,7 +23,7 @@ module _ {A C D : Type 0} (bytes : A → List ℕ → C) (kept : List ℕ → C)
   abbrev BothBlind : Told C → Told C → Type 0
   BothBlind v w = Blind {A = D} map m n (rest (v .number) (v .lent)) (rest (w .number) (w .lent)) (image (v .lent)) (image (w .lent))
 
-  page-blind : (p : Page A) (k l : List ℕ) → Agree map k l → Untouched map m k → Untouched map n l → BothBlind (tells bytes kept p k) (tells bytes kept p l)
+  page-blind : (p : Page A) (k l : List ℕ) → Agree map k l → Untouched map m k → Untouched map n l → BothBlind (tells bytes (λ place. kept) kept p k) (tells bytes (λ place. kept) kept p l)
   page-blind (answered a) k l h i j = rw (own a k, own a l) (record { answer = same 0 a k l; fittedAgree = h; unfittedStay = i; unfittedStayToo = j })
   page-blind (refused why) k l h i j = rw (ownKept k, ownKept l) (record { answer = sameKept why k l; fittedAgree = h; unfittedStay = i; unfittedStayToo = j })
   page-blind (refusedAt why place) k l h i j = rw (ownKept k, ownKept l) (record { answer = sameKept why k l; fittedAgree = h; unfittedStay = i; unfittedStayToo = j })

@@ -1,5 +1,6 @@
 -- The theorems that specs/Demand3.antt states.
-use Prim.Native.Nat.{ℕ}
+use Prim.Native.Nat.{ℕ, zero, suc}
+use native.Mathlib.Omega.{arith}
 use mathlib.Core.Bool.{cond}
 use mathlib.Core.List.{List}
 use mathlib.Core.Path.{_≡_, refl, sym, ap, _∙_}
@@ -10,23 +11,33 @@ use Rattle.state.specs.declared.Settings.{Settings}
 use Rattle.state.specs.State.{heard}
 use Rattle.step.specs.Step.{After, stepOf}
 use Rattle.refusal.specs.Numbers.{noState}
-use Rattle.refusal.specs.Page.{answered, left}
+use Rattle.words.specs.Words.{wordAt}
+use Rattle.refusal.specs.Page.{answered, Left, left, call, Told, reading}
+use Rattle.answer.specs.Answer.{answerWhy, answering}
 use Rattle.refusal.proofs.Laws.Page.{answered-one}
 use Rattle.machine.specs.Numbers.{TurnPage, turnPage}
 use Rattle.machine.specs.Entry.{poweredPage, powerUpPage, steppedPage, stepPage, finishedPage, runPage}
+use Rattle.machine.specs.Same.{runSamePage}
+use Rattle.machine.specs.Until.{stoppedPage, runUntilPage}
 use Rattle.machine.proofs.Laws.Back.{powered-one, stepped-one, finished-one}
 use Rattle.machine.proofs.Laws.Blind.{blind, power-same, power-kept, step-same, step-kept, run-same, run-kept}
 use Rattle.firmware.specs.Layout.{stateFrom, settingsFrom, refusedUp, refusedStep, refusedRun}
 use Rattle.firmware.specs.Calls.{upIn, stepIn, runIn, powerUpCall, stepCall, runCall}
+use Rattle.firmware.specs.Runs.{untilFrom, refusedUntil, stopIn, runSameCall, runUntilCall}
+use Rattle.job.specs.Job.{linesAt, buffersOf, whyRead, jobOf}
+use Rattle.job.proofs.Laws.{one-answer}
+use Rattle.job_c.specs.Calls.{Buffers, readIn, readCall}
+use Rattle.listing_c.specs.Calls.{lineWords, listCall}
 use Rattle.listing.proofs.Laws.Calls.{one-listed}
 use Rattle.listing.proofs.Laws.Alike.{call-alike}
 use Rattle.trace.specs.Trace.{verdictOf, verdictPage, whyCheck, buffersAfter, checkOf, whyMake, madeOf, makeOf}
 use Rattle.trace.proofs.Laws.Right.{checked-one, made-one}
 use Rattle.demands.proofs.Laws.Pages.{same-call}
 use Rattle.demands.proofs.Laws.Calls.{call-blind}
+use Rattle.demands.proofs.Laws.Runs.{same-same, same-kept, until-same, until-kept, stopped-one}
 use Rattle.demands.proofs.Laws.Blanks.{blanked, fitted, counted}
 use Rattle.demands.proofs.Laws.Demand2.{step-is, run-is, wd16-step-is, wd16-run-is}
-use Rattle.demands.specs.Demand3.{PowerUpBlind, StepBlind, RunBlind, Wd16PowerUpBlind, Wd16StepBlind, Wd16RunBlind, ListLineBlind, CheckBlind, MakeBlind, StepBlanked, StepFitted, Wd16StepBlanked, Wd16StepFitted, RunCounted, Wd16RunCounted}
+use Rattle.demands.specs.Demand3.{PowerUpBlind, StepBlind, RunBlind, RunSameBlind, RunUntilBlind, Wd16PowerUpBlind, Wd16StepBlind, Wd16RunBlind, Wd16RunSameBlind, Wd16RunUntilBlind, ListLineBlind, Wd16ListLineBlind, JobBlind, Wd16ReadJobBlind, CheckBlind, MakeBlind, StepBlanked, StepFitted, Wd16StepBlanked, Wd16StepFitted, RunCounted, Wd16RunCounted}
 
 -- ---- TWO CALLS OVER IMAGES THAT AGREE ON FITTED BYTES: the same answer, fitted bytes that agree again, and every byte that
 -- can't be written, of an unfitted or a read-only page, as lent
@@ -40,6 +51,12 @@ module _ (settings : Settings) (map m n : List ℕ) (l : length m ≡ length n) 
 
   pub run-blind : RunBlind settings map m n l g
   run-blind lines s r q m′ n′ e d = blind finishedPage r q (finished-one r q) e d (run-same settings map lines s m n l g) (run-kept settings map lines s m) (run-kept settings map lines s n)
+
+  pub run-same-blind : RunSameBlind settings map m n l g
+  run-same-blind line k s r q m′ n′ e d = blind finishedPage r q (finished-one r q) e d (same-same settings map line k s m n l g) (same-kept settings map line k s m) (same-kept settings map line k s n)
+
+  pub run-until-blind : RunUntilBlind settings map m n l g
+  run-until-blind lines u s r q m′ n′ e d = blind stoppedPage r q (stopped-one r q) e d (until-same settings map lines u s m n l g) (until-kept settings map lines u s m) (until-kept settings map lines u s n)
 
 -- the same for C: the number, the state's bytes, the tally's; w are the settings' bytes
 module _ (w map m n : List ℕ) (l : length m ≡ length n) (g : Agree map m n) where
@@ -61,13 +78,66 @@ module _ (w map m n : List ℕ) (l : length m ≡ length n) (g : Agree map m n) 
       rw (ap (λ z. z .number) e, ap (λ z. z .lent .0) e, ap (λ z. z .lent .1) e, ap (λ z. z .lent .2) e, ap (λ z. z .number) d, ap (λ z. z .lent .0) d, ap (λ z. z .lent .1) d, ap (λ z. z .lent .2) d)
       (call-blind runIn (λ k. (b, t, k)) (λ r z. (r, z .0, z .1)) (λ z. z .2) (λ r a k l. refl) (λ a k. refl) (λ r k l. refl) (λ k. refl) map m n g (cond (refusedRun b t w) noState 0) (runPage (settingsFrom w) m map lines (stateFrom b)) (runPage (settingsFrom w) n map lines (stateFrom b)) (run-same (settingsFrom w) map lines (stateFrom b) m n l g) (run-kept (settingsFrom w) map lines (stateFrom b) m) (run-kept (settingsFrom w) map lines (stateFrom b) n))
 
+  pub wd16-run-same-blind : Wd16RunSameBlind w map m n l g
+  unfolding runSameCall
+  wd16-run-same-blind b t line steps k j b₁ b₂ t₁ t₂ m′ n′ e d =
+      rw (ap (λ z. z .number) e, ap (λ z. z .lent .0) e, ap (λ z. z .lent .1) e, ap (λ z. z .lent .2) e, ap (λ z. z .number) d, ap (λ z. z .lent .0) d, ap (λ z. z .lent .1) d, ap (λ z. z .lent .2) d)
+      (call-blind runIn (λ k. (b, t, k)) (λ r z. (r, z .0, z .1)) (λ z. z .2) (λ r a k l. refl) (λ a k. refl) (λ r k l. refl) (λ k. refl) map m n g (cond (refusedRun b t w) noState 0) (runSamePage (settingsFrom w) m map line steps (stateFrom b)) (runSamePage (settingsFrom w) n map line steps (stateFrom b)) (same-same (settingsFrom w) map line steps (stateFrom b) m n l g) (same-kept (settingsFrom w) map line steps (stateFrom b) m) (same-kept (settingsFrom w) map line steps (stateFrom b) n))
+
+  pub wd16-run-until-blind : Wd16RunUntilBlind w map m n l g
+  unfolding runUntilCall
+  wd16-run-until-blind b t lines asked k j b₁ b₂ t₁ t₂ m′ n′ e d =
+      rw (ap (λ z. z .number) e, ap (λ z. z .lent .0) e, ap (λ z. z .lent .1) e, ap (λ z. z .lent .2) e, ap (λ z. z .number) d, ap (λ z. z .lent .0) d, ap (λ z. z .lent .1) d, ap (λ z. z .lent .2) d)
+      (call-blind stopIn (λ k. (b, t, k)) (λ r z. (r, z .0, z .1)) (λ z. z .2) (λ r a k l. refl) (λ a k. refl) (λ r k l. refl) (λ k. refl) map m n g (cond (refusedUntil b t w asked) noState 0) (runUntilPage (settingsFrom w) m map lines (untilFrom asked) (stateFrom b)) (runUntilPage (settingsFrom w) n map lines (untilFrom asked) (stateFrom b)) (until-same (settingsFrom w) map lines (untilFrom asked) (stateFrom b) m n l g) (until-kept (settingsFrom w) map lines (untilFrom asked) (stateFrom b) m) (until-kept (settingsFrom w) map lines (untilFrom asked) (stateFrom b) n))
+
 pub list-line-blind : ListLineBlind
 list-line-blind map m n l g a last text r q text₁ text₂ e d = one-listed n map a last text text₁ text₂ r q (e ∙ call-alike map m n g last l a text) d
 
--- ---- A TRACE IS OF A JOB, which fills the lent image, the map and the line words from its own bytes: whatever stands in them before,
+pub wd16-list-line-blind : Wd16ListLineBlind
+unfolding listCall
+wd16-list-line-blind map m n l g x last text a k j text₁ text₂ a₁ a₂ e d =
+    let h = e ∙ ap (λ z. answering lineWords a (call (answerWhy a) z text)) (call-alike map m n g last l x text) ∙ sym d in
+    (ap (λ z. z .number) h, ap (λ z. z .lent .0) h, ap (λ z. z .lent .1) h)
+
+-- ---- A JOB FILLS the lent image, the map and the line words from its own bytes, and a trace is of a job: whatever stands in them before,
 -- the answer is the same, and where nothing is refused, so is what is left in them
 
+module _ (a : List ℕ) where
+  abbrev kept : List ℕ × List ℕ × List ℕ → Buffers
+  kept l = (l .0, l .1, l .2, a)
+
+  job-read : (bad why : ℕ) (right : Left ℕ (List ℕ × List ℕ × List ℕ)) (x y : List ℕ × List ℕ × List ℕ) {v w : Told Buffers}
+      → v ≡ reading readIn kept (call bad (call why right x) x) → w ≡ reading readIn kept (call bad (call why right y) y)
+      → (v .number ≡ w .number) × (v .lent .3 ≡ w .lent .3) × (v .number ≡ 0 → v ≡ w)
+  job-read zero zero right x y e d = let h = e ∙ sym d in (ap (λ z. z .number) h, ap (λ z. z .lent .3) h, λ n. h)
+  job-read zero (suc why) right x y e d = (
+    ap (λ z. z .number) e ∙ sym (ap (λ z. z .number) d),
+    ap (λ z. z .lent .3) e ∙ sym (ap (λ z. z .lent .3) d),
+    λ n. absurd (omega (arith, ap (λ z. z .number) e, n)),
+  )
+  job-read (suc bad) why right x y e d = (
+    ap (λ z. z .number) e ∙ sym (ap (λ z. z .number) d),
+    ap (λ z. z .lent .3) e ∙ sym (ap (λ z. z .lent .3) d),
+    λ n. absurd (omega (arith, ap (λ z. z .number) e, n)),
+  )
+
 module _ (input i₁ i₂ m₁ m₂ l₁ l₂ : List ℕ) (hi : length i₁ ≡ length i₂) (hm : length m₁ ≡ length m₂) (hl : length l₁ ≡ length l₂) where
+  pub job-blind : JobBlind input i₁ i₂ m₁ m₂ l₁ l₂ hi hm hl
+  unfolding jobOf
+  job-blind r q i₁′ m₁′ l₁′ i₂′ m₂′ l₂′ e d =
+      let why = whyRead (length i₁) (length m₁) (length l₁) input in
+      let right = left (answered (wordAt input (linesAt input))) (buffersOf input) in
+      let h = same-call {C = ℕ} (λ z. 0) why right (i₁, m₁, l₁) (i₂, m₂, l₂) refl e (rw (← hi, ← hm, ← hl) at d) in
+      (one-answer r q (h .0), λ z. (ap (λ z. z .lent .0) (h .2 z), ap (λ z. z .lent .1) (h .2 z), ap (λ z. z .lent .2) (h .2 z)))
+
+  pub wd16-read-job-blind : Wd16ReadJobBlind input i₁ i₂ m₁ m₂ l₁ l₂ hi hm hl
+  unfolding readCall jobOf
+  wd16-read-job-blind a k j i₁′ m₁′ l₁′ a₁ i₂′ m₂′ l₂′ a₂ e d =
+      let why = whyRead (length i₁) (length m₁) (length l₁) input in
+      let right = left (answered (wordAt input (linesAt input))) (buffersOf input) in
+      let h = job-read a (answerWhy a) why right (i₁, m₁, l₁) (i₂, m₂, l₂) e (rw (← hi, ← hm, ← hl) at d) in
+      (h .0, h .1, λ z. (ap (λ z. z .lent .0) (h .2 z), ap (λ z. z .lent .1) (h .2 z), ap (λ z. z .lent .2) (h .2 z)))
+
   pub check-blind : CheckBlind input i₁ i₂ m₁ m₂ l₁ l₂ hi hm hl
   unfolding checkOf
   check-blind t r q i₁′ m₁′ l₁′ i₂′ m₂′ l₂′ e d =

@@ -16,7 +16,8 @@ use Rattle.optext.specs.Line.{taken, textOf, wordText}
 use Rattle.optext.specs.Column.{Column, Why, early, after, name, operand}
 use Rattle.optext.specs.Words.{Reads}
 use Rattle.textc.specs.Calls.{wordsIn, odd, Left, left, writtenIn, readIn, ReadEven, ReadLent}
-use Rattle.demands.specs.Terms.{Numbered, OrPlace, numberAlone, placeToo, placeBytes, numberOf, writeWhy, roomWhy, isText, noText, Reading, tellsColumn}
+use Rattle.answer.specs.Answer.{placeWords}
+use Rattle.demands.specs.Terms.{Numbered, OrPlace, numberAlone, placeToo, numberOf, writeWhy, roomWhy, isText, noText, Reading, tellsColumn}
 
 -- ---- writing
 
@@ -92,7 +93,7 @@ reads-numbered t ws e (refusalAt r c) p = rw (le-ltb (length ws) 3 (p .room)) (r
 -- for C: the words' bytes as lent, and the answer's, but for a column
 module _ (t b a : List ℕ) where
   abbrev sameRead : Left → Type 0
-  sameRead x = (x .buffer ≡ b) × OrPlace (tellsColumn (x .number)) (Column t) a placeBytes (x .answer)
+  sameRead x = (x .buffer ≡ b) × OrPlace (tellsColumn (x .number)) (Column t) a placeWords (x .answer)
 
   lent-read : (why : ℕ) (x : Left) → (why ≡ 0 → ⊥) → tellsColumn why ≡ false → x ≡ left why b a → Reading why t (x .number) (sameRead x)
   lent-read why x n h e = lent-reading n (ap (λ z. z .number) e ∙ first-some why 0 n) (ap (λ z. z .buffer) e, numberAlone (ap (λ z. tellsColumn (z .number)) e ∙ h) (ap (λ z. z .answer) e))

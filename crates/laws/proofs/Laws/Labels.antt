@@ -28,7 +28,8 @@ use Rattle.step.proofs.Laws.Late.{begins}
 use Rattle.patchline.specs.Line.{isBranch, ahead, behind}
 use Rattle.laws.specs.Branches.{lines, whenIn}
 use Rattle.laws.proofs.Laws.Branches.{plate-five, branches-as-printed}
-use Rattle.laws.proofs.Laws.Marked.{Below, below, code-work, plain-run}
+use Rattle.codes.proofs.Laws.Past.{Below, below}
+use Rattle.laws.proofs.Laws.Marked.{code-work, plain-run}
 use Rattle.laws.proofs.Laws.Mark.{turn-is}
 use Rattle.laws.specs.Labels.{BranchComes, SobComes, JumpComes, OperandStands, BranchesArePlates}
 

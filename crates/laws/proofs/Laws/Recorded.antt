@@ -10,8 +10,9 @@ use borrow.Author.Tests.{ltb-true}
 use Rattle.words.specs.Words.{wordAt}
 use Rattle.state.specs.declared.State.{State}
 use Rattle.state.specs.declared.Settings.{Settings}
-use Rattle.refusal.specs.Page.{answered, refused, unless}
-use Rattle.refusal.proofs.Laws.Page.{apart, answered-one}
+use Rattle.refusal.specs.Page.{refused, answered, left, call, nothing, told, reading}
+use Rattle.refusal.specs.Page as Page
+use Rattle.refusal.proofs.Laws.Page.{apart, answered-one, call-right}
 use Rattle.machine.specs.declared.Tally.{Tally}
 use Rattle.machine.specs.Run.{End, end}
 use Rattle.plugs.specs.declared.Channel.{Channel}
@@ -24,16 +25,17 @@ use Rattle.plugs.proofs.Laws.Sum.{report-sum}
 use Rattle.recorder.specs.declared.Recorder.{Recorder}
 use Rattle.recorder.specs.declared.Reported.{Reported}
 use Rattle.recorder.specs.declared.Reported.the-variants as Reported
-use Rattle.recorder.specs.Scan.{After, after, ended, scanWhy, scanRun, scanDone, scanOf, reportedPage, reportPage}
+use Rattle.recorder.specs.Scan.{tallyPage, plugPage, ended, scanWhy, scanRun, scanDone, scanOf, reportedPage, reportPage}
+use Rattle.recorder.proofs.Laws.Blind.{plug-one}
 use Rattle.recorder.proofs.Laws.Record.{at-range}
 use Rattle.recorder.proofs.Laws.Sound.{scan-sound}
 use Rattle.lentrecorder.specs.Layout.{channelsFrom, reportBytes, recorderBytes, recorderFrom, plugsAt, plugFrom, plugsFrom, seenFrom, reportsBytes, scansBytes, refusedScan, refusedReport}
-use Rattle.lentrecorder.specs.Calls.{scanned, scanOn, scanCall, told, reportCall}
+use Rattle.lentrecorder.specs.Calls.{Buffers, scanIn, scanCall, reportCall}
 use Rattle.lentrecorder.proofs.Laws.Again.{Told, AllTold, no, one, report-told, report-length, recorder-again}
 use Rattle.laws.specs.Recorded.{inState, Recorded, fresh, Reads, Reports, ScansReported, ScansCounted, Lent, zeros, Wd16ScansReported}
 use Rattle.lentrecorder.proofs.Laws.Sound.{sixteen}
 use Rattle.firmware.specs.Layout.{stateFrom, settingsFrom}
-use Rattle.refusal.specs.Numbers.{noState, noChannel}
+use Rattle.refusal.specs.Numbers.{noState}
 use Rattle.laws.specs.Recorded as Spec
 
 -- ---- one scan more, behind the others
@@ -107,30 +109,28 @@ module _ (r : Recorder) (channels : List Channel) (m map : List ℕ) (settings :
     pub room : r .scans < 4096
     pub range : allOf inRange channels ≡ true
 
-  scan-done : (r′ : Recorder) (t : Tally) (m′ : List ℕ) → after r′ (answered t) m′ ≡ scanOf r channels m map settings lines → Done r′
+  scan-done : (r′ : Recorder) (t : Tally) (m′ : List ℕ) → left (answered (tallyPage t)) (r′, m′) ≡ scanOf r channels m map settings lines → Done r′
   unfolding scanOf scanDone
-  scan-done r′ t m′ e = by (scanWhy r channels m map settings lines) refl e
+  scan-done r′ t m′ e =
+      let x = scanRun r channels m map settings lines in
+      let h = call-right (scanWhy r channels m map settings lines) (ended r channels x) (r, m) e in
+      let known = scan-sound (r .scans) channels (length m) map settings lines (h .0) in
+      let is = at x (h .1) in
+      record { scans = is .0; plugs = is .1; room = known .room; range = known .range }
     where
-      at : (x : End) → after r′ (answered t) m′ ≡ ended r channels x → (r′ .scans ≡ r .scans + 1) × (r′ .plugs ≡ noteAll (r .plugs) channels)
-      at (end s n y) e = (ap (λ z. z .recorder .scans) e, ap (λ z. z .recorder .plugs) e)
+      at : (x : End) → left (answered (tallyPage t)) (r′, m′) ≡ ended r channels x → (r′ .scans ≡ r .scans + 1) × (r′ .plugs ≡ noteAll (r .plugs) channels)
+      at (end s n y) e = (ap (λ z. z .lent .0 .scans) e, ap (λ z. z .lent .0 .plugs) e)
 
-      by : (why : ℕ) → scanWhy r channels m map settings lines ≡ why → after r′ (answered t) m′ ≡ unless why (scanDone r channels m map settings lines) (after r (refused why) m) → Done r′
-      by zero h e =
-          let known = scan-sound (r .scans) channels (length m) map settings lines h in
-          let is = at (scanRun r channels m map settings lines) e in
-          record { scans = is .0; plugs = is .1; room = known .room; range = known .range }
-      by (suc why) h e = absurd (apart (ap (λ z. z .page) e))
-
-  scan-refused : (r′ : Recorder) (why : ℕ) (m′ : List ℕ) → after r′ (refused why) m′ ≡ scanOf r channels m map settings lines → r′ ≡ r
+  scan-refused : (r′ : Recorder) (why : ℕ) (m′ : List ℕ) → left (refused why) (r′, m′) ≡ scanOf r channels m map settings lines → r′ ≡ r
   unfolding scanOf scanDone
   scan-refused r′ why m′ e = by (scanWhy r channels m map settings lines) e
     where
-      at : (x : End) → after r′ (refused why) m′ ≡ ended r channels x → r′ ≡ r
+      at : (x : End) → left (refused why) (r′, m′) ≡ ended r channels x → r′ ≡ r
       at (end s n y) e = absurd (apart (sym (ap (λ z. z .page) e)))
 
-      by : (n : ℕ) → after r′ (refused why) m′ ≡ unless n (scanDone r channels m map settings lines) (after r (refused n) m) → r′ ≡ r
+      by : (n : ℕ) → left (refused why) (r′, m′) ≡ call n (scanDone r channels m map settings lines) (r, m) → r′ ≡ r
       by zero e = at (scanRun r channels m map settings lines) e
-      by (suc n) e = ap (λ z. z .recorder) e
+      by (suc n) e = ap (λ z. z .lent .0) e
 
 held-is : {n n′ : ℕ} {ps ps′ : List Plug} {ss : List (List Channel)} → n ≡ n′ → ps ≡ ps′ → Held n′ ps′ ss → Held n ps ss
 held-is e f h = rw (e, f) h
@@ -159,11 +159,12 @@ unfolding reportPage
 scans-reported r ss k q w l e =
     let h = held-recorded r ss w in
     let low : ltb 15 k ≡ false = not-over k l in
-    channel q (e ∙ ap (λ b. cond b (refused noChannel) (answered (getD (r .plugs) k newPlug))) low ∙ ap answered (held-report h k l)) (held-reads h k)
+    let page : left (reportedPage q) nothing ≡ left (answered (plugPage (reportOf (columnOf k ss)))) nothing = e ∙ rw (low, held-report h k l) in
+    channel q (ap (λ z. z .page) page) (held-reads h k)
   where
-    channel : (q : Reported) → reportedPage q ≡ answered (reportOf (columnOf k ss)) → Reads (reportOf (columnOf k ss)) (columnOf k ss) → Reports q (columnOf k ss)
+    channel : (q : Reported) → reportedPage q ≡ answered (plugPage (reportOf (columnOf k ss))) → Reads (reportOf (columnOf k ss)) (columnOf k ss) → Reports q (columnOf k ss)
     channel (Reported.Channel p) e w =
-        let same : p ≡ reportOf (columnOf k ss) = answered-one e in
+        let same : p ≡ reportOf (columnOf k ss) = plug-one p (reportOf (columnOf k ss)) (answered-one e) in
         record { plug = p; answer = refl; is = same; reads = subst (λ (x : Plug). Reads x (columnOf k ss)) (sym same) w }
     channel (Reported.Refused why) e w = absurd (apart (sym e))
 
@@ -178,51 +179,49 @@ record LentDone (d d′ : List ℕ) (channels : List Channel) : Type 0 where
   bytes : d′ ≡ recorderBytes (record { state = state; scans = wordAt d 0 + 1; plugs = noteAll (plugsFrom d) channels })
 
 module _ (b t m map w lines cards readings d : List ℕ) where
-  abbrev lentScan : After
-  lentScan = scanOf (recorderFrom (stateFrom b) d) (channelsFrom cards readings) m map (settingsFrom w) lines
+  -- a call, refused as 21 or by the scan's own number
+  abbrev lentScan : Bool → ℕ → Page.Told Buffers
+  lentScan bad why =
+      let r = recorderFrom (stateFrom b) d in
+      reading scanIn (λ l. (b, t, l .1, d)) (call (cond bad noState 0) (call why (scanDone r (channelsFrom cards readings) m map (settingsFrom w) lines) (r, m)) (r, m))
 
-  lent-done : (b′ t′ m′ d′ : List ℕ) → scanned 0 b′ t′ m′ d′ ≡ scanCall b t m map w lines cards readings d → LentDone d d′ (channelsFrom cards readings)
+  lent-done : (b′ t′ m′ d′ : List ℕ) → told 0 (b′, t′, m′, d′) ≡ scanCall b t m map w lines cards readings d → LentDone d d′ (channelsFrom cards readings)
   unfolding scanCall scanOf scanDone recorderFrom
-  lent-done b′ t′ m′ d′ e = by (refusedScan b t w cards readings d) refl e
+  lent-done b′ t′ m′ d′ e =
+      let r = recorderFrom (stateFrom b) d in
+      by (refusedScan b t w cards readings d) (scanWhy r (channelsFrom cards readings) m map (settingsFrom w) lines) refl refl e
     where
-      at : (x : End) → (let r = recorderFrom (stateFrom b) d in scanned 0 b′ t′ m′ d′ ≡ scanOn b t d (ended r (channelsFrom cards readings) x))
+      at : (x : End) → (let r = recorderFrom (stateFrom b) d in told 0 (b′, t′, m′, d′) ≡ reading scanIn (λ l. (b, t, l .1, d)) (ended r (channelsFrom cards readings) x))
           → length (channelsFrom cards readings) ≡ 16 → wordAt d 0 < 4096 → allOf inRange (channelsFrom cards readings) ≡ true → LentDone d d′ (channelsFrom cards readings)
-      at (end s n y) e l room range = record { state = s; sixteen = l; room = room; range = range; bytes = ap (λ z. z .recorder) e }
+      at (end s n y) e l room range = record { state = s; sixteen = l; room = room; range = range; bytes = ap (λ z. z .lent .3) e }
 
-      done-by : (why : ℕ) → scanWhy (recorderFrom (stateFrom b) d) (channelsFrom cards readings) m map (settingsFrom w) lines ≡ why
-          → (let r = recorderFrom (stateFrom b) d in scanned 0 b′ t′ m′ d′ ≡ scanOn b t d (unless why (scanDone r (channelsFrom cards readings) m map (settingsFrom w) lines) (after r (refused why) m)))
-          → length (channelsFrom cards readings) ≡ 16 → LentDone d d′ (channelsFrom cards readings)
-      done-by zero h e l =
+      by : (bad : Bool) (why : ℕ) → refusedScan b t w cards readings d ≡ bad → scanWhy (recorderFrom (stateFrom b) d) (channelsFrom cards readings) m map (settingsFrom w) lines ≡ why
+          → told 0 (b′, t′, m′, d′) ≡ lentScan bad why → LentDone d d′ (channelsFrom cards readings)
+      by true why h k e = let z : 0 ≡ noState = ap (λ z. z .number) e in absurd (omega arith)
+      by false zero h k e =
           let r = recorderFrom (stateFrom b) d in
-          let known = scan-sound (r .scans) (channelsFrom cards readings) (length m) map (settingsFrom w) lines h in
-          at (scanRun r (channelsFrom cards readings) m map (settingsFrom w) lines) e l (known .room) (known .range)
-      done-by (suc why) h e l = let z : 0 ≡ suc why = ap (λ z. z .number) e in absurd (omega arith)
+          let known = scan-sound (r .scans) (channelsFrom cards readings) (length m) map (settingsFrom w) lines k in
+          at (scanRun r (channelsFrom cards readings) m map (settingsFrom w) lines) e (sixteen b t w cards readings d h) (known .room) (known .range)
+      by false (suc why) h k e = let z : 0 ≡ suc why = ap (λ z. z .number) e in absurd (omega arith)
 
-      by : (x : Bool) → refusedScan b t w cards readings d ≡ x → scanned 0 b′ t′ m′ d′ ≡ cond x (scanned noState b t m d) (scanOn b t d lentScan) → LentDone d d′ (channelsFrom cards readings)
-      by true h e = let z : 0 ≡ noState = ap (λ z. z .number) e in absurd (omega arith)
-      by false h e = done-by (scanWhy (recorderFrom (stateFrom b) d) (channelsFrom cards readings) m map (settingsFrom w) lines) refl e (sixteen b t w cards readings d h)
-
-  lent-refused : (why : ℕ) (b′ t′ m′ d′ : List ℕ) → (why ≡ 0 → ⊥) → scanned why b′ t′ m′ d′ ≡ scanCall b t m map w lines cards readings d → d′ ≡ d
+  lent-refused : (why : ℕ) (b′ t′ m′ d′ : List ℕ) → (why ≡ 0 → ⊥) → told why (b′, t′, m′, d′) ≡ scanCall b t m map w lines cards readings d → d′ ≡ d
   unfolding scanCall scanOf scanDone
-  lent-refused why b′ t′ m′ d′ some e = by (refusedScan b t w cards readings d) e
+  lent-refused why b′ t′ m′ d′ some e = by (refusedScan b t w cards readings d) (scanWhy (recorderFrom (stateFrom b) d) (channelsFrom cards readings) m map (settingsFrom w) lines) e
     where
-      at : (x : End) → scanned why b′ t′ m′ d′ ≡ scanOn b t d (ended (recorderFrom (stateFrom b) d) (channelsFrom cards readings) x) → d′ ≡ d
+      at : (x : End) → told why (b′, t′, m′, d′) ≡ reading scanIn (λ l. (b, t, l .1, d)) (ended (recorderFrom (stateFrom b) d) (channelsFrom cards readings) x) → d′ ≡ d
       at (end s n y) e = absurd (some (ap (λ z. z .number) e))
 
-      done-by : (n : ℕ) → (let r = recorderFrom (stateFrom b) d in scanned why b′ t′ m′ d′ ≡ scanOn b t d (unless n (scanDone r (channelsFrom cards readings) m map (settingsFrom w) lines) (after r (refused n) m))) → d′ ≡ d
-      done-by zero e = at (scanRun (recorderFrom (stateFrom b) d) (channelsFrom cards readings) m map (settingsFrom w) lines) e
-      done-by (suc n) e = ap (λ z. z .recorder) e
-
-      by : (x : Bool) → scanned why b′ t′ m′ d′ ≡ cond x (scanned noState b t m d) (scanOn b t d lentScan) → d′ ≡ d
-      by true e = ap (λ z. z .recorder) e
-      by false e = done-by (scanWhy (recorderFrom (stateFrom b) d) (channelsFrom cards readings) m map (settingsFrom w) lines) e
+      by : (bad : Bool) (n : ℕ) → told why (b′, t′, m′, d′) ≡ lentScan bad n → d′ ≡ d
+      by true n e = ap (λ z. z .lent .3) e
+      by false zero e = at (scanRun (recorderFrom (stateFrom b) d) (channelsFrom cards readings) m map (settingsFrom w) lines) e
+      by false (suc n) e = ap (λ z. z .lent .3) e
 
 -- ---- a recorder's bytes
 
 reports-length : (ps : List Plug) → length (reportsBytes ps) ≡ 12 * length ps
 unfolding reportsBytes
 reports-length [] = refl
-reports-length (p ∷ ps) = length-append (reportBytes p) (reportsBytes ps) ∙ omega (arith, report-length p, reports-length ps)
+reports-length (p ∷ ps) = length-append (reportBytes (plugPage p)) (reportsBytes ps) ∙ omega (arith, report-length (plugPage p), reports-length ps)
 
 recorder-length : (r : Recorder) → length (r .plugs) ≡ 16 → length (recorderBytes r) ≡ 194
 unfolding recorderBytes
@@ -267,6 +266,6 @@ pub wd16-scans-reported : Wd16ScansReported
 unfolding reportCall refusedReport reportPage recorderFrom
 wd16-scans-reported d ss k b number b′ l h r e =
     let bytes = held-lent d ss l in
-    let page : told number b′ ≡ told 0 (reportBytes (reportOf (columnOf k ss))) =
+    let page : told number b′ ≡ told 0 (reportBytes (plugPage (reportOf (columnOf k ss)))) =
     e ∙ rw (bytes .size, r, not-over k h, held-report (bytes .held) k h) in
-    (ap (λ z. z .number) page, ap (λ z. z .report) page, held-reads (bytes .held) k)
+    (ap (λ z. z .number) page, ap (λ z. z .lent) page, held-reads (bytes .held) k)

@@ -6,10 +6,10 @@ use mathlib.Core.List.{List}
 use mathlib.Core.Path.{_≡_, refl, sym, ap, _∙_, subst}
 use lib.Dec.{eqb}
 use lib.ListN.{length}
-use Rattle.words.specs.Words.{wordAt, bytesIn}
+use Rattle.words.specs.Words.{wordAt}
 use Rattle.words.proofs.Laws.{word-again}
 use Rattle.refusal.specs.Numbers.{noState}
-use Rattle.refusal.specs.Page.{answered, left, call, first, told, reading}
+use Rattle.refusal.specs.Page.{answered, left, call, first, told, reading, nothing}
 use Rattle.refusal.proofs.Laws.Page.{first-both}
 use Rattle.job.specs.Job.{whyJob}
 use Rattle.trace.specs.declared.Verdict.{Verdict}
@@ -19,12 +19,13 @@ use Rattle.trace.specs.First.{AtStep, EndsAt, Says}
 use Rattle.trace.proofs.Laws.Bytes.{told-again, taken-again, bytes-back}
 use Rattle.trace.proofs.Laws.Right.{compared-self}
 use Rattle.trace.proofs.Laws.First.{verdict-says}
-use Rattle.tracecall.specs.Calls.{verdictWords, nothing, checkLeft, verdictIn, checkCall}
+use Rattle.answer.specs.Answer.{answerWhy}
+use Rattle.tracecall.specs.Calls.{verdictWords, checkLeft, verdictIn, checkCall}
 use Rattle.laws.specs.Traces.{accepts, Wd16Accepts, Tells, accepted, wrong, missing, extra, Wd16Tells}
 
 -- ---- the words of a verdict
 
-verdict-word : (v : Verdict) → (wordAt (bytesIn (verdictWords (verdictPage v))) 0 ≡ 0 → v ≡ Accepted)
+verdict-word : (v : Verdict) → (wordAt (verdictWords (verdictPage v)) 0 ≡ 0 → v ≡ Accepted)
 verdict-word Accepted e = refl
 verdict-word (Wrong step field right) e = absurd (omega (arith, e))
 verdict-word (Missing step) e = absurd (omega (arith, e))
@@ -33,10 +34,10 @@ verdict-word (Extra step) e = absurd (omega (arith, e))
 none-off : (n : ℕ) → n - 0 ≡ n
 none-off n = omega arith
 
-tells-of : (rs ts : List (List ℕ)) (v : Verdict) → Says 0 rs ts v → Tells rs ts (bytesIn (verdictWords (verdictPage v)))
+tells-of : (rs ts : List (List ℕ)) (v : Verdict) → Says 0 rs ts v → Tells rs ts (verdictWords (verdictPage v))
 tells-of rs ts Accepted h = accepted refl h
 tells-of rs ts (Wrong k f x) h =
-    wrong x refl (subst (λ (n : ℕ). AtStep rs ts n (wordAt (bytesIn (verdictWords (verdictPage (Wrong k f x)))) 4) x) (sym (word-again k))
+    wrong x refl (subst (λ (n : ℕ). AtStep rs ts n (wordAt (verdictWords (verdictPage (Wrong k f x))) 4) x) (sym (word-again k))
     (subst (λ (j : ℕ). AtStep rs ts k j x) (sym (word-again f)) (subst (λ (n : ℕ). AtStep rs ts n f x) (none-off k) (h .1))))
 tells-of rs ts (Missing k) h = missing refl (subst (λ (n : ℕ). EndsAt ts rs n) (none-off k ∙ sym (word-again k)) (h .1)) refl
 tells-of rs ts (Extra k) h = extra refl (subst (λ (n : ℕ). EndsAt rs ts n) (none-off k ∙ sym (word-again k)) (h .1)) refl
@@ -44,7 +45,7 @@ tells-of rs ts (Extra k) h = extra refl (subst (λ (n : ℕ). EndsAt rs ts n) (n
 -- ---- the call
 
 pub wd16-tells : Wd16Tells
-unfolding checkCall
+unfolding checkCall answerWhy
 wd16-tells job t b b′ e = by (eqb (length b) 6) e
   where
     page-by : (why : ℕ) → told 0 b′ ≡ reading verdictIn (λ none. b) (call why (left (answered (verdictPage (verdictOf job t))) nothing) nothing) → Tells (rightTrace job) (toldIn t) b′
@@ -56,12 +57,12 @@ wd16-tells job t b b′ e = by (eqb (length b) 6) e
     by false e = let z : 0 ≡ noState = ap (λ z. z .number) e in absurd (omega arith)
 
 -- what is left where neither the job nor the trace is refused
-call-is : (job t b : List ℕ) → length b ≡ 6 → first (whyJob job) (whyTrace t) ≡ 0 → checkCall job t b ≡ told 0 (bytesIn (verdictWords (verdictPage (verdictOf job t))))
-unfolding checkCall
+call-is : (job t b : List ℕ) → length b ≡ 6 → first (whyJob job) (whyTrace t) ≡ 0 → checkCall job t b ≡ told 0 (verdictWords (verdictPage (verdictOf job t)))
+unfolding checkCall answerWhy
 call-is job t b l e = rw (l, e)
 
 number-none : (job t b : List ℕ) → length b ≡ 6 → checkCall job t b .number ≡ 0 → first (whyJob job) (whyTrace t) ≡ 0
-unfolding checkCall
+unfolding checkCall answerWhy
 number-none job t b l e = by (first (whyJob job) (whyTrace t)) (rw l at e)
   where
     by : (why : ℕ) → reading verdictIn (λ none. b) (call why (left (answered (verdictPage (verdictOf job t))) nothing) nothing) .number ≡ 0 → why ≡ 0
@@ -84,5 +85,5 @@ wd16-accepts job t b number b′ e taken l bytes = (only, when)
         let none : whyTrace t ≡ 0 = ap whyTrace d ∙ taken-again (stepsOf job) in
         let why : first (whyJob job) (whyTrace t) ≡ 0 = rw (taken, none) in
         let v : verdictOf job t ≡ Accepted = ap (λ x. compared 0 (rightTrace job) (toldIn x)) d ∙ ap (λ x. compared 0 (rightTrace job) x) (told-again (stepsOf job)) ∙ compared-self 0 (rightTrace job) in
-        let page = e ∙ call-is job t b l why ∙ ap (λ x. told 0 (bytesIn (verdictWords (verdictPage x)))) v in
+        let page = e ∙ call-is job t b l why ∙ ap (λ x. told 0 (verdictWords (verdictPage x))) v in
         (ap (λ z. z .number) page, ap (λ z. wordAt (z .lent) 0) page)

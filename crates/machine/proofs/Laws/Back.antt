@@ -101,11 +101,11 @@ turnOf p = record { state = stateOf (p .state); cause = causeOf (p .cause) (p .t
 turn-back : (t : Turn) → turnOf (turnPage t) ≡ t
 turn-back t = rw (state-back (t .state), cause-back (t .cause))
 
-abbrev firstOf : Place → First
+abbrev pub firstOf : Place → First
 firstOf (place p a) = At p a
 firstOf none = Never
 
-first-back : (f : First) → firstOf (placeOf f) ≡ f
+pub first-back : (f : First) → firstOf (placeOf f) ≡ f
 first-back (At p a) = refl
 first-back Never = refl
 

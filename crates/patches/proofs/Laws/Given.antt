@@ -23,13 +23,14 @@ use Rattle.patchline.specs.declared.oneline.How.the-variants.{Plain}
 use Rattle.patchline.specs.Line.{opIn, says, saidOf}
 use Rattle.assembler.specs.Source.{countOf, textAt, saidAt, isOrigin, originAt, endAt, hereOf, misplaced, wordsIn}
 use Rattle.assembler.specs.Section.{inserted, lowerOf, higherOf, entryOf, entered, placed, bytesOf, flat, sectionOf}
-use Rattle.assembler.specs.Answer.{Page, section, refused, refusedAt, After, after, assembled, asmOf}
-use Rattle.refusal.specs.Numbers.{noState}
+use Rattle.refusal.specs.Page.{Page, refused, refusedAt, answered, Left, left, Told, told, call}
+use Rattle.answer.specs.Answer.{answerWhy, answering}
+use Rattle.assembler.specs.Answer.{assembled, asmOf}
 use Rattle.assembler.proofs.Laws.Good.{good}
 use Rattle.assembler.proofs.Laws.Leaves.{refusal, unlike, leaves}
 use Rattle.assembler.specs.Ends.{assembleWhy}
 use Rattle.assembler.proofs.Laws.Ends.{Ends, done, alone, atLine, assemble-ends, line-told}
-use Rattle.assembler_c.specs.Call.{Went, went, wentFrom, assembleCall}
+use Rattle.assembler_c.specs.Call.{sizeWords, assembleCall}
 use Rattle.patches.specs.Rising.{addressIn, Rises}
 use Rattle.patches.specs.Given.{Has, Gives, OneWord, ReaderGives, Wd16ReaderGives, OpIsText}
 use Rattle.patches.proofs.Laws.Again.{plain-words, text-said}
@@ -158,21 +159,21 @@ module _ (bytes rest l : List ℕ) (few : length l ≤ 4096) (q : bytes ≡ sect
 -- ---- what an assembly leaves
 
 -- each line in its place, and the section in front
-record Left (s bytes : List ℕ) : Type 0 where
+record Leaves (s bytes : List ℕ) : Type 0 where
   pub few : countOf s ≤ 1024
   pub in-place : (k : ℕ) → k < countOf s → misplaced s k ≡ false
   pub rest : List ℕ
   pub front : bytes ≡ assembled s ++ rest
 
-left-of : (s out : List ℕ) (n : ℕ) (out′ : List ℕ) → after (section n) out′ ≡ asmOf s out → Left s out′
+left-of : (s out : List ℕ) (n : ℕ) (out′ : List ℕ) → left (answered n) out′ ≡ asmOf s out → Leaves s out′
 unfolding over
 left-of s out n out′ e =
-    let page : asmOf s out .page ≡ section n = sym (ap (λ z. z .page) e) in
+    let page : asmOf s out .page ≡ answered n = sym (ap (λ z. z .page) e) in
     let g = good s out n page in
-    record { few = g .few; in-place = g .in-place; rest = drop (length (assembled s)) out; front = ap (λ z. z .out) e ∙ leaves s out n page }
+    record { few = g .few; in-place = g .in-place; rest = drop (length (assembled s)) out; front = ap (λ z. z .lent) e ∙ leaves s out n page }
 
 -- A LINE WITH THESE WORDS GIVES THEM
-line-gives : (s bytes : List ℕ) → Left s bytes → (i : ℕ) (ws : List ℕ) → i < countOf s → length ws ≤ 3 → ((j : ℕ) → getD ws j 0 < 65536)
+line-gives : (s bytes : List ℕ) → Leaves s bytes → (i : ℕ) (ws : List ℕ) → i < countOf s → length ws ≤ 3 → ((j : ℕ) → getD ws j 0 < 65536)
     → wordsIn s (hereOf s i) (textAt s i) ≡ opOf ws → isOrigin (saidAt s i .how) ≡ false → Gives s i bytes ws
 unfolding assembled originAt endAt
 line-gives s bytes g i ws h few small e plain =
@@ -193,7 +194,7 @@ line-gives s bytes g i ws h few small e plain =
 whole-few : (ws : List ℕ) → Whole ws → length ws ≤ 3
 whole-few ws w = omega (arith, w .count, taken-le (getD ws 0 0))
 
-reader-line : (s bytes : List ℕ) → Left s bytes → (i : ℕ) (ws : List ℕ) → i < countOf s → Whole ws → textOf ws ≡ textAt s i → Gives s i bytes ws
+reader-line : (s bytes : List ℕ) → Leaves s bytes → (i : ℕ) (ws : List ℕ) → i < countOf s → Whole ws → textOf ws ≡ textAt s i → Gives s i bytes ws
 unfolding saidAt
 reader-line s bytes g i ws h w t =
     let said : saidOf (textAt s i) ≡ says Plain (opOf ws) = ap saidOf (sym t) ∙ text-said ws w in
@@ -208,30 +209,40 @@ op-is-text t = (λ ws w e. ap (λ (u : List ℕ). opOf (readOf u)) (sym e) ∙ a
 
 -- ---- for C
 
+-- what C is told of an assembly
+abbrev toldOf : List ℕ → Left ℕ (List ℕ) → Told (List ℕ × List ℕ)
+toldOf b l = answering sizeWords b l
+
+abbrev zeroTold : List ℕ → List ℕ → Told (List ℕ × List ℕ)
+zeroTold out′ b′ = told 0 (out′, b′)
+
 -- a refusal's number is not 0
-numbered : (s out : List ℕ) → refusal (asmOf s out .page) ≡ true → (b out′ b′ : List ℕ) → went 0 out′ b′ ≡ wentFrom b (asmOf s out .page) (asmOf s out .out) → ⊥
+numbered : (s out : List ℕ) → refusal (asmOf s out .page) ≡ true → (b out′ b′ : List ℕ) → zeroTold out′ b′ ≡ toldOf b (asmOf s out) → ⊥
 numbered s out r b out′ b′ e = by (assemble-ends s out)
   where
+    number : Told (List ℕ × List ℕ) → ℕ
+    number w = w .number
+
     by : Ends s out (assembleWhy s out) (asmOf s out) → ⊥
     by (done z n p) = unlike (asmOf s out .page) n r p
-    by (alone n t x) = n (sym (ap (λ (w : Went). w .number) (e ∙ ap (λ (y : After). wentFrom b (y .page) (y .out)) x)))
-    by (atLine line f x) = line-told f .0 (sym (ap (λ (w : Went). w .number) (e ∙ ap (λ (y : After). wentFrom b (y .page) (y .out)) x)))
+    by (alone n t x) = n (sym (ap number (e ∙ ap (toldOf b) x)))
+    by (atLine line f x) = line-told f .0 (sym (ap number (e ∙ ap (toldOf b) x)))
 
 -- 0 is a section, and its bytes are the function's
-c-left : (b out′ b′ : List ℕ) (p : Page) (o : List ℕ) → (refusal p ≡ true → ⊥) → went 0 out′ b′ ≡ wentFrom b p o → (n : ℕ) × (after (section n) out′ ≡ after p o)
-c-left b out′ b′ (section n) o r e = (n, ap (λ (z : List ℕ). after (section n) z) (ap (λ (w : Went). w .section) e))
+c-left : (b out′ b′ : List ℕ) (p : Page ℕ) (o : List ℕ) → (refusal p ≡ true → ⊥) → zeroTold out′ b′ ≡ toldOf b (left p o) → (n : ℕ) × (left (answered n) out′ ≡ left p o)
+c-left b out′ b′ (answered n) o r e = (n, ap (λ (w : Told (List ℕ × List ℕ)). left (answered n) (w .lent .0)) e)
 c-left b out′ b′ (refused why) o r e = absurd (r refl)
 c-left b out′ b′ (refusedAt why line) o r e = absurd (r refl)
 
-wd16-left : (s out b out′ b′ : List ℕ) → went 0 out′ b′ ≡ assembleCall s out b → Left s out′
+wd16-left : (s out b out′ b′ : List ℕ) → zeroTold out′ b′ ≡ assembleCall s out b → Leaves s out′
 unfolding assembleCall
-wd16-left s out b out′ b′ e = by (eqb (length b) 6) e
+wd16-left s out b out′ b′ e = by (answerWhy b) e
   where
-    by : (t : Bool) → went 0 out′ b′ ≡ cond t (wentFrom b (asmOf s out .page) (asmOf s out .out)) (went noState out b) → Left s out′
-    by true q =
-        let c = c-left b out′ b′ (asmOf s out .page) (asmOf s out .out) (λ r. numbered s out r b out′ b′ q) q in
+    by : (why : ℕ) → zeroTold out′ b′ ≡ toldOf b (call why (asmOf s out) out) → Leaves s out′
+    by zero q =
+        let c = c-left b out′ b′ (asmOf s out .page) (asmOf s out .lent) (λ r. numbered s out r b out′ b′ q) q in
         left-of s out (c .0) out′ (c .1)
-    by false q = let z : _≡_ {A = ℕ} 0 noState = ap (λ (w : Went). w .number) q in absurd (omega (arith, z))
+    by (suc why) q = let z : _≡_ {A = ℕ} 0 (suc why) = ap (λ (w : Told (List ℕ × List ℕ)). w .number) q in absurd (omega (arith, z))
 
 pub wd16-reader-gives : Wd16ReaderGives
 wd16-reader-gives s out b out′ b′ e i ws h w t = reader-line s out′ (wd16-left s out b out′ b′ e) i ws h w t

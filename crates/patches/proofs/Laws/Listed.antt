@@ -7,7 +7,6 @@ use native.Mathlib.Omega.{arith}
 use lib.Dec.{leb, ltb}
 use borrow.Author.Tests.{leb-true, leb-false, le-leb, lt-leb}
 use lib.ListN.{length, take, getD}
-use Rattle.letters.specs.Over.{over}
 use Rattle.words.specs.Words.{byteAt, wordAt}
 use Rattle.board.specs.Work.{fitted}
 use Rattle.line.specs.Line.{fields}
@@ -20,7 +19,7 @@ use Rattle.listing.specs.Listing.{stands, allStand, wordsAt, foundAt, lineOf, m
 use Rattle.listing.proofs.Laws.Alike.{and-true, or-right}
 use Rattle.listing.proofs.Laws.Joined.{taken-some}
 use Rattle.assembler.specs.Section.{entryOf, sectionOf}
-use Rattle.assembler.specs.Answer.{section, after}
+use Rattle.assembler.specs.Answer.{written}
 use Rattle.patches.proofs.Laws.Again.{text-said, word-said}
 use Rattle.patches.specs.Pieces.{Piece, entriesFrom, entriesOf, Good, Rise}
 use Rattle.patches.proofs.Laws.Pieces.{pieces-again}
@@ -258,4 +257,4 @@ module _ (first last : ℕ) (map image : List ℕ) where
     pub listing-again : ListingAgain first last map image bytes even small
     listing-again out n r =
         pieces-again (piecesOf first last map image) rises out r n
-        ∙ ap (λ (ws : List ℕ). after (section (length (sectionOf ws))) (over (sectionOf ws) out)) (entries-are small)
+        ∙ ap (λ (ws : List ℕ). written (sectionOf ws) out) (entries-are small)

@@ -10,7 +10,6 @@ use borrow.Author.Tests.{le-ltb}
 use lib.ListN.{length, take, getD}
 use lib.Seq.{take-length}
 use Rattle.letters.specs.Digits.{letters}
-use Rattle.letters.specs.Over.{over}
 use Rattle.word.specs.Address.{plus}
 use Rattle.optext.specs.declared.Op.{Op}
 use Rattle.optext.specs.Read.{opOf}
@@ -20,7 +19,7 @@ use Rattle.patchline.specs.declared.oneline.How.the-variants.{Origin, Plain}
 use Rattle.patchline.specs.Line.{op, says, saidOf, reaches}
 use Rattle.assembler.specs.Source.{countOf, textAt, saidAt, originAt, endAt, hereOf, isUnknown, isGiven, hasLabels, lacks, overlaps, isOdd, misplaced, isFar, far, valueOf}
 use Rattle.assembler.specs.Section.{inserted, entryOf, entered, placed, sectionOf}
-use Rattle.assembler.specs.Answer.{section, after, assembled}
+use Rattle.assembler.specs.Answer.{written, assembled}
 use Rattle.assembler.specs.Ends.{Right}
 use Rattle.assembler.proofs.Laws.Good.{no-first, nothing-wrong}
 use Rattle.patches.specs.Again.{originLine}
@@ -326,4 +325,4 @@ module _ (ps : List Piece) (r : Rise 0 ps) where
       let z = size in
       let t = twice-is (length ps) in
       nothing-wrong source out l (omega arith) (omega arith) all-right
-      ∙ ap (λ (e : List ℕ). after (section (length (sectionOf e))) (over (sectionOf e) out)) words-are
+      ∙ ap (λ (e : List ℕ). written (sectionOf e) out) words-are

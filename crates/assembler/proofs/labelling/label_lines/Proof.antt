@@ -1,4 +1,7 @@
-use Rattle.assembler.proofs.Laws.Labels.{labels-unknown, labels-again, labels-told}
+use mathlib.Core.Path.{_∙_}
+use Rattle.assembler.specs.declared.source.Fault.the-variants.{Text, Given}
+use Rattle.assembler.specs.Labels.{labelFaults}
+use Rattle.assembler.proofs.Checked.{stopped, passed, finished}
 use borrow.Author.Needs.{needs}
 use Rattle.assembler.proofs.labelling.label_lines.Statement.{statement}
 use Rattle.assembler.proofs.labelling.label_lines.Tie as tie
@@ -22,7 +25,10 @@ cast-t16 : tie.Need-cast-t16
 cast-t16 c = search needs
 
 returns : tie.Need-returns
-returns c = labels-unknown (c .before .before .before .before .before .before .before .before .before .before .args .source .now) (c .before .before .before .before .before .before .before .before .before .before .args .out .now) _ (c .before .before .before .before .before .before .before .count .ensures) _ (c .before .lowest-line .ensures .0) (c .if1 .taken)
+unfolding labelFaults
+returns c =
+    let a = c .before .before .before .before .before .before .before .before .before .before .args in
+    stopped (a .source .now) (a .out .now) _ _ (c .before .before .before .before .before .before .before .count .ensures) Text _ _ (c .before .lowest-line .ensures .0) (c .if1 .taken)
 
 lowest-line-requires-2 : tie.Need-lowest-line-requires-2
 lowest-line-requires-2 c κs = search needs
@@ -31,7 +37,12 @@ cast-t19 : tie.Need-cast-t19
 cast-t19 c = search needs
 
 returns-2 : tie.Need-returns-2
-returns-2 c = labels-again (c .before .before .before .before .before .before .before .before .before .before .before .before .before .before .args .source .now) (c .before .before .before .before .before .before .before .before .before .before .before .before .before .before .args .out .now) _ (c .before .before .before .before .before .before .before .before .before .before .before .count .ensures) _ (c .before .before .before .before .before .lowest-line .ensures .0) (c .before .before .before .before .if1 .left) _ (c .before .lowest-line2 .ensures .0) (c .if2 .taken)
+unfolding labelFaults
+returns-2 c =
+    let a = c .before .before .before .before .before .before .before .before .before .before .before .before .before .before .args in
+    let e = c .before .before .before .before .before .before .before .before .before .before .before .count .ensures in
+    stopped (a .source .now) (a .out .now) _ _ e Given _ _ (c .before .lowest-line2 .ensures .0) (c .if2 .taken)
+    ∙ passed (a .source .now) (a .out .now) _ _ e Text _ _ (c .before .before .before .before .before .lowest-line .ensures .0) (c .before .before .before .before .if1 .left)
 
 put-labels-requires : tie.Need-put-labels-requires
 put-labels-requires c κs = search needs
@@ -43,7 +54,13 @@ same-length : tie.Need-same-length
 same-length c = search needs
 
 returns-3 : tie.Need-returns-3
-returns-3 c = labels-told (c .before .before .before .before .before .before .before .before .before .before .before .before .before .before .before .before .before .before .before .args .source .now) (c .before .before .before .before .before .before .before .before .before .before .before .before .before .before .before .before .before .before .before .args .out .now) _ (c .before .before .before .before .before .before .before .before .before .before .before .before .before .before .before .before .count .ensures) _ (c .before .before .before .before .before .before .before .before .before .before .lowest-line .ensures .0) (c .before .before .before .before .before .before .before .before .before .if1 .left) _ (c .before .before .before .before .before .before .lowest-line2 .ensures .0) (c .before .before .before .before .before .if2 .left) _ _ (c .before .before .put-labels .ensures .0)
+unfolding labelFaults
+returns-3 c =
+    let a = c .before .before .before .before .before .before .before .before .before .before .before .before .before .before .before .before .before .before .before .args in
+    let e = c .before .before .before .before .before .before .before .before .before .before .before .before .before .before .before .before .count .ensures in
+    finished (a .source .now) (a .out .now) _ _ _ (c .before .before .put-labels .ensures .0)
+    ∙ passed (a .source .now) (a .out .now) _ _ e Given _ _ (c .before .before .before .before .before .before .lowest-line2 .ensures .0) (c .before .before .before .before .before .if2 .left)
+    ∙ passed (a .source .now) (a .out .now) _ _ e Text _ _ (c .before .before .before .before .before .before .before .before .before .before .lowest-line .ensures .0) (c .before .before .before .before .before .before .before .before .before .if1 .left)
 
 pub label-lines-spec : {M : Type 1} → statement M
 label-lines-spec =
