@@ -5,12 +5,6 @@ use mathlib.Core.List.{List, [], _∷_}
 use lib.Dec.{eqb}
 use lib.ListN.{getD}
 use Rattle.board.specs.Work.{Work, give, readAt, write, Size, word, byte, _>>=_, _>>_}
-use Rattle.board.specs.declared.Word.{Word}
-use Rattle.board.specs.declared.Word.the-variants as Word
-use Rattle.board.specs.declared.Byte.{Byte}
-use Rattle.board.specs.declared.Byte.the-variants as Byte
-use Rattle.board.specs.declared.Kept.{Kept}
-use Rattle.board.specs.declared.Kept.the-variants as Kept
 use Rattle.codes.specs.Fields.{format8Code, blockSource, blockDestination}
 use Rattle.word.specs.Address.{plus, minus}
 use Rattle.state.specs.declared.State.{State}
@@ -76,13 +70,3 @@ element r s i j = do
 
 abbrev pub format8 : State → ℕ → Work State
 format8 s op = element (rowOf op) s (blockSource op) (blockDestination op)
-
--- ---- what the answers say
-
-abbrev pub unmoved : Word → Kept
-unmoved (Word.Value v) = Kept.Done
-unmoved (Word.Blank a) = Kept.Blank a
-
-abbrev pub unmovedByte : Byte → Kept
-unmovedByte (Byte.Value v) = Kept.Done
-unmovedByte (Byte.Blank a) = Kept.Blank a

@@ -52,34 +52,13 @@ fn wide(b: u8) -> u16
     b as u16
 }
 
-// A word that was not read is not moved.
-fn unmoved(word: Word) -> Kept
-    ensures { λ r. ⌜ r ≡ Spec.unmoved word ⌝ }
-{
-    match word {
-        Word::Value(_) => Kept::Done,
-        Word::Blank(a) => Kept::Blank(a),
-    }
-}
-
-// The same for a byte.
-fn unmoved_byte(byte: Byte) -> Kept
-    ensures { λ r. ⌜ r ≡ Spec.unmovedByte byte ⌝ }
-{
-    match byte {
-        Byte::Value(_) => Kept::Done,
-        Byte::Blank(a) => Kept::Blank(a),
-    }
-}
-
 // The word at a is moved to b.
 fn move_word(image: &mut [u8], map: &[u8], log: &mut [u16; 32], a: u16, b: u16) -> Kept
     requires { ⌜ Board (now map) (beside (now image) (now log)) ⌝ }
     ensures { λ r. ⌜ Did (now (map .entry)) (Spec.transfer word a b) (beside (now (image .entry)) (now (log .entry))) (keptAs r (beside (now (image .exit)) (now (log .exit)))) (beside (now (image .exit)) (now (log .exit))) ⌝ }
 {
-    let read = board::load(image, map, a);
-    let Word::Value(v) = read else {
-        return unmoved(read);
+    let Word::Value(v) = board::load(image, map, a) else {
+        return Kept::Blank(a);
     };
     board::store(image, map, log, b, v)
 }
@@ -89,9 +68,8 @@ fn move_byte(image: &mut [u8], map: &[u8], log: &mut [u16; 32], a: u16, b: u16) 
     requires { ⌜ Board (now map) (beside (now image) (now log)) ⌝ }
     ensures { λ r. ⌜ Did (now (map .entry)) (Spec.transfer byte a b) (beside (now (image .entry)) (now (log .entry))) (keptAs r (beside (now (image .exit)) (now (log .exit)))) (beside (now (image .exit)) (now (log .exit))) ⌝ }
 {
-    let read = board::load_byte(image, map, a);
-    let Byte::Value(v) = read else {
-        return unmoved_byte(read);
+    let Byte::Value(v) = board::load_byte(image, map, a) else {
+        return Kept::Blank(a);
     };
     board::store_byte(image, map, log, b, wide(v))
 }
