@@ -7,7 +7,6 @@ pub mod Ends
 pub mod Jumpers
 pub mod Late
 pub mod Locks
-pub mod Places
 pub mod Restart
 pub mod Saved
 pub mod Told

@@ -3,11 +3,7 @@ use Prim.Native.Nat.{ℕ}
 use mathlib.Core.Bool.{false}
 use Rattle.board.specs.Work.{Work, give, load, _>>=_, _>>_}
 use Rattle.board.specs.Work as Work
-use Rattle.board.specs.declared.Word.{Word}
-use Rattle.board.specs.declared.Word.the-variants as Word
 use Rattle.state.specs.declared.State.{State}
-use Rattle.state.specs.declared.Went.{Went}
-use Rattle.state.specs.declared.Went.the-variants as Went
 use Rattle.state.specs.declared.Outside.{Outside}
 use Rattle.state.specs.declared.Mode.the-variants.{Running, Saved}
 use Rattle.state.specs.State.{reg, withReg, withMode, withStatus, psOf}
@@ -61,9 +57,3 @@ restore s = do
   s ← pickUpRegisters s
   ps ← load (placeOf 8)
   give (withMode (withStatus s ps) Running)
-
--- ---- a read that was not answered ends the work there
-
-abbrev pub unread : Word → Went
-unread (Word.Value v) = Went.Blank 0
-unread (Word.Blank a) = Went.Blank a

@@ -12,16 +12,6 @@ ghost use Rattle.board.specs.Exec.{beside, Lent, Board, Saw, Did, keptAs};
 ghost use Rattle.state.specs.Answer.{Works, wentAs};
 ghost use Rattle.step.specs.Places as Spec;
 
-// An access that was not answered ends the work there.
-fn unread(word: Word) -> Went
-    ensures { λ r. ⌜ r ≡ Spec.unread word ⌝ }
-{
-    match word {
-        Word::Value(_) => Went::Blank(0),
-        Word::Blank(a) => Went::Blank(a),
-    }
-}
-
 // Register k is kept at its place.
 fn keep(s: State, image: &mut [u8], map: &[u8], log: &mut [u16; 32], k: u16) -> Kept
     requires { ⌜ Board (now map) (beside (now image) (now log)) ⌝ }
@@ -35,9 +25,9 @@ fn pick_up(s: State, image: &[u8], map: &[u8], k: u16) -> Went
     requires { ⌜ Lent (now map) (now image) ⌝ }
     ensures { λ r. ⌜ Saw (now (map .entry)) (Spec.pickUp s k) (now (image .entry)) (wentAs r) ⌝ }
 {
-    let word = board::load(image, map, plus(k, k));
-    let Word::Value(v) = word else {
-        return unread(word);
+    let place = plus(k, k);
+    let Word::Value(v) = board::load(image, map, place) else {
+        return Went::Blank(place);
     };
     Went::Done(s.with_reg(k, v))
 }
@@ -128,9 +118,8 @@ pub(crate) fn save(
     let Kept::Done = registers else {
         return unwritten(registers);
     };
-    let status = board::store(image, map, log, 0x10, s.ps(out, false));
-    let Kept::Done = status else {
-        return unwritten(status);
+    let Kept::Done = board::store(image, map, log, 0x10, s.ps(out, false)) else {
+        return Went::Blank(0x10);
     };
     Went::Done(s.with_mode(Mode::Saved))
 }
@@ -144,9 +133,8 @@ pub(crate) fn restore(s: State, image: &[u8], map: &[u8]) -> Went
     let Went::Done(t) = went else {
         return went;
     };
-    let word = board::load(image, map, 0x10);
-    let Word::Value(ps) = word else {
-        return unread(word);
+    let Word::Value(ps) = board::load(image, map, 0x10) else {
+        return Went::Blank(0x10);
     };
     Went::Done(t.with_status(ps).with_mode(Mode::Running))
 }

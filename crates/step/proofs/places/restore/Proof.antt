@@ -1,6 +1,6 @@
-use Rattle.board.proofs.Laws.{got-then, got-gone, got-give, word-is, word-none}
+use mathlib.Core.Path.{refl}
+use Rattle.board.proofs.Laws.{got-then, got-gone, got-give, word-is, word-none, unread-at}
 use Rattle.state.proofs.Laws.Answer.{went-is, went-none}
-use Rattle.step.proofs.Laws.Places.{word-lost}
 use Rattle.step.specs.Places.{restore}
 use borrow.Author.Needs.{needs}
 use Rattle.step.proofs.places.restore.Statement.{statement}
@@ -19,15 +19,15 @@ load-requires c κs = c .before .before .before .before .before .before .pre
 returns-2 : tie.Need-returns-2
 unfolding restore
 returns-2 c = record {
-  got = got-then _ (c .before .before .before .before .before .before .before .pick-up-registers .ensures .got) (went-is (c .before .before .before .before .before .went .given .1))
-      (got-gone _ (c .before .before .before .load .ensures .got) (word-none (c .before .enum-told2 .given .1)) (word-lost (c .unread .ensures) (c .before .enum-told2 .given .1)));
+  got = got-then _ (c .before .before .before .before .before .before .pick-up-registers .ensures .got) (went-is (c .before .before .before .before .went .given .1))
+      (got-gone _ (c .before .before .load .ensures .got) (unread-at (c .before .before .load .ensures .got) (word-none (c .enum-told2 .given .1))) refl);
 }
 
 returns-3 : tie.Need-returns-3
 unfolding restore
 returns-3 c = record {
   got = got-then _ (c .before .before .before .before .before .before .before .before .before .pick-up-registers .ensures .got) (went-is (c .before .before .before .before .before .before .before .went .given .1))
-      (got-then _ (c .before .before .before .before .before .load .ensures .got) (word-is (c .before .before .before .word .given .1))
+      (got-then _ (c .before .before .before .before .before .load .ensures .got) (word-is (c .before .before .before .ps .given .1))
       (got-give (rw (c .with-mode .ensures, c .before .with-status .ensures))));
 }
 
@@ -42,7 +42,6 @@ restore-spec =
     load-requires
     (λ c. search needs)
     (λ c. search needs)
-    (λ c κs. search needs)
     returns-2
     (λ c κs. search needs)
     (λ c κs. search needs)

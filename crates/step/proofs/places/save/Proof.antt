@@ -1,5 +1,5 @@
 use mathlib.Core.Path.{refl, sym, _∙_}
-use Rattle.board.proofs.Laws.{got-then, got-gone, got-give, did, kept-is, kept-none}
+use Rattle.board.proofs.Laws.{got-then, got-gone, got-give, did, kept-is, kept-none, unwritten-at}
 use Rattle.state.proofs.Laws.Answer.{went-store, kept-lost}
 use Rattle.step.specs.Places.{save}
 use borrow.Author.Needs.{needs}
@@ -21,13 +21,15 @@ store-requires : tie.Need-store-requires
 store-requires c κs = c .before .before .before .before .before .before .before .keep-registers .ensures .board
 
 same-length-2 : tie.Need-same-length-2
-same-length-2 c = c .before .before .before .before .before .store .ensures .board .lent .size ∙ sym (c .before .before .before .before .before .before .before .before .before .before .before .before .before .before .before .before .before .before .pre .lent .size)
+same-length-2 c = c .before .before .before .before .store .ensures .board .lent .size ∙ sym (c .before .before .before .before .before .before .before .before .before .before .before .before .before .before .before .before .before .pre .lent .size)
 
 returns-2 : tie.Need-returns-2
 unfolding save
-returns-2 c = did (went-store (c .unwritten2 .result)) (c .before .before .before .before .before .before .before .before .before .before .before .before .before .before .before .before .before .before .pre)
-    (got-then _ (c .before .before .before .before .before .before .before .before .before .before .before .before .before .keep-registers .ensures .got) (kept-is (c .before .before .before .before .before .before .before .before .before .enum-told .given .1))
-    (got-gone _ ((rw (c .before .before .before .before .before .before .ps .ensures) at (c .before .before .before .before .before .store .ensures)) .got) (kept-none (c .before .enum-told4 .given .1)) (kept-lost (c .unwritten2 .ensures) (c .before .enum-told4 .given .1))))
+returns-2 c =
+    let kept = (rw (c .before .before .before .before .before .ps .ensures) at (c .before .before .before .before .store .ensures)) .got in
+    did refl (c .before .before .before .before .before .before .before .before .before .before .before .before .before .before .before .before .before .pre)
+    (got-then _ (c .before .before .before .before .before .before .before .before .before .before .before .before .keep-registers .ensures .got) (kept-is (c .before .before .before .before .before .before .before .before .enum-told .given .1))
+    (got-gone _ kept (unwritten-at kept (kept-none (c .enum-told4 .given .1))) refl))
 
 same-length-3 : tie.Need-same-length-3
 same-length-3 c = c .before .before .before .before .before .store .ensures .board .lent .size ∙ sym (c .before .before .before .before .before .before .before .before .before .before .before .before .before .before .before .before .before .before .pre .lent .size)
@@ -53,7 +55,6 @@ save-spec =
     store-requires
     (λ c. search needs)
     (λ c. search needs)
-    (λ c κs. search needs)
     same-length-2
     returns-2
     (λ c κs. search needs)
