@@ -9,7 +9,7 @@ from typing import NamedTuple
 
 from command.lexing import LABEL, is_hex
 from command.places import Line, Place, TextError
-from command.sections import Entry, section_words
+from command.sections import Entry, section_words, word_at
 
 WIDTH = 32
 MOST_LINES = 1024
@@ -102,33 +102,26 @@ class Source:
             lines[at] = f"{lines[at][: match.start(2)]}{value:04X}"
         return lines
 
-    def assembled(self, lines):
-        """The word section of lines, as the assembler writes it."""
+    def answer(self, lines, words=()):
+        """What the assembler answers to lines."""
         if len(lines) > MOST_LINES:
             raise TextError(f"36: a source has {MOST_LINES:,} lines at most", self.lines[min(MOST_LINES, len(self.lines) - 1)].place(0))
-        section, said = self.programs.run("assemble", "".join(f"{line}\n" for line in lines).encode("ascii"))
+        answer, said = self.programs.run("assemble", "".join(f"{line}\n" for line in lines).encode("ascii"), words)
         self.stop_if_refused(said)
-        return section
+        return answer
 
     def values(self, labels):
-        """The values of labels that the lines give, as the assembler has them: it is asked for the op code LEA R0,LABEL of each, at
-        addresses that the source leaves free, and the op code's second word is the label less the address after it."""
-        asked_for = sorted(labels & self.given())
-        lines = self.text(None)
-        used = {address for address, _ in section_words(self.assembled(lines))}
-        if not asked_for:
-            return {}
-        start = free_stretch(used, 2 * len(asked_for))
-        probes = [f".ORG {start:04X}", *(f"LEA R0,{label}" for label in asked_for)]
-        words = dict(section_words(self.assembled(lines + probes)))
-        after = {label: start + 4 * k + 4 for k, label in enumerate(asked_for)}
-        return {label: (words[after[label] - 2] + after[label]) % 0x10000 for label in asked_for}
+        """The values of those labels that the lines give, as the assembler tells them: for each line its label's length and its value."""
+        told = self.answer(self.text(None), ["labels"])
+        sizes_and_values = [(word_at(told, at), word_at(told, at + 2)) for at in range(0, len(told), 4)]
+        given = {line.text[:size]: value for line, (size, value) in zip(self.lines, sizes_and_values) if size}
+        return {label: given[label] for label in sorted(labels) if label in given}
 
     def section(self, labels=None):
         """The word section, with the values of labels that others give beside the source's own."""
         wanted = self.wants() - set(labels or {})
         known = {**(labels or {}), **(self.values(wanted) if wanted else {})}
-        return self.assembled(self.text(known))
+        return self.answer(self.text(known))
 
     def stop_if_refused(self, said):
         """Ends where the assembler refuses a line, and shows it."""
@@ -138,20 +131,11 @@ class Source:
             raise self.refused(number, self.lines, at)
 
 
-
 def value_of(label, labels, place):
     """A label's value."""
     if label not in labels:
         raise TextError(f"26: no line gives the label {label}", place)
     return labels[label]
-
-
-def free_stretch(used, words):
-    """The highest even address from which so many words are free."""
-    for start in range(0x10000 - 2 * words, -2, -2):
-        if not any(start + 2 * k in used for k in range(words)):
-            return start
-    raise TextError("there is no room to ask for the labels' values: the words fill the image")
 
 
 def entries_of(section):

@@ -4,6 +4,10 @@ import re
 import unittest
 
 from command.mnemonics import MNEMONICS
+from command.programs import Programs
+from command.reading import lines_of
+from command.sections import section_words
+from command.source import Source
 from command.tests.support import ROOT, Case, hitch, sample
 
 SECTION = bytes.fromhex("0200 8000C0B5 82000500")
@@ -100,6 +104,20 @@ class Refused(Case):
         patch = self.file("patch.asm", "NOP\nNOPE\n")
         said = f"hitch: {patch}:2:4: 24 (31): the text is whole before this; a comment begins with ; or with # between blanks\n    NOPE\n       ^\n"
         self.ends(1, "", said, "run", "--unproved", "--asm", patch, "jobs/example.txt")
+
+
+class Labels(Case):
+    """The values of labels are those that the assembler tells."""
+
+    def test_values(self):
+        text = b"X: NOP\n.ORG 0100\nBR FF\nLONG: .WORD 0000\nLABELS: NOP\n"
+        values = Source(lines_of(text, "-"), Programs(proved=False), None).values({"LABELS", "LONG", "X", "NONE"})
+        self.assertEqual(values, {"X": 0, "LONG": 0x0102, "LABELS": 0x0104})
+
+    def test_words_to_the_end(self):
+        text = b".ORG FFF8\nSTART: .WORD START\n.WORD LAST\n.WORD 0000\nLAST: .WORD START\n"
+        words = section_words(hitch("asm", "--unproved", stdin=text).wrote)
+        self.assertEqual(words, [(0xFFF8, 0xFFF8), (0xFFFA, 0xFFFE), (0xFFFC, 0), (0xFFFE, 0xFFF8)])
 
 
 class Mnemonics(unittest.TestCase):

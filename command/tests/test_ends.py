@@ -31,7 +31,7 @@ class Endless(Case):
         self.ends(1, "", f"hitch: /dev/zero {LONG}\n", "run", "--asm", "/dev/zero", "jobs/sob.txt")
 
     def test_yes(self):
-        for words in (["run"], ["text"], ["asm"], ["record"], ["list", "-", "0", "2"], ["make-trace"], ["job"]):
+        for words in (["run"], ["trace"], ["text"], ["asm"], ["record"], ["list", "-", "0", "2"], ["make-trace"], ["job"]):
             with subprocess.Popen(["yes", "NOP"], stdout=subprocess.PIPE) as yes:
                 status, said = left(words, stdin=yes.stdout, stdout=subprocess.DEVNULL)
                 yes.stdout.close()
@@ -45,6 +45,7 @@ class Output(Case):
     COMMANDS = (
         ["run", "--unproved", "jobs/example.txt"],
         ["run", "--unproved", "jobs/refused.txt"],
+        ["trace", "--unproved", "jobs/example.txt"],
         ["list", "--unproved", "jobs/example.txt", "0", "FFFE"],
         ["record", "--unproved", "jobs/pulled-card.scans"],
         ["asm", "--unproved", "jobs/patch.asm"],
@@ -106,9 +107,12 @@ class Output(Case):
         trace = os.path.join(ROOT, "jobs/example.trace")
         for name, data, words in (
             ("bench", job, []),
+            ("afterrun", bytes((1, 3, 3, 0)) + job, []),
+            ("steps", bytes((1, 3, 3, 0)) + job, []),
             ("list", bytes(4) + job, []),
             ("record", scans, []),
             ("assemble", b"NOP\n", []),
+            ("assemble", b"X: NOP\n", ["labels"]),
             ("text", b"NOP\n", []),
             ("make_trace", job, []),
             ("check_trace", b"", [self.file("job", job), trace]),
@@ -243,7 +247,7 @@ class AnyInput(Case):
                 data = bytes(chance.randrange(256) for _ in range(chance.randrange(60)))
             else:
                 data = b"".join(chance.choice(words) + chance.choice([b" ", b"\n", b"\t"]) for _ in range(chance.randrange(25)))
-            command = chance.choice((["run"], ["text"], ["asm"], ["record"], ["list", "-", "0", "8"], ["make-trace"]))
+            command = chance.choice((["run"], ["trace"], ["text"], ["asm"], ["record"], ["list", "-", "0", "8"], ["make-trace"]))
             with self.subTest(command=command, data=data):
                 ended = hitch(command[0], "--unproved", *command[1:], stdin=data)
                 self.assertIn(ended.status, (0, 1, 2))

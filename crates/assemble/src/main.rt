@@ -1,8 +1,10 @@
-// Reads the source of a patch on standard input, a line of up to 32 bytes each, and writes the word section of a job on standard output. A source that is refused writes nothing there; standard error has the line, the reason in words and its number, and says so where the section could not be written.
+// Reads the source of a patch on standard input, a line of up to 32 bytes each, and writes the word section of a job on standard output;
+// with a word after its name, each line's label and value, four bytes a line as the library tells them. A source that is refused writes nothing there; standard error has the line, the reason in words and its number, and says so where the section could not be written.
 ghost use mathlib.Core.Path.{_≡_};
 ghost use Prim.Native.Nat.{_≤_, _<_};
 ghost use lib.ListN.{length};
 use assembler::Assembled;
+use assembler::Labelled;
 use libc::STDERR_FILENO;
 use libc::STDIN_FILENO;
 use libc::STDOUT_FILENO;
@@ -10,6 +12,7 @@ use refusal::number::LABEL_AGAIN;
 use refusal::number::LABEL_MISSING;
 use refusal::number::OUT_OF_PLACE;
 use refusal::number::OUT_OF_REACH;
+use refusal::number::SOURCE_LINES;
 use refusal::number::UNKNOWN_TEXT;
 
 // A line's bytes, and one line more than a source may have.
@@ -103,19 +106,19 @@ fn pad(input: &[u8], source: &mut [u8]) -> Padded
 
 fn say_why(why: u8) {
     if why == UNKNOWN_TEXT {
-        say(b"unknown text; a label is one to six capitals, no hex number, not SP or PC");
+        say(b"a line is no text; a label is one to six capitals, no hex number, not SP or PC");
     } else if why == LABEL_AGAIN {
-        say(b"its label is already given");
+        say(b"a line's label is already given");
     } else if why == LABEL_MISSING {
-        say(b"no line gives its label");
+        say(b"no line gives a label that a line names");
     } else if why == OUT_OF_REACH {
-        say(
-            b"its label is out of reach: a branch goes 128 words back to 127 ahead, SOB 0 to 63 back",
-        );
+        say(b"a branch further than -128 to 127 words, or SOB further than 0 to 63 back");
     } else if why == OUT_OF_PLACE {
-        say(b"an odd origin, or words on an earlier line's or past FFFF");
+        say(b"an odd origin, or words that overlap an earlier line's or run past FFFF");
+    } else if why == SOURCE_LINES {
+        say(b"the source is not whole lines of 32 bytes, or over 1,024 of them");
     } else {
-        say(b"more than 1024 lines");
+        say(b"the output is too short");
     }
 }
 
@@ -171,7 +174,7 @@ fn say_long(line: usize) {
     say(b", from 0, is longer than 32 bytes\n");
 }
 
-// Writes the first bytes of a section; answers whether all were written.
+// Writes the first bytes of an answer; tells whether all were written.
 fn put(section: &[u8], n: usize) -> bool {
     if n <= section.len() {
         return io::write_all(STDOUT_FILENO, &section[..n]);
@@ -185,12 +188,29 @@ fn say_unless(written: bool) {
     }
 }
 
-fn answer(source: &[u8]) {
+fn answer_section(source: &[u8]) {
     let mut section = [0u8; 12290];
     match assembler::assemble(source, &mut section) {
         Assembled::Section(n) => say_unless(put(&section, n as usize)),
         Assembled::Refused(why) => say_refused(why),
         Assembled::RefusedAt(why, line) => say_refused_at(source, why, line),
+    }
+}
+
+fn answer_labels(source: &[u8]) {
+    let mut labels = [0u8; 4096];
+    match assembler::labels(source, &mut labels) {
+        Labelled::Bytes(n) => say_unless(put(&labels, n as usize)),
+        Labelled::Refused(why) => say_refused(why),
+        Labelled::RefusedAt(why, line) => say_refused_at(source, why, line),
+    }
+}
+
+fn answer(source: &[u8]) {
+    if os::arg_count() < 2 {
+        answer_section(source);
+    } else {
+        answer_labels(source);
     }
 }
 
