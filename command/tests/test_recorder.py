@@ -23,11 +23,11 @@ class Record(Case):
 
     def test_refused_scans_are_shown(self):
         said = (
-            "hitch: jobs/refused.scans:4:20: scan 2: a reading is not from -500 to 500 (refusal 33)\n"
+            "hitch: jobs/refused.scans:4:20: scan 2: a reading of a channel that has its card is not from -500 to 500 (refusal 33)\n"
             "    scan 1 1 1 1 1 1 1 501 1 1 1 1 1 1 1 1\n                       ^^^\n"
             "hitch: jobs/refused.scans:5:44: scan 3: an unused bit of a line word is set (refusal 5)\n"
             "    scan 3 3 3 3 3 3 3 3 3 3 3 3 3 3 3 3 lines 0004\n    " + " " * 43 + "^^^^\n"
-            "hitch: jobs/refused.scans:6:55: scan 4: there are over 4,096 line words (refusal 4)\n"
+            "hitch: jobs/refused.scans:6:55: scan 4: over 4,096 line words (refusal 4)\n"
             "    scan 5 5 5 5 5 5 5 5 5 5 5 5 5 5 5 5 lines 0000 x4096 0000\n    " + " " * 54 + "^^^^\n"
         )
         self.ends(1, sample("refused.table"), said, "record", "--unproved", "jobs/refused.scans")
@@ -45,11 +45,11 @@ class Record(Case):
         most = " 0000 x4096" * 15
         ended = self.record(f"pages 00\nscan{SIXTEEN} lines{most} 0000 x4095\nscan{SIXTEEN}\n")
         one = self.record(f"pages 00\nscan{SIXTEEN}\n")
-        self.assertEqual((ended.status, ended.wrote), (1, b"scan 1: there are over 4,096 line words (refusal 4)\n" + one.wrote))
+        self.assertEqual((ended.status, ended.wrote), (1, b"scan 1: over 4,096 line words (refusal 4)\n" + one.wrote))
         many = "pages 00\n" + f"scan 501{SIXTEEN[2:]}\n" * 65535 + f"scan{SIXTEEN}\n"
         ended = hitch("record", "--unproved", stdin=many.encode())
         self.assertEqual(ended.status, 1)
-        self.assertEqual(ended.wrote.split(b"\n")[-20:], [b"scan 65535: a reading is not from -500 to 500 (refusal 33)", *one.wrote.split(b"\n")][-20:])
+        self.assertEqual(ended.wrote.split(b"\n")[-20:], [b"scan 65535: a reading of a channel that has its card is not from -500 to 500 (refusal 33)", *one.wrote.split(b"\n")][-20:])
 
     def test_another_board(self):
         text = "pages 00 FE\njumpers up 0\nexternal 00\nlines 0000\nscan" + SIXTEEN

@@ -46,6 +46,22 @@ class Page(unittest.TestCase):
             with self.subTest(kind):
                 self.assertEqual(found, {key: words for key, words in told.items() if key[0] == kind})
 
+    def test_words_of_programs(self):
+        words = {number: words for kind, number, _, words in rows() if kind == "refusal"}
+        with open(os.path.join(ROOT, "crates/refusal/src/number.rt"), encoding="utf-8") as names:
+            numbers = {name: int(number) for name, number in re.findall(r"pub const (\w+): u8 = (\d+);", names.read())}
+        for program, refusals in (
+            ("record/src/table.rt", {"LINES_LENGTH", "LINE_BIT", "READING_OUT_OF_RANGE", "SCANS_FULL"}),
+            ("assemble/src/main.rt", {"UNKNOWN_TEXT", "LABEL_AGAIN", "LABEL_MISSING", "OUT_OF_REACH", "OUT_OF_PLACE", "SOURCE_LINES"}),
+        ):
+            with open(os.path.join(ROOT, "crates", program), encoding="utf-8") as code:
+                said = re.findall(r'why == (\w+) \{\s*(?:return put|say)\(\s*b"(.*?)"', code.read())
+            self.assertEqual({name for name, _ in said}, refusals)
+            for name, told in said:
+                with self.subTest(program=program, refusal=name):
+                    # A program may add to the table's words after a semicolon, and leave out what is not its own after a comma.
+                    self.assertIn(told.partition("; ")[0], (words[numbers[name]], words[numbers[name]].partition(", or ")[0]))
+
 
 if __name__ == "__main__":
     unittest.main()
