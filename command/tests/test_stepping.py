@@ -1,9 +1,15 @@
 """hitch trace: a job step by step."""
+import glob
 import os
 import time
 import unittest
 
-from command.stepping import HEADER, Step
+from command import jobs
+from command.options import asked
+from command.programs import Programs
+from command.running import End
+from command.showing import REGISTERS
+from command.stepping import HEADER, NOTHING, Step
 from command.tests.support import MORE, ROOT, Case, hitch, sample
 
 EXAMPLE = [
@@ -58,6 +64,22 @@ class Trace(Case):
         wrote = hitch("trace", "--unproved", stdin=b"pages 0\n0012 = 0090\n0016 = 0180\nlines 0000 x2\n").wrote.decode().splitlines()[1:]
         self.assertTrue(wrote[0].startswith("   0 0000  0180 ----"), wrote[0])
         self.assertTrue(wrote[0].endswith("locked, now or before: 0180, page 01 is not fitted"), wrote[0])
+
+    def test_the_last_that_is_told_is_what_the_run_leaves(self):
+        programs = Programs(proved=False)
+        for path in sorted(glob.glob(os.path.join(ROOT, "jobs", "*.txt"))):
+            job = jobs.given(asked([path]), programs)
+            data = bytes(job.board()) + job.data
+            answer = programs.run("steps", data)[0].decode("ascii")
+            end = End(programs.run("afterrun", data)[0])
+            told, written = {}, {}
+            for step in [Step(line) for line in answer.splitlines() if "\t" in line]:
+                told.update((name, value) for name, value in step.changed.items() if value != NOTHING)
+                written.update((int(address, 16), int(word, 16)) for address, word in step.written)
+            left = dict(zip((*REGISTERS, "PS", "mode"), end.line.decode("ascii").split(" ")))
+            with self.subTest(os.path.basename(path)):
+                self.assertEqual(told, {name: left[name].rjust(4, "0") for name in told})
+                self.assertEqual(written, {address: end.word(address) for address in written})
 
     def test_refused_and_wrong_use(self):
         said = "hitch: jobs/refused.txt:5:8: 17: a word's page is not fitted\n    0100 = 0001\n           ^^^^\n"
