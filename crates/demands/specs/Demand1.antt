@@ -34,6 +34,7 @@ use Rattle.runjob.specs.Bench.{jobRun, benchWhy, benchOf}
 use Rattle.listing.specs.Calls.{lineWhy, lineCall}
 use Rattle.listjob.specs.Stretch.{listWhy, listOf}
 use Rattle.listing_c.specs.Calls.{listCall}
+use Rattle.stepline.specs.Shown.{showWhy, showOf}
 use Rattle.textc.specs.Calls.{wordsIn, odd, notAnswer, writeCall, ReadCall}
 use Rattle.textc.specs.Calls as Textc
 use Rattle.assembler.specs.Answer.{asmOf}
@@ -142,6 +143,11 @@ ListLineAnswers = (image map : List ℕ) (a last : ℕ) (text : List ℕ) → Ke
 -- A LISTING, from the bytes of two addresses and a job to its lines: 8, 11, the job's own, 23
 abbrev pub ListAnswers : Type 0
 ListAnswers = (input text image map lines : List ℕ) → Keeps (listWhy input (length text) (length image) (length map) (length lines)) (text, image, map, lines) (listOf input text image map lines)
+
+-- A STEP WITH ITS LINE: 1, 2, 3, 35, 5, 8
+abbrev pub WriteStepAnswers : Type 0
+WriteStepAnswers = (settings : Settings) (image map : List ℕ) (line number : ℕ) (s : State) (text : List ℕ)
+    → Keeps (showWhy settings (length image) map line (length text)) (image, text) (showOf settings image map line number s text)
 
 -- A TRACE CHECKED: the job's own, 29
 abbrev pub CheckAnswers : Type 0

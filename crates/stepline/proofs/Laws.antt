@@ -1,34 +1,33 @@
 -- How long the parts of a step's line are, one part more, and from the code's facts to the line.
 use Prim.Native.Nat.{ℕ, zero, suc, _+_, _*_, _/_, _%_, _≤_, _<_}
-use mathlib.Core.Bool.{Bool, true, false, not, _||_, cond}
+use mathlib.Core.Bool.{Bool, true, false, not, cond}
 use mathlib.Core.List.{List, [], _∷_, _++_, append-assoc, append-nil}
 use mathlib.Core.Path.{_≡_, refl, sym, ap, _∙_, subst}
 use native.Mathlib.Numerals.{add-one}
 use native.Mathlib.Omega.{arith}
 use borrow.Author.Tests.{le-ltb, lt-ltb, ltb-false, not-true, not-false}
-use lib.Dec.{eqb, ltb}
+use lib.Dec.{ltb}
 use lib.ListN.{length, getD, take, length-append}
-use Rattle.letters.specs.Over.{over, Wrote, WroteAt}
+use Rattle.letters.specs.Over.{Wrote, WroteAt}
 use Rattle.letters.proofs.Laws.Laid.{wrote-none, then}
 use Rattle.words.specs.Words.{wordAt}
 use Rattle.board.specs.Work.{fitted}
 use Rattle.refusal.specs.Numbers.{textShort}
-use Rattle.refusal.specs.Page.{Page, refused, refusedAt, answered, Left, left, call, first}
+use Rattle.refusal.specs.Page.{refused, answered, Left, left, call}
 use Rattle.refusal.specs.Refusal.{boardRefusal, powerRefusal, stepRefusal}
-use Rattle.refusal.proofs.Laws.Page.{first-some, first-both, apart, answered-one, call-refused, call-answered, one, one-call}
+use Rattle.refusal.proofs.Laws.Page.{first-some, first-both, apart, answered-one, call-refused, call-answered}
 use Rattle.refusal.proofs.Laws.Refusal.{Sound, step-sound}
 use Rattle.line.specs.Line.{fields, dashes}
 use Rattle.line.proofs.Laws.Lengths.{fields-length}
 use Rattle.optext.specs.Line.{taken, textOf, wordText}
 use Rattle.optext.proofs.Laws.Longest.{text-le}
 use Rattle.optext.proofs.Laws.Meets.{taken-le}
-use Rattle.listing.specs.declared.Found.{Found}
 use Rattle.listing.specs.declared.Found.the-variants.{Nothing, Cut, Whole}
 use Rattle.listing.specs.declared.Listed.{Listed}
 use Rattle.listing.specs.declared.Listed.the-variants as Listed
 use Rattle.listing.specs.Listing.{allStand, foundAt, lineAt, wordsAt}
 use Rattle.listing.specs.Listing as Listing
-use Rattle.listing.specs.Calls.{Lined, lined, listedPage, badStretch, lineWhy, nextOf, lineIn, lineCall}
+use Rattle.listing.specs.Calls.{Lined, listedPage, badStretch, lineWhy, lineIn, lineCall}
 use Rattle.listing.proofs.Laws.{word-length}
 use Rattle.listing.proofs.Laws.Joined.{cond-none}
 use Rattle.state.specs.declared.State.{State}

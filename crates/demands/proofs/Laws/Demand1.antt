@@ -35,6 +35,7 @@ use Rattle.runjob.specs.Bench as Bench
 use Rattle.listing.specs.Calls.{lineWhy, lineIn, lineCall}
 use Rattle.listjob.specs.Stretch.{listWhy, listedIn, listOf}
 use Rattle.listing_c.specs.Calls.{lineWords, listCall}
+use Rattle.stepline.specs.Shown.{stepText, showWhy, shownAs, showOf}
 use Rattle.textc.specs.Calls.{wordsIn, odd, notAnswer, writeCall}
 use Rattle.textc.specs.Calls as Textc
 use Rattle.assembler.specs.Answer.{asmOf}
@@ -48,7 +49,7 @@ use Rattle.demands.specs.Terms.{OrPlace, numberAlone, placeToo, numberOf
 use Rattle.demands.proofs.Laws.Texts.{writer-numbered, word-numbered, reads-numbered, write-call, read-call}
 use Rattle.demands.proofs.Laws.Sources.{ends-kept}
 use Rattle.demands.proofs.Laws.Calls.{numbered}
-use Rattle.demands.specs.Demand1.{IsAnswer, isAnswer, KeepsC, CallKeeps, ReadingKeeps, PowerUpAnswers, StepAnswers, RunAnswers, JobAnswers, JobRunAnswers, BenchAnswers, LineAnswers, ListLineAnswers, ListAnswers, CheckAnswers, MakeAnswers, WriteAnswers, WriteWordAnswers, ReadAnswers, AssembleAnswers, Wd16PowerUpAnswers, Wd16StepAnswers, Wd16RunAnswers, Wd16CheckTraceAnswers, Wd16WriteTextAnswers, Wd16ReadTextAnswers, Wd16AssembleAnswers, KeptAt, KeptCAt, KeepsCAt, CallKeepsAt, ReadingKeepsAt, RunSameAnswers, RunUntilAnswers, LabelsAnswers, Wd16RunSameAnswers, Wd16RunUntilAnswers, Wd16ReadJobAnswers, Wd16ListLineAnswers, Wd16LabelsAnswers}
+use Rattle.demands.specs.Demand1.{IsAnswer, isAnswer, KeepsC, CallKeeps, ReadingKeeps, PowerUpAnswers, StepAnswers, RunAnswers, JobAnswers, JobRunAnswers, BenchAnswers, LineAnswers, ListLineAnswers, ListAnswers, CheckAnswers, MakeAnswers, WriteAnswers, WriteWordAnswers, ReadAnswers, AssembleAnswers, Wd16PowerUpAnswers, Wd16StepAnswers, Wd16RunAnswers, Wd16CheckTraceAnswers, Wd16WriteTextAnswers, Wd16ReadTextAnswers, Wd16AssembleAnswers, KeptAt, KeptCAt, KeepsCAt, CallKeepsAt, ReadingKeepsAt, RunSameAnswers, RunUntilAnswers, LabelsAnswers, Wd16RunSameAnswers, Wd16RunUntilAnswers, Wd16ReadJobAnswers, Wd16ListLineAnswers, Wd16LabelsAnswers, WriteStepAnswers}
 
 -- ---- THE THEOREM
 
@@ -161,6 +162,11 @@ pub list-answers : ListAnswers
 unfolding listOf
 list-answers input text image map lines =
     call-keeps _ _ (listWhy input (length text) (length image) (length map) (length lines)) (listedIn input text) (text, image, map, lines) (isAnswer _)
+
+pub write-step-answers : WriteStepAnswers
+unfolding showOf
+write-step-answers settings image map line number s text =
+    call-keeps _ _ (showWhy settings (length image) map line (length text)) (shownAs (stepOf map (heard settings line) s image) (stepText settings map line number s image) text) (image, text) (isAnswer _)
 
 pub check-answers : CheckAnswers
 unfolding checkOf
