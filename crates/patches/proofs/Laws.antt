@@ -1,6 +1,7 @@
 -- The laws of the crate's definitions.
 pub mod Again
 pub mod Given
+pub mod Labels
 pub mod Listed
 pub mod Padded
 pub mod Pieces

@@ -5,3 +5,4 @@ pub mod Padded
 pub mod Pieces
 pub mod Listed
 pub mod Given
+pub mod Labels

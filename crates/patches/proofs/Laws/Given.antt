@@ -34,6 +34,8 @@ use Rattle.assembler_c.specs.Call.{sizeWords, assembleCall}
 use Rattle.patches.specs.Rising.{addressIn, Rises}
 use Rattle.patches.specs.Given.{Has, Gives, OneWord, ReaderGives, Wd16ReaderGives, OpIsText}
 use Rattle.patches.proofs.Laws.Again.{plain-words, text-said}
+use Rattle.patches.specs.Labels.{LabelGives, LabelsGive, Wd16LabelsGive}
+use Rattle.patches.proofs.Laws.Labels.{branch-read, sob-read}
 use Rattle.patches.proofs.Laws.Rising.{ends-below, words-count, placed-rises}
 use Rattle.patches.proofs.Laws.Taken.{byte-is, word-is, count-is, behind, placed-few}
 
@@ -290,3 +292,22 @@ one-word s out n out′ e a w v x y =
           | yes k ↦ sym d ∙ ap (λ (m : ℕ). wordAt out′ (4 + m * 4)) k ∙ f
           | no k ↦ absurd (⊎-elim p (λ h. q (omega (arith, h, k))) (lt-cases i j))
         ]
+
+-- ---- a line with a label
+
+label-line : (s bytes : List ℕ) → Left s bytes → (i : ℕ) → i < countOf s → LabelGives s i bytes
+unfolding saidAt
+label-line s bytes g i h = record {
+  branch = λ how comma label.
+      let r = branch-read s (textAt s i) (hereOf s i) how comma label in
+      (r .0, r .1, line-gives s bytes g i (r .0) h (whole-few (r .0) (r .1 .whole)) (r .1 .whole .words) (r .2) (ap isOrigin how));
+  sob = λ how first label.
+      let r = sob-read s (textAt s i) (hereOf s i) how first label in
+      (r .0, r .1, line-gives s bytes g i (r .0) h (whole-few (r .0) (r .1 .whole)) (r .1 .whole .words) (r .2) (ap isOrigin how));
+}
+
+pub labels-give : LabelsGive
+labels-give s out n out′ e i h = label-line s out′ (left-of s out n out′ e) i h
+
+pub wd16-labels-give : Wd16LabelsGive
+wd16-labels-give s out b out′ b′ e i h = label-line s out′ (wd16-left s out b out′ b′ e) i h

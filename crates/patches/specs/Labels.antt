@@ -1,0 +1,58 @@
+-- A LINE WITH A LABEL GIVES THE WORDS THAT 01'S READER GIVES OF THE SAME LINE WITH THE LABEL'S DIGITS IN ITS PLACE: `BR X` as `BR dd`, and
+-- `SOB R1,X` as `SOB R1,dd`. The reader's words are told by the text's own definition: words that are one op code, whose text it is.
+use mathlib.Core.Bool.{true}
+use mathlib.Core.Path.{_≡_}
+use mathlib.Core.List.{List, []}
+use Prim.Native.Nat.{ℕ, _/_, _%_, _≤_, _<_}
+use lib.ListN.{length}
+use Rattle.letters.specs.Digits.{letters, hex2}
+use Rattle.optext.specs.Rows.{nameOf}
+use Rattle.optext.specs.Line.{rowOf, textOf}
+use Rattle.optext.specs.Column.{Whole}
+use Rattle.optext.specs.Read.{opOf}
+use Rattle.patchline.specs.declared.oneline.How.the-variants.{Branch, Sob}
+use Rattle.patchline.specs.Line.{commaAt, firstIn, secondIn, labelIn, filled, isSob, saidOf, ahead, behind}
+use Rattle.assembler.specs.Source.{countOf, textAt, saidAt, hereOf, valueOf, wordsIn}
+use Rattle.assembler.specs.Answer.{section, after, asmOf}
+use Rattle.assembler_c.specs.Call.{went, assembleCall}
+use Rattle.patches.specs.Given.{Gives}
+
+-- the op code whose text the line is with d for its label
+pub record Reads (t d ws : List ℕ) : Type 0 where
+  pub whole : Whole ws
+  pub text : textOf ws ≡ filled d t
+
+-- the digits of a label of the value v, in a branch and in SOB at h
+abbrev pub branchDigits : ℕ → ℕ → List ℕ
+branchDigits v h = hex2 (ahead v h / 2 % 256)
+
+abbrev pub sobDigits : ℕ → ℕ → List ℕ
+sobDigits v h = hex2 (behind v h / 2 % 64)
+
+-- a line that is taken as a branch, with one operand, a label: its words are the reader's
+abbrev pub BranchRead : Type 0
+BranchRead = (s t : List ℕ) (h : ℕ) → saidOf t .how ≡ Branch → length t ≤ commaAt t → 0 < length (labelIn (firstIn t))
+    → (ws : List ℕ) × Reads t (branchDigits (valueOf s (labelIn (firstIn t))) h) ws × (wordsIn s h t ≡ opOf ws)
+
+-- a line that is taken as SOB, with a label as its second operand
+abbrev pub SobRead : Type 0
+SobRead = (s t : List ℕ) (h : ℕ) → saidOf t .how ≡ Sob → labelIn (firstIn t) ≡ [] → 0 < length (labelIn (secondIn t))
+    → (ws : List ℕ) × Reads t (sobDigits (valueOf s (labelIn (secondIn t))) h) ws × (wordsIn s h t ≡ opOf ws)
+
+-- what a label is put into as SOB is the text's row of that name. (As a branch, the plate's format 5: laws Labels `branches-are-plates`.)
+abbrev pub SobIsRow : Type 0
+SobIsRow = (nameOf 94 ≡ letters "SOB") × ((w : ℕ) → w < 65536 → (isSob w ≡ true → rowOf w ≡ 94) × (rowOf w ≡ 94 → isSob w ≡ true))
+
+-- ---- in the bytes that the calls leave, as for a line that the reader takes itself
+
+pub record LabelGives (s : List ℕ) (i : ℕ) (bytes : List ℕ) : Type 0 where
+  pub branch : saidAt s i .how ≡ Branch → length (textAt s i) ≤ commaAt (textAt s i) → 0 < length (labelIn (firstIn (textAt s i)))
+      → (ws : List ℕ) × Reads (textAt s i) (branchDigits (valueOf s (labelIn (firstIn (textAt s i)))) (hereOf s i)) ws × Gives s i bytes ws
+  pub sob : saidAt s i .how ≡ Sob → labelIn (firstIn (textAt s i)) ≡ [] → 0 < length (labelIn (secondIn (textAt s i)))
+      → (ws : List ℕ) × Reads (textAt s i) (sobDigits (valueOf s (labelIn (secondIn (textAt s i)))) (hereOf s i)) ws × Gives s i bytes ws
+
+abbrev pub LabelsGive : Type 0
+LabelsGive = (s out : List ℕ) (n : ℕ) (out′ : List ℕ) → after (section n) out′ ≡ asmOf s out → (i : ℕ) → i < countOf s → LabelGives s i out′
+
+abbrev pub Wd16LabelsGive : Type 0
+Wd16LabelsGive = (s out b out′ b′ : List ℕ) → went 0 out′ b′ ≡ assembleCall s out b → (i : ℕ) → i < countOf s → LabelGives s i out′
