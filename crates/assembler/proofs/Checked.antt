@@ -1,13 +1,14 @@
 -- Laws of a call over a source: what is refused, the first fault, and what is right.
 use mathlib.Core.Path.{_≡_, refl}
-use mathlib.Core.Bool.{Bool, true, false, cond}
+use mathlib.Core.Bool.{cond}
 use mathlib.Core.List.{List, [], _∷_}
 use Prim.Native.Nat.{ℕ, _%_, _≤_, _<_}
 use native.Mathlib.Omega.{arith}
-use borrow.Author.Tests.{lt-ltb, le-ltb, ltb-false}
+use borrow.Author.Tests.{lt-ltb, le-ltb}
 use lib.Dec.{ltb, eqb}
 use lib.ListN.{length, take}
 use Rattle.letters.specs.Over.{Wrote}
+use Rattle.optext.proofs.Laws.Calls.{none-told}
 use Rattle.refusal.specs.Numbers.{outputShort, sourceLines}
 use Rattle.refusal.specs.Page.{refused, refusedAt, answered, Left, left, first}
 use Rattle.refusal.proofs.Laws.Page.{call-refused, call-answered, first-both}
@@ -36,10 +37,6 @@ unfolding assembled
 section-is s out table e n k q w = rw (← q) w
 
 -- ---- 10 and 36
-
-none-told : (a b n : ℕ) (x : Bool) → ltb a b ≡ x → 0 < n → cond x n 0 ≡ 0 → b ≤ a
-none-told a b n true e l h = absurd (omega arith)
-none-told a b n false e l h = ltb-false a b e
 
 pub source-sound : (room : ℕ) (s : List ℕ) (size : ℕ) → sourceWhy room s size ≡ 0 → (countOf s ≤ 1024) × (room ≤ size)
 unfolding sourceWhy

@@ -8,11 +8,10 @@ use Prim.Native.Nat.{ℕ}
 use mathlib.Core.Bool.{Bool, false, cond}
 use mathlib.Core.List.{List}
 use mathlib.Core.Path.{_≡_}
-use lib.Dec.{ltb}
 use lib.ListN.{length}
 use Rattle.state.specs.declared.State.{State}
 use Rattle.state.specs.declared.Settings.{Settings}
-use Rattle.refusal.specs.Numbers.{noState, wordsOdd, textShort}
+use Rattle.refusal.specs.Numbers.{noState}
 use Rattle.refusal.specs.Page.{Page, refused, refusedAt, answered, Left, left, call, first, Told, readingAt}
 use Rattle.answer.specs.Answer.{answerWhy, placeWords}
 use Rattle.machine.specs.declared.Until.{Until}
@@ -24,9 +23,7 @@ use Rattle.firmware.specs.Calls.{powerUpCall, stepCall, runCall}
 use Rattle.firmware.specs.Runs.{refusedUntil, runSameCall, runUntilCall}
 use Rattle.job.specs.Job.{whyJob, whyRead, jobOf}
 use Rattle.job_c.specs.Calls.{readCall}
-use Rattle.optext.specs.declared.Written.{Written}
-use Rattle.optext.specs.declared.ReadBack.{ReadBack}
-use Rattle.optext.specs.Answer.{refusal, refusalAt, writtenAs, readAs, Writes, WritesWord}
+use Rattle.optext.specs.Answer.{roomWhy, writeWhy, writeOf, writeWordOf}
 use Rattle.optext.specs.Column.{Column}
 use Rattle.optext.specs.Words.{Reads}
 use Rattle.line.specs.Line.{printWhy, printOf}
@@ -35,15 +32,14 @@ use Rattle.listing.specs.Calls.{lineWhy, lineCall}
 use Rattle.listjob.specs.Stretch.{listWhy, listOf}
 use Rattle.listing_c.specs.Calls.{listCall}
 use Rattle.stepline.specs.Shown.{showWhy, showOf}
-use Rattle.textc.specs.Calls.{wordsIn, odd, notAnswer, writeCall, ReadCall}
-use Rattle.textc.specs.Calls as Textc
+use Rattle.textc.specs.Calls.{wordsIn, writeCall, ReadCall, lentWhy}
 use Rattle.assembler.specs.Answer.{asmOf}
 use Rattle.assembler.specs.Labels.{labelsPage}
 use Rattle.assembler.specs.Ends.{assembleWhy, labelsWhy, tellsLine, FaultLine}
 use Rattle.assembler_c.specs.Call.{assembleCall, labelsCall}
 use Rattle.trace.specs.Trace.{whyTrace, whyCheck, checkOf, whyMake, makeOf}
 use Rattle.tracecall.specs.Calls.{checkCall}
-use Rattle.demands.specs.Terms.{Numbered, OrPlace, numberOf, writeWhy, roomWhy, Reading, tellsColumn}
+use Rattle.demands.specs.Terms.{OrPlace, wordsWhy, OwnWhy, tellsColumn}
 
 -- ---- the theorem. `why` is the number of the first refusal that applies, 0 where there is none; `promised` is what the contract says
 
@@ -159,17 +155,15 @@ MakeAnswers = (input out image map lines : List ℕ) → Keeps (whyMake input (l
 
 -- THE TEXT OF AN OP CODE, written: 8, 6, 7
 abbrev pub WriteAnswers : Type 0
-WriteAnswers = (words text : List ℕ) (r : Written) (text′ : List ℕ) → Writes words text r text′ → Numbered (writeWhy words text) (numberOf (writtenAs r)) (text′ ≡ text)
+WriteAnswers = (words text : List ℕ) → Keeps (writeWhy words (length text)) text (writeOf words text)
 
 -- .WORD of any word: 8
 abbrev pub WriteWordAnswers : Type 0
-WriteWordAnswers = (x : ℕ) (text : List ℕ) (r : Written) (text′ : List ℕ) → WritesWord x text r text′ → Numbered (cond (ltb (length text) 32) textShort 0) (numberOf (writtenAs r)) (text′ ≡ text)
+WriteWordAnswers = (x : ℕ) (text : List ℕ) → Keeps (roomWhy (length text)) text (writeWordOf x text)
 
 -- and read: 10, then 32, 31, 9 or 30 with its column
 abbrev pub ReadAnswers : Type 0
-ReadAnswers = (text words : List ℕ) (r : ReadBack) (words′ : List ℕ) → Reads (readAs r) text words words′
-    → (let n = numberOf (readAs r) in
-    Reading (roomWhy words) text n ((words′ ≡ words) × OrPlace (tellsColumn n) (Column text) (refusal n) (refusalAt n) (readAs r)))
+ReadAnswers = (text words : List ℕ) (x : Left ℕ (List ℕ)) → Reads (x .page) text words (x .lent) → OwnWhy (wordsWhy words) text (λ why. KeptAt why tellsColumn (λ n. Column text) words x)
 
 -- THE ASSEMBLER: 10, 36, then 24, 25, 26, 28, 27 with the lowest line that has it
 abbrev pub AssembleAnswers : Type 0
@@ -215,13 +209,12 @@ Wd16CheckTraceAnswers = (job t a : List ℕ) → KeepsC (first (answerWhy a) (fi
 
 -- the text written: 21, 38, 8, 6, 7
 abbrev pub Wd16WriteTextAnswers : Type 0
-Wd16WriteTextAnswers = (b t a : List ℕ) (number : ℕ) (t′ a′ : List ℕ) → Textc.left number t′ a′ ≡ writeCall b t a
-    → Numbered (first (cond (notAnswer a) noState 0) (first (cond (odd b) wordsOdd 0) (writeWhy (wordsIn b) t))) number ((t′ ≡ t) × (a′ ≡ a))
+Wd16WriteTextAnswers = (b t a : List ℕ) → KeepsC (first (lentWhy a b) (writeWhy (wordsIn b) (length t))) (t, a) (writeCall b t a)
 
 -- and read: 21, 38, 10, then 32, 31, 9 or 30, which tell their column in the answer
 abbrev pub Wd16ReadTextAnswers : Type 0
-Wd16ReadTextAnswers = (t b a : List ℕ) (number : ℕ) (b′ a′ : List ℕ) → ReadCall t b a (Textc.left number b′ a′)
-    → Reading (first (cond (notAnswer a) noState 0) (first (cond (odd b) wordsOdd 0) (roomWhy (wordsIn b)))) t number ((b′ ≡ b) × OrPlace (tellsColumn number) (Column t) a placeWords a′)
+Wd16ReadTextAnswers = (t b a : List ℕ) (x : Told (List ℕ × List ℕ)) → ReadCall t b a x
+    → OwnWhy (first (lentWhy a b) (wordsWhy (wordsIn b))) t (λ why. KeptCAt why tellsColumn (λ n. Column t) (b, a) (λ column. (b, placeWords column)) x)
 
 -- the assembler: 21, 10, 36, then 24, 25, 26, 28, 27, which tell their line in the answer
 abbrev pub Wd16AssembleAnswers : Type 0

@@ -1,11 +1,12 @@
 -- DEMAND 2. THE MANUAL, STEP BY STEP. Whatever calls answer and leave, as their contracts promise, where they are not refused.
 use Prim.Native.Nat.{ℕ, _*_, _≤_, _<_}
 use mathlib.Core.Bool.{false}
-use mathlib.Core.List.{List, [], _∷_}
+use mathlib.Core.List.{List}
 use mathlib.Core.Path.{_≡_}
 use lib.ListN.{length, getD, take}
 use Rattle.letters.specs.Over.{over}
-use Rattle.words.specs.Words.{wordAt, bytesIn}
+use Rattle.words.specs.Words.{wordAt}
+use Rattle.answer.specs.Answer.{threeWords}
 use Rattle.state.specs.declared.State.{State}
 use Rattle.state.specs.declared.Settings.{Settings}
 use Rattle.state.specs.State.{heard}
@@ -25,10 +26,9 @@ use Rattle.optext.specs.declared.Written.{Written}
 use Rattle.optext.specs.declared.Written.the-variants.{Line}
 use Rattle.optext.specs.declared.ReadBack.{ReadBack}
 use Rattle.optext.specs.declared.ReadBack.the-variants.{Words}
-use Rattle.optext.specs.Answer.{readAs, Writes}
+use Rattle.optext.specs.Answer.{Writes, readPage}
 use Rattle.optext.specs.Words.{Reads}
 use Rattle.textc.specs.Calls.{odd, writeCall, ReadCall}
-use Rattle.textc.specs.Calls as Textc
 use Rattle.demands.specs.Terms.{AllWords, AllBytes, beforeAt}
 
 -- ---- "Each step does what the WD16 Programmer's Reference Manual says, odd corners included, with the board's rules of document 01."
@@ -79,26 +79,26 @@ Wd16RunIs = (b t m map w lines b′ t′ m′ : List ℕ) → told 0 (b′, t′
 -- what a call of the writer left, given to a call of the reader with room for three words: the words that were taken, in front, and no other
 abbrev pub TextAgain : Type 0
 TextAgain = (words text : List ℕ) (n m : ℕ) (text′ room room′ : List ℕ) (r : ReadBack) → AllWords words
-    → Writes words text (Line n m) text′ → 3 ≤ length room → Reads (readAs r) (take n text′) room room′
+    → Writes words text (Line n m) text′ → 3 ≤ length room → Reads (readPage r) (take n text′) room room′
     → (r ≡ Words m) × (room′ ≡ over (take m words) room)
 
 -- for C: b are the words' bytes, a the writer's answer; c and d are lent to the reader for the words and for its answer
 abbrev pub Wd16TextAgain : Type 0
-Wd16TextAgain = (b t a t′ a′ c d : List ℕ) (number : ℕ) (c′ d′ : List ℕ) → AllBytes b → Textc.left 0 t′ a′ ≡ writeCall b t a
-    → length d ≡ 6 → odd c ≡ false → 6 ≤ length c → ReadCall (take (wordAt a′ 0) t′) c d (Textc.left number c′ d′)
-    → (number ≡ 0) × (c′ ≡ over (take (wordAt a′ 2 * 2) b) c) × (d′ ≡ bytesIn (wordAt a′ 2 ∷ 0 ∷ 0 ∷ []))
+Wd16TextAgain = (b t a t′ a′ c d : List ℕ) (number : ℕ) (c′ d′ : List ℕ) → AllBytes b → told 0 (t′, a′) ≡ writeCall b t a
+    → length d ≡ 6 → odd c ≡ false → 6 ≤ length c → ReadCall (take (wordAt a′ 0) t′) c d (told number (c′, d′))
+    → (number ≡ 0) × (c′ ≡ over (take (wordAt a′ 2 * 2) b) c) × (d′ ≡ threeWords (wordAt a′ 2) 0 0)
 
 -- ---- "and the reader takes only the texts that the writer makes."
 
 -- what a call of the writer with room for a line makes of the words that were read is the text that was read
 abbrev pub TextMade : Type 0
 TextMade = (t room room′ : List ℕ) (n : ℕ) (text text′ : List ℕ) (r : Written)
-    → Reads (readAs (Words n)) t room room′ → 32 ≤ length text → Writes (take n room′) text r text′ → (r ≡ Line (length t) n) × (text′ ≡ over t text)
+    → Reads (readPage (Words n)) t room room′ → 32 ≤ length text → Writes (take n room′) text r text′ → (r ≡ Line (length t) n) × (text′ ≡ over t text)
 
 abbrev pub Wd16TextMade : Type 0
-Wd16TextMade = (t c d c′ d′ u a : List ℕ) (number : ℕ) (u′ a′ : List ℕ) → ReadCall t c d (Textc.left 0 c′ d′)
-    → length a ≡ 6 → 32 ≤ length u → Textc.left number u′ a′ ≡ writeCall (take (wordAt d′ 0 * 2) c′) u a
-    → (number ≡ 0) × (u′ ≡ over t u) × (a′ ≡ bytesIn (length t ∷ wordAt d′ 0 ∷ 0 ∷ []))
+Wd16TextMade = (t c d c′ d′ u a : List ℕ) (number : ℕ) (u′ a′ : List ℕ) → ReadCall t c d (told 0 (c′, d′))
+    → length a ≡ 6 → 32 ≤ length u → told number (u′, a′) ≡ writeCall (take (wordAt d′ 0 * 2) c′) u a
+    → (number ≡ 0) × (u′ ≡ over t u) × (a′ ≡ threeWords (length t) (wordAt d′ 0) 0)
 
 -- ---- document 01: "words lent past these are ignored."
 
@@ -108,5 +108,5 @@ TextIgnores = (words others text : List ℕ) (n m : ℕ) (text′ text″ : List
     → Writes words text (Line n m) text′ → take m others ≡ take m words → Writes others text r text″ → (r ≡ Line n m) × (text″ ≡ text′)
 
 abbrev pub Wd16TextIgnores : Type 0
-Wd16TextIgnores = (b v t a t′ a′ : List ℕ) (number : ℕ) (t″ a″ : List ℕ) → Textc.left 0 t′ a′ ≡ writeCall b t a → odd v ≡ false → take (wordAt a′ 2 * 2) v ≡ take (wordAt a′ 2 * 2) b
-    → Textc.left number t″ a″ ≡ writeCall v t a → (number ≡ 0) × (t″ ≡ t′) × (a″ ≡ a′)
+Wd16TextIgnores = (b v t a t′ a′ : List ℕ) (number : ℕ) (t″ a″ : List ℕ) → told 0 (t′, a′) ≡ writeCall b t a → odd v ≡ false → take (wordAt a′ 2 * 2) v ≡ take (wordAt a′ 2 * 2) b
+    → told number (t″, a″) ≡ writeCall v t a → (number ≡ 0) × (t″ ≡ t′) × (a″ ≡ a′)

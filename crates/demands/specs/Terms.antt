@@ -16,22 +16,14 @@ use Rattle.step.specs.Step.{After, after, kindOf, workOf, errorCauseOf, causeNu
 use Rattle.step.specs.Step as Step
 use Rattle.step.specs.Told.{accesses, StopsAt, trapAnswered, isBlankStep}
 use Rattle.step.specs.Locks.{LocksUp}
-use Rattle.refusal.specs.Numbers.{textShort, outputShort}
+use Rattle.refusal.specs.Numbers.{outputShort}
 use Rattle.refusal.specs.Page.{first}
-use Rattle.optext.specs.Answer.{Answer, found, refusal, refusalAt}
-use Rattle.optext.specs.Line.{taken}
 use Rattle.optext.specs.Column.{IsText, Column, Why}
 use Rattle.machine.specs.Numbers.{statePage, address, nowhere, TurnPage, Place}
 use Rattle.machine.specs.Trail.{trailOf, lastOf, blanksIn, causeAt, Least}
 use Rattle.firmware.specs.Layout.{bytesOf, tallyBytes}
 
--- ---- demand 1. `why` is the number of the first refusal that applies, 0 where there is none; `AsLent` says that every buffer
--- lent for writing is as it was lent
-
--- a call that answers by a number: it is `why`, and where it is not 0 nothing is changed
-pub record Numbered (why number : ℕ) (AsLent : Type 0) : Type 0 where
-  pub numberIs : number ≡ why
-  pub unchanged : (number ≡ 0 → ⊥) → AsLent
+-- ---- demand 1
 
 -- what a refused call tells beside its number: nothing, which leaves `alone`; or, where the number tells a place, a line or a column, that place.
 -- x is what the call left
@@ -39,33 +31,20 @@ pub data OrPlace {A : Type 0} (tells : Bool) (IsPlace : ℕ → Type 0) (alone :
   numberAlone : tells ≡ false → x ≡ alone → OrPlace tells IsPlace alone beside x
   placeToo : tells ≡ true → (place : ℕ) → IsPlace place → x ≡ beside place → OrPlace tells IsPlace alone beside x
 
--- the text of an op code: an answer's number, 0 where it is no refusal
-abbrev pub numberOf : Answer → ℕ
-numberOf (found vs) = 0
-numberOf (refusal n) = n
-numberOf (refusalAt n c) = n
-
--- 8: the text's buffer is under 32; 6: no words; 7: a needed next word is missing
-abbrev pub writeWhy : List ℕ → List ℕ → ℕ
-writeWhy ws b =
-    first (cond (ltb (length b) 32) textShort 0)
-    (first (cond (ltb (length ws) 1) 6 0)
-    (cond (ltb (length ws) (taken (getD ws 0 0))) 7 0))
-
 -- 10: the words' buffer is under 3
-abbrev pub roomWhy : List ℕ → ℕ
-roomWhy ws = cond (ltb (length ws) 3) outputShort 0
+abbrev pub wordsWhy : List ℕ → ℕ
+wordsWhy ws = cond (ltb (length ws) 3) outputShort 0
 
 -- the number of a text by itself: 0 where it is an op code's; else 32, 31, 9 or 30, by where it goes wrong
 pub data TextWhy (t : List ℕ) (n : ℕ) : Type 0 where
   isText : n ≡ 0 → IsText t → TextWhy t n
   noText : (c : ℕ) → (IsText t → ⊥) → Column t c → Why t c n → TextWhy t n
 
--- a text that is read: `lentWhy` is the first refusal of what is lent, and where there is none, the text's own number counts
-pub record Reading (lentWhy : ℕ) (t : List ℕ) (number : ℕ) (AsLent : Type 0) : Type 0 where
+-- a text that is read: `lentWhy` is the first refusal of what is lent, and where there is none, the text's own number counts; P holds of the number
+pub record OwnWhy (lentWhy : ℕ) (t : List ℕ) (P : ℕ → Type 0) : Type 0 where
   pub own : ℕ
   pub ofText : lentWhy ≡ 0 → TextWhy t own
-  pub answers : Numbered (first lentWhy own) number AsLent
+  pub holds : P (first lentWhy own)
 
 -- 9, and 30 to 32 tell a column
 abbrev pub tellsColumn : ℕ → Bool

@@ -126,7 +126,7 @@ pub extern "C" fn wd16_report(recorder: &[u8], channel: &[u8], report: &mut [u8]
 // and 0. Or 21, 38, 8, 6 or 7.
 #[no_mangle]
 pub extern "C" fn wd16_write_text(words: &[u8], text: &mut [u8], answer: &mut [u8]) -> u8
-    ensures { λ r. ⌜ Text.left r (now (text .exit)) (now (answer .exit)) ≡ Text.writeCall (now (words .entry)) (now (text .entry)) (now (answer .entry)) ⌝ }
+    ensures { λ r. ⌜ told r (now (text .exit), now (answer .exit)) ≡ Text.writeCall (now (words .entry)) (now (text .entry)) (now (answer .entry)) ⌝ }
 {
     textc::wd16_write_text(words, text, answer)
 }
@@ -135,7 +135,7 @@ pub extern "C" fn wd16_write_text(words: &[u8], text: &mut [u8], answer: &mut [u
 // and the column. Or 21, 38 or 10.
 #[no_mangle]
 pub extern "C" fn wd16_read_text(text: &[u8], words: &mut [u8], answer: &mut [u8]) -> u8
-    ensures { λ r. ⌜ Text.ReadCall (now (text .entry)) (now (words .entry)) (now (answer .entry)) (Text.left r (now (words .exit)) (now (answer .exit))) ⌝ }
+    ensures { λ r. ⌜ Text.ReadCall (now (text .entry)) (now (words .entry)) (now (answer .entry)) (told r (now (words .exit), now (answer .exit))) ⌝ }
 {
     textc::wd16_read_text(text, words, answer)
 }

@@ -24,7 +24,8 @@ use Rattle.optext.specs.declared.Written.{Written}
 use Rattle.optext.specs.declared.Written.the-variants.{Line}
 use Rattle.optext.specs.Rows.{rows, theRow}
 use Rattle.optext.specs.Line.{sepText, wordText, taken, textOf}
-use Rattle.optext.specs.Answer.{Answer, found, refusal, refusalAt, writtenAs, writeAnswer, writeBytes, Writes, wordAnswer, wordBytes, WritesWord}
+use Rattle.optext.specs.Answer.{writtenPage, inFront, Writes, writeWordOf}
+use Rattle.optext.proofs.Laws.Calls.{line-written}
 use Rattle.listing.specs.declared.Found.{Found}
 use Rattle.listing.specs.declared.Found.the-variants.{Nothing, Cut, Whole}
 use Rattle.listing.specs.declared.Listed.{Listed}
@@ -66,61 +67,38 @@ moves-few w (Whole n) h = h .1
 
 -- ---- the text, where there is room for it
 
-abbrev lead : Answer → ℕ
-lead (found l) = getD l 0 0
-lead (refusal r) = 0
-lead (refusalAt r c) = 0
+wrote : (line b e : List ℕ) (n m k : ℕ) → left (writtenPage (Line n m)) e ≡ inFront line k b → Wrote line b e n
+wrote line b e n m k h = record { bytes = ap (λ z. z .lent) h; count = ap (λ z. z .count) (PageLaws.answered-one (ap (λ z. z .page) h)) }
 
-abbrev kind : Answer → ℕ
-kind (found l) = 1
-kind (refusal r) = 0
-kind (refusalAt r c) = 0
-
-module _ (w : ℕ) (b e : List ℕ) (r : Written) (h : 32 ≤ length b) (v : WritesWord w b r e) where
-  word-answer : wordAnswer w b ≡ found (length (wordText w) ∷ 1 ∷ [])
-  unfolding wordAnswer
-  word-answer = rw (le-ltb (length b) 32 h) refl
-
-  word-bytes : wordBytes w b ≡ over (wordText w) b
-  unfolding wordBytes
-  word-bytes = rw (le-ltb (length b) 32 h) refl
+module _ (w : ℕ) (b e : List ℕ) (r : Written) (h : 32 ≤ length b) (v : left (writtenPage r) e ≡ writeWordOf w b) where
+  word-met : left (writtenPage r) e ≡ inFront (wordText w) 1 b
+  unfolding writeWordOf
+  word-met = v ∙ rw (le-ltb (length b) 32 h) refl
 
   pub word-wrote : (n m : ℕ) → r ≡ Line n m → Wrote (wordText w) b e n
-  word-wrote n m d = record { bytes = v .bytes ∙ word-bytes; count = ap lead (ap writtenAs (sym d) ∙ v .answer ∙ word-answer) }
+  word-wrote n m d = wrote (wordText w) b e n m 1 (ap (λ z. left (writtenPage z) e) (sym d) ∙ word-met)
 
-  pub word-never : {A : Type 0} (r′ : Written) (k : ℕ) → r ≡ r′ → writtenAs r′ ≡ refusal k → A
-  word-never r′ k d q =
-      let z : _≡_ {A = ℕ} 0 1 = ap kind (sym q ∙ ap writtenAs (sym d) ∙ v .answer ∙ word-answer) in
-      absurd (omega (arith, z))
+  pub word-never : {A : Type 0} (r′ : Written) (k : ℕ) → r ≡ r′ → writtenPage r′ ≡ refused k → A
+  word-never r′ k d q = absurd (PageLaws.apart (sym (ap (λ z. z .page) word-met) ∙ ap writtenPage d ∙ q))
 
 pub word-length : (w : ℕ) → length (wordText w) ≡ 10
 unfolding wordText theRow rows sepText hex4
 word-length w = refl
 
 module _ (ws b e : List ℕ) (r : Written) (h : 32 ≤ length b) (l : length ws ≡ taken (getD ws 0 0)) (v : Writes ws b r e) where
-  some : 1 ≤ length ws
-  some = omega (arith, l, taken-some (getD ws 0 0))
-
   enough : taken (getD ws 0 0) ≤ length ws
   enough = omega (arith, l)
 
-  op-answer : writeAnswer ws b ≡ found (length (textOf ws) ∷ taken (getD ws 0 0) ∷ [])
-  unfolding writeAnswer
-  op-answer = rw (le-ltb (length b) 32 h, le-ltb (length ws) 1 some, le-ltb (length ws) (taken (getD ws 0 0)) enough) refl
-
-  op-bytes : writeBytes ws b ≡ over (textOf ws) b
-  unfolding writeBytes
-  op-bytes = rw (le-ltb (length b) 32 h, le-ltb (length ws) 1 some, le-ltb (length ws) (taken (getD ws 0 0)) enough) refl
+  op-met : left (writtenPage r) e ≡ inFront (textOf ws) (taken (getD ws 0 0)) b
+  op-met = v .met ∙ line-written ws b h enough
 
   pub op-wrote : (n m : ℕ) → r ≡ Line n m → Wrote (textOf ws) b e n × (n ≤ 24)
   op-wrote n m d =
-      let c : n ≡ length (textOf ws) = ap lead (ap writtenAs (sym d) ∙ v .answer ∙ op-answer) in
-      (record { bytes = v .bytes ∙ op-bytes; count = c }, omega (arith, c, v .short))
+      let c = wrote (textOf ws) b e n m (taken (getD ws 0 0)) (ap (λ z. left (writtenPage z) e) (sym d) ∙ op-met) in
+      (c, omega (arith, c .count, v .short))
 
-  pub op-never : {A : Type 0} (r′ : Written) (k : ℕ) → r ≡ r′ → writtenAs r′ ≡ refusal k → A
-  op-never r′ k d q =
-      let z : _≡_ {A = ℕ} 0 1 = ap kind (sym q ∙ ap writtenAs (sym d) ∙ v .answer ∙ op-answer) in
-      absurd (omega (arith, z))
+  pub op-never : {A : Type 0} (r′ : Written) (k : ℕ) → r ≡ r′ → writtenPage r′ ≡ refused k → A
+  op-never r′ k d q = absurd (PageLaws.apart (sym (ap (λ z. z .page) op-met) ∙ ap writtenPage d ∙ q))
 
 -- as many of the three words as the op code has
 pub whole-count : (w x y n : ℕ) → n ≡ taken w → n ≤ 3 → length (take n (w ∷ x ∷ y ∷ [])) ≡ taken (getD (take n (w ∷ x ∷ y ∷ [])) 0 0)

@@ -1,7 +1,6 @@
 // The text of one op code for C, written and read over plain lent bytes. c/hitchbriar.h has their layout.
 use optext::ReadBack;
 use optext::Written;
-use refusal::number::NO_STATE;
 use refusal::number::OUTPUT_SHORT;
 use refusal::number::TEXT_SHORT;
 use refusal::number::WORDS_ODD;
@@ -14,7 +13,8 @@ ghost use Prim.Native.Nat.{_/_, _≤_, _<_};
 ghost use lib.ListN.{length, take};
 ghost use Rattle.letters.specs.Over.{over};
 ghost use Rattle.words.specs.Words.{bytesIn};
-ghost use Rattle.answer.specs.Answer.{threeWords, placeWords};
+ghost use Rattle.refusal.specs.Page.{told};
+ghost use Rattle.answer.specs.Answer.{threeWords, placeWords, Room};
 ghost use Rattle.textc.specs.Calls as Spec;
 
 // The text's own refusals: no words, a needed next word is missing.
@@ -33,7 +33,7 @@ const EARLY_END: u8 = 32;
 
 // The answer's three words.
 fn put_answer(answer: &mut [u8], a: usize, b: usize, c: usize)
-    requires { ⌜ (length (now answer) ≡ 6) × (a < 65536) × (b < 65536) × (c < 65536) ⌝ }
+    requires { ⌜ Room (now answer) × (a < 65536) × (b < 65536) × (c < 65536) ⌝ }
     ensures { λ _. ⌜ now (answer .exit) ≡ threeWords a b c ⌝ }
 {
     answer::put(answer, a as u16, b as u16, c as u16);
@@ -53,10 +53,11 @@ fn lent(bytes: usize) -> usize
 // and 0. Or 21, 38, 8, 6 or 7.
 #[no_mangle]
 pub extern "C" fn wd16_write_text(words: &[u8], text: &mut [u8], answer: &mut [u8]) -> u8
-    ensures { λ r. ⌜ Spec.left r (now (text .exit)) (now (answer .exit)) ≡ Spec.writeCall (now (words .entry)) (now (text .entry)) (now (answer .entry)) ⌝ }
+    ensures { λ r. ⌜ told r (now (text .exit), now (answer .exit)) ≡ Spec.writeCall (now (words .entry)) (now (text .entry)) (now (answer .entry)) ⌝ }
 {
-    if answer.len() != 6 {
-        return NO_STATE;
+    let refused = answer::refusal(answer);
+    if refused != 0 {
+        return refused;
     }
     let bytes = words.len();
     if bytes % 2 != 0 {
@@ -96,7 +97,7 @@ fn put_words(out: &mut [u8], w: u16, x: u16, y: u16, n: usize)
 
 // A refusal with its column.
 fn refused_at(answer: &mut [u8], column: usize, why: u8) -> u8
-    requires { ⌜ (length (now answer) ≡ 6) × (column < 65536) ⌝ }
+    requires { ⌜ Room (now answer) × (column < 65536) ⌝ }
     ensures { λ r. ⌜ (r ≡ why) × (now (answer .exit) ≡ placeWords column) ⌝ }
 {
     put_answer(answer, 0, 0, column);
@@ -107,10 +108,11 @@ fn refused_at(answer: &mut [u8], column: usize, why: u8) -> u8
 // and the column. Or 21, 38 or 10.
 #[no_mangle]
 pub extern "C" fn wd16_read_text(text: &[u8], words: &mut [u8], answer: &mut [u8]) -> u8
-    ensures { λ r. ⌜ Spec.ReadCall (now (text .entry)) (now (words .entry)) (now (answer .entry)) (Spec.left r (now (words .exit)) (now (answer .exit))) ⌝ }
+    ensures { λ r. ⌜ Spec.ReadCall (now (text .entry)) (now (words .entry)) (now (answer .entry)) (told r (now (words .exit), now (answer .exit))) ⌝ }
 {
-    if answer.len() != 6 {
-        return NO_STATE;
+    let refused = answer::refusal(answer);
+    if refused != 0 {
+        return refused;
     }
     if words.len() % 2 != 0 {
         return WORDS_ODD;

@@ -1,18 +1,11 @@
--- Demands 1 and 3 for the functions for C: from the pages to the bytes.
+-- Demand 3 for the functions for C: from the pages to the bytes.
 use Prim.Native.Nat.{ℕ, zero, suc}
 use mathlib.Core.List.{List}
-use mathlib.Core.Path.{_≡_, refl, ap, _∙_}
+use mathlib.Core.Path.{_≡_, refl}
 use Rattle.board.specs.Work.{Agree, Untouched}
 use Rattle.refusal.specs.Page.{Page, refused, refusedAt, answered, Left, call, Told, tells, reading}
 use Rattle.machine.specs.Blind.{Blind}
 use Rattle.machine.proofs.Laws.Blind.{SameLeft}
-use Rattle.demands.specs.Terms.{Numbered}
-
--- ---- demand 1, for the text
-
--- a number that is the definition's, and buffers that are
-pub numbered : {why number : ℕ} {AsLent As : Type 0} (n : ℕ) → n ≡ number → (AsLent → As) → Numbered why number AsLent → Numbered why n As
-numbered n e f h = record { numberIs = e ∙ h .numberIs; unchanged = λ z. f (h .unchanged (λ k. z (e ∙ k))) }
 
 -- ---- demand 3
 

@@ -5,7 +5,7 @@ use mathlib.Core.List.{List}
 use mathlib.Core.Path.{_≡_, refl, sym, ap, _∙_}
 use native.Mathlib.Omega.{arith}
 use lib.Dec.{eqb}
-use lib.ListN.{length, take, replicate}
+use lib.ListN.{length, take, getD, replicate}
 use Rattle.state.specs.declared.State.{State}
 use Rattle.state.specs.declared.Settings.{Settings}
 use Rattle.state.specs.State.{heard}
@@ -13,7 +13,7 @@ use Rattle.step.specs.declared.Cause.{Cause}
 use Rattle.step.specs.declared.Cause.the-variants as Cause
 use Rattle.step.specs.Step.{stepOf, powerUpOf}
 use Rattle.refusal.specs.Numbers.{noState}
-use Rattle.words.specs.Words.{wordAt}
+use Rattle.words.specs.Words.{wordAt, bytesIn}
 use Rattle.refusal.specs.Page.{Page, refused, refusedAt, answered, Left, left, call, nothing, first, Told, tells, readingAt, reading}
 use Rattle.refusal.proofs.Laws.Page.{call-first}
 use Rattle.machine.specs.declared.Until.{Until}
@@ -24,19 +24,23 @@ use Rattle.machine.specs.Entry.{powerWhy, stepWhy, runWhy, powered, powerUpPage
 use Rattle.firmware.specs.Layout.{stateFrom, settingsFrom, refusedUp, refusedStep, refusedRun}
 use Rattle.firmware.specs.Calls.{upIn, stepIn, runIn, powerUpCall, stepCall, runCall}
 use Rattle.firmware.specs.Runs.{untilFrom, refusedUntil, stopIn, runSameCall, runUntilCall}
-use Rattle.answer.specs.Answer.{answerWhy, placeWords, answering}
+use Rattle.answer.specs.Answer.{threeWords, answerWhy, placeWords, answering}
 use Rattle.job.specs.Job.{linesAt, buffersOf, whyJob, whyRead, jobOf}
 use Rattle.job_c.specs.Calls.{readIn, readCall}
 use Rattle.letters.specs.Over.{over}
-use Rattle.optext.specs.Answer.{writtenAs, readAs, writeAnswer, writeBytes}
+use Rattle.optext.specs.Line.{wordText, taken, textOf}
+use Rattle.optext.specs.Answer.{roomWhy, writeWhy, inFront, writeOf, writeWordOf}
+use Rattle.optext.specs.Column.{Column}
+use Rattle.optext.specs.Words.{Reads}
 use Rattle.line.specs.Line.{printWhy, printOf}
 use Rattle.runjob.specs.Bench.{ranAt, jobRun, lineAt, benchWhy, benchOf}
 use Rattle.runjob.specs.Bench as Bench
 use Rattle.listing.specs.Calls.{lineWhy, lineIn, lineCall}
 use Rattle.listjob.specs.Stretch.{listWhy, listedIn, listOf}
-use Rattle.listing_c.specs.Calls.{lineWords, listCall}
+use Rattle.listing_c.specs.Calls.{listCall}
 use Rattle.stepline.specs.Shown.{stepText, showWhy, shownAs, showOf}
-use Rattle.textc.specs.Calls.{wordsIn, odd, notAnswer, writeCall}
+use Rattle.textc.specs.Calls.{wordsIn, writeCall, lentWhy, lineWords}
+use Rattle.listing_c.specs.Calls as Listed
 use Rattle.textc.specs.Calls as Textc
 use Rattle.assembler.specs.Answer.{asmOf}
 use Rattle.assembler.specs.Labels.{labelsPage}
@@ -45,10 +49,9 @@ use Rattle.assembler.proofs.Laws.Ends.{Ends, assemble-ends, labels-ends}
 use Rattle.assembler_c.specs.Call.{sizeWords, assembleCall, labelsCall}
 use Rattle.trace.specs.Trace.{whyTrace, verdictOf, verdictPage, whyCheck, buffersAfter, checkOf, whyMake, madeOf, makeOf}
 use Rattle.tracecall.specs.Calls.{verdictIn, checkCall}
-use Rattle.demands.specs.Terms.{OrPlace, numberAlone, placeToo, numberOf, writeWhy}
-use Rattle.demands.proofs.Laws.Texts.{writer-numbered, word-numbered, reads-numbered, write-call, read-call}
+use Rattle.demands.specs.Terms.{OrPlace, numberAlone, placeToo, wordsWhy, OwnWhy, tellsColumn}
+use Rattle.demands.proofs.Laws.Texts.{reads-kept, lent-alone}
 use Rattle.demands.proofs.Laws.Sources.{ends-kept}
-use Rattle.demands.proofs.Laws.Calls.{numbered}
 use Rattle.demands.specs.Demand1.{IsAnswer, isAnswer, KeepsC, CallKeeps, ReadingKeeps, PowerUpAnswers, StepAnswers, RunAnswers, JobAnswers, JobRunAnswers, BenchAnswers, LineAnswers, ListLineAnswers, ListAnswers, CheckAnswers, MakeAnswers, WriteAnswers, WriteWordAnswers, ReadAnswers, AssembleAnswers, Wd16PowerUpAnswers, Wd16StepAnswers, Wd16RunAnswers, Wd16CheckTraceAnswers, Wd16WriteTextAnswers, Wd16ReadTextAnswers, Wd16AssembleAnswers, KeptAt, KeptCAt, KeepsCAt, CallKeepsAt, ReadingKeepsAt, RunSameAnswers, RunUntilAnswers, LabelsAnswers, Wd16RunSameAnswers, Wd16RunUntilAnswers, Wd16ReadJobAnswers, Wd16ListLineAnswers, Wd16LabelsAnswers, WriteStepAnswers}
 
 -- ---- THE THEOREM
@@ -178,26 +181,21 @@ unfolding makeOf
 make-answers input out image map lines = call-keeps _ _ (whyMake input (length out) (length image) (length map) (length lines)) (madeOf input out) (out, image, map, lines) (isAnswer _)
 
 pub write-answers : WriteAnswers
-write-answers words text r text′ w = numbered (numberOf (writtenAs r)) (ap numberOf (w .answer)) (λ h. w .bytes ∙ h) (writer-numbered words text)
+unfolding writeOf
+write-answers words text = call-keeps _ _ (writeWhy words (length text)) (inFront (textOf words) (taken (getD words 0 0)) text) text (isAnswer _)
 
 pub write-word-answers : WriteWordAnswers
-write-word-answers x text r text′ w = numbered (numberOf (writtenAs r)) (ap numberOf (w .answer)) (λ h. w .bytes ∙ h) (word-numbered x text)
+unfolding writeWordOf
+write-word-answers x text = call-keeps _ _ (roomWhy (length text)) (inFront (wordText x) 1 text) text (isAnswer _)
 
 pub read-answers : ReadAnswers
-read-answers text words r words′ w = reads-numbered text words words′ (readAs r) w
+read-answers text words x w = reads-kept text words (x .lent) (x .page) w
 
 pub assemble-answers : AssembleAnswers
 assemble-answers s out x e = rw e (ends-kept s out (assembleWhy s out) (asmOf s out) (assemble-ends s out))
 
 pub labels-answers : LabelsAnswers
 labels-answers s out x e = rw e (ends-kept s out (labelsWhy s out) (labelsPage s out) (labels-ends s out))
-
-pub wd16-write-text-answers : Wd16WriteTextAnswers
-unfolding writeCall
-wd16-write-text-answers b t a number t′ a′ e = write-call t a (notAnswer a) (odd b) (writeAnswer (wordsIn b) t) (writeBytes (wordsIn b) t) (writeWhy (wordsIn b) t) (Textc.left number t′ a′) (writer-numbered (wordsIn b) t) e
-
-pub wd16-read-text-answers : Wd16ReadTextAnswers
-wd16-read-text-answers t b a number b′ a′ e = read-call t b a (notAnswer a) (Textc.left number b′ a′) (e .call)
 
 -- ---- the same for C
 
@@ -237,7 +235,7 @@ wd16-read-job-answers input image map lines a =
 pub wd16-list-line-answers : Wd16ListLineAnswers
 unfolding listCall lineCall
 wd16-list-line-answers image map x last text a =
-    twice-keeps-beside (λ p t. (t, lineWords p)) (λ place t. (t, placeWords place)) (λ t. (t, a)) (answerWhy a) (lineWhy (length image) map x last (length text)) (lineIn image map x last text) text (isAnswer _)
+    twice-keeps-beside (λ p t. (t, Listed.lineWords p)) (λ place t. (t, placeWords place)) (λ t. (t, a)) (answerWhy a) (lineWhy (length image) map x last (length text)) (lineIn image map x last text) text (isAnswer _)
 
 pub wd16-check-trace-answers : Wd16CheckTraceAnswers
 unfolding checkCall
@@ -267,3 +265,28 @@ wd16-assemble-answers s out a = source-kept s out a (assembleWhy s out) (asmOf s
 pub wd16-labels-answers : Wd16LabelsAnswers
 unfolding labelsCall
 wd16-labels-answers s out a = source-kept s out a (labelsWhy s out) (labelsPage s out) (labels-ends s out)
+
+pub wd16-write-text-answers : Wd16WriteTextAnswers
+unfolding writeCall writeOf
+wd16-write-text-answers b t a =
+    let ws = wordsIn b in
+    twice-keeps-beside (λ p o. (o, lineWords p)) (λ column o. (o, placeWords column)) (λ o. (o, a)) (lentWhy a b) (writeWhy ws (length t)) (inFront (textOf ws) (taken (getD ws 0 0)) t) t (isAnswer _)
+
+pub wd16-read-text-answers : Wd16ReadTextAnswers
+wd16-read-text-answers t b a x p = by (lentWhy a b) (lent-alone a b) (p .reads) (p .leaves)
+  where
+    by : (bad : ℕ) → tellsColumn bad ≡ false → (bad ≡ 0 → Reads (p .page) t (wordsIn b) (p .words)) → x ≡ Textc.readIn b a (call bad (left (p .page) (p .words)) (wordsIn b))
+        → OwnWhy (first bad (wordsWhy (wordsIn b))) t (λ why. KeptCAt why tellsColumn (λ n. Column t) (b, a) (λ column. (b, placeWords column)) x)
+    by zero alone r e =
+        let h = reads-kept t (wordsIn b) (p .words) (p .page) (r refl) in
+        record {
+          own = h .own;
+          ofText = h .ofText;
+          holds =
+              reading-keeps-at _ _ _ (λ n e. (over (bytesIn (take n e)) b, threeWords n 0 0)) (λ column e. (b, placeWords column)) (λ e. (b, a)) (first (wordsWhy (wordsIn b)) (h .own)) tellsColumn (λ n. Column t) (wordsIn b) (left (p .page) (p .words)) (h .holds) x e;
+        }
+    by (suc bad) alone r e = record {
+      own = 0;
+      ofText = λ z. absurd (omega (arith, z));
+      holds = record { numberIs = ap (λ z. z .number) e; unchanged = λ n. numberAlone alone (ap (λ z. z .lent) e) };
+    }

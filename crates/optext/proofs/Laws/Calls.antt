@@ -17,7 +17,10 @@ use Rattle.optext.specs.declared.ReadBack.{ReadBack}
 use Rattle.optext.specs.declared.ReadBack.the-variants.{Words}
 use Rattle.optext.specs.Rows.{firstOf, secondOf}
 use Rattle.optext.specs.Line.{rowOf, takes, operandText, sepText, lineText, taken, textOf}
-use Rattle.optext.specs.Answer.{Answer, found, refusal, readAs, writeAnswer, writeBytes, Writes}
+use Rattle.refusal.specs.Numbers.{textShort}
+use Rattle.refusal.specs.Page.{Page, answered, left}
+use Rattle.refusal.proofs.Laws.Page.{answered-one, first-both, call-right, one-call}
+use Rattle.optext.specs.Answer.{linePage, writtenPage, roomWhy, writeWhy, inFront, writeOf, Writes, readPage}
 use Rattle.optext.specs.Column.{Whole}
 use Rattle.optext.specs.Words.{Reads}
 use Rattle.optext.proofs.Laws.Once.{reads-one}
@@ -64,38 +67,39 @@ pub record Lined (ws b : List ℕ) (n m : ℕ) (e : List ℕ) : Type 0 where
   pub wide : 32 ≤ length b
   pub left : e ≡ over (textOf ws) b
 
-pub lined : (ws b : List ℕ) (n m : ℕ) (e : List ℕ) → Writes ws b (Line n m) e → Lined ws b n m e
-unfolding writeAnswer writeBytes
-lined ws b n m e p = go (ltb (length b) 32) (ltb (length ws) 1) (ltb (length ws) (taken (getD ws 0 0))) refl refl (p .answer) (p .bytes)
-  where
-    go : (x y z : Bool) → ltb (length b) 32 ≡ x → ltb (length ws) (taken (getD ws 0 0)) ≡ z
-        → found (n ∷ m ∷ []) ≡ cond x (refusal 8) (cond y (refusal 6) (cond z (refusal 7) (found (length (textOf ws) ∷ taken (getD ws 0 0) ∷ []))))
-        → e ≡ cond x b (cond y b (cond z b (over (textOf ws) b))) → Lined ws b n m e
-    go true y z g k h d = let q : _≡_ {A = ℕ} 0 1 = cc in absurd (omega arith)
-    go false true z g k h d = let q : _≡_ {A = ℕ} 0 1 = cc in absurd (omega arith)
-    go false false true g k h d = let q : _≡_ {A = ℕ} 0 1 = cc in absurd (omega arith)
-    go false false false g k h d =
-        let i : n ≡ length (textOf ws) = cc in
-        let j : m ≡ taken (getD ws 0 0) = cc in
-        let r = ltb-false (length ws) (taken (getD ws 0 0)) k in
-        record { long = i; many = j; room = omega (arith, j, r); wide = ltb-false (length b) 32 g; left = d }
+pub none-told : (a b n : ℕ) (x : Bool) → ltb a b ≡ x → 0 < n → cond x n 0 ≡ 0 → b ≤ a
+none-told a b n true e l h = absurd (omega arith)
+none-told a b n false e l h = ltb-false a b e
+
+write-sound : (ws : List ℕ) (size : ℕ) → writeWhy ws size ≡ 0 → (32 ≤ size) × (taken (getD ws 0 0) ≤ length ws)
+unfolding writeWhy
+write-sound ws size e =
+    let a = first-both (roomWhy size) _ e in
+    let b = first-both (cond (ltb (length ws) 1) 6 0) _ (a .1) in
+    (none-told size 32 textShort (ltb size 32) refl (omega arith) (a .0), none-told (length ws) (taken (getD ws 0 0)) 7 (ltb (length ws) (taken (getD ws 0 0))) refl (omega arith) (b .1))
+
+pub lined : (ws b : List ℕ) (n m : ℕ) (e : List ℕ) → left (answered (linePage n m)) e ≡ writeOf ws b → Lined ws b n m e
+unfolding writeOf
+lined ws b n m e p =
+    let h = call-right (writeWhy ws (length b)) (inFront (textOf ws) (taken (getD ws 0 0)) b) b p in
+    let page : linePage n m ≡ linePage (length (textOf ws)) (taken (getD ws 0 0)) = answered-one (ap (λ z. z .page) (h .1)) in
+    let known = write-sound ws (length b) (h .0) in
+    let many : m ≡ taken (getD ws 0 0) = ap (λ z. z .words) page in
+    record { long = ap (λ z. z .count) page; many = many; room = omega (arith, many, known .1); wide = known .0; left = ap (λ z. z .lent) (h .1) }
 
 -- a writer with room, and every word that the op code takes, answers a line
-pub line-written : (ws b : List ℕ) → 32 ≤ length b → taken (getD ws 0 0) ≤ length ws
-    → (writeAnswer ws b ≡ found (length (textOf ws) ∷ taken (getD ws 0 0) ∷ [])) × (writeBytes ws b ≡ over (textOf ws) b)
-unfolding writeAnswer writeBytes
+pub line-written : (ws b : List ℕ) → 32 ≤ length b → taken (getD ws 0 0) ≤ length ws → writeOf ws b ≡ inFront (textOf ws) (taken (getD ws 0 0)) b
+unfolding writeOf writeWhy
 line-written ws b h k =
     let some = some-taken (getD ws 0 0) in
     let x : ltb (length b) 32 ≡ false = le-ltb (length b) 32 h in
     let y : ltb (length ws) 1 ≡ false = le-ltb (length ws) 1 (omega (arith, some, k)) in
     let z : ltb (length ws) (taken (getD ws 0 0)) ≡ false = le-ltb (length ws) (taken (getD ws 0 0)) k in
-    (rw (x, y, z) refl, rw (x, y, z) refl)
+    rw (x, y, z) refl
 
 writes-line : (ws b e : List ℕ) (r : Written) → 32 ≤ length b → taken (getD ws 0 0) ≤ length ws → Writes ws b r e
     → (r ≡ Line (length (textOf ws)) (taken (getD ws 0 0))) × (e ≡ over (textOf ws) b)
-writes-line ws b e r h k p =
-    let l = line-written ws b h k in
-    (written-one r (Line (length (textOf ws)) (taken (getD ws 0 0))) (p .answer ∙ l .0), p .bytes ∙ l .1)
+writes-line ws b e r h k p = one-call writtenPage written-one r (Line (length (textOf ws)) (taken (getD ws 0 0))) e (over (textOf ws) b) (p .met ∙ line-written ws b h k)
 
 -- other words with the same ones in front
 pub same-front : (ws vs : List ℕ) (m : ℕ) → m ≡ taken (getD ws 0 0) → m ≤ length ws → take m vs ≡ take m ws
@@ -137,25 +141,25 @@ line-left ws b n m b′ l =
     ∙ ap (λ (k : ℕ). textOf (take k ws)) (sym (l .many))
 
 -- WHAT THE WRITER LEFT, THE READER GIVES BACK as the words that were taken
-pub again : (ws b : List ℕ) (n m : ℕ) (b′ vs vs′ : List ℕ) (a : Answer) → ((i : ℕ) → getD ws i 0 < 65536)
-    → Writes ws b (Line n m) b′ → 3 ≤ length vs → Reads a (take n b′) vs vs′
-    → (a ≡ found (m ∷ [])) × (vs′ ≡ over (take m ws) vs)
+pub again : (ws b : List ℕ) (n m : ℕ) (b′ vs vs′ : List ℕ) (a : Page ℕ) → ((i : ℕ) → getD ws i 0 < 65536)
+    → left (answered (linePage n m)) b′ ≡ writeOf ws b → 3 ≤ length vs → Reads a (take n b′) vs vs′
+    → (a ≡ answered m) × (vs′ ≡ over (take m ws) vs)
 again ws b n m b′ vs vs′ a u p h q =
     let l = lined ws b n m b′ p in
     let w = whole-take ws m u (l .many) (l .room) in
-    let z = reads-one (textOf (take m ws)) vs vs′ (over (take m ws) vs) a (found (length (take m ws) ∷ [])) (subst (λ (t : List ℕ). Reads a t vs vs′) (line-left ws b n m b′ l) q) (reads-text (take m ws) vs w h) in
-    (z .0 ∙ ap (λ (k : ℕ). found (k ∷ [])) (length-take-le m ws (l .room)), z .1)
+    let z = reads-one (textOf (take m ws)) vs vs′ (over (take m ws) vs) a (answered (length (take m ws))) (subst (λ (t : List ℕ). Reads a t vs vs′) (line-left ws b n m b′ l) q) (reads-text (take m ws) vs w h) in
+    (z .0 ∙ ap answered (length-take-le m ws (l .room)), z .1)
 
 pub text-again : (ws b : List ℕ) (n m : ℕ) (b′ vs vs′ : List ℕ) (r : ReadBack) → ((i : ℕ) → getD ws i 0 < 65536)
-    → Writes ws b (Line n m) b′ → 3 ≤ length vs → Reads (readAs r) (take n b′) vs vs′
+    → Writes ws b (Line n m) b′ → 3 ≤ length vs → Reads (readPage r) (take n b′) vs vs′
     → (r ≡ Words m) × (vs′ ≡ over (take m ws) vs)
 text-again ws b n m b′ vs vs′ r u p h q =
-    let z = again ws b n m b′ vs vs′ (readAs r) u p h q in
+    let z = again ws b n m b′ vs vs′ (readPage r) u (p .met) h q in
     (read-one r (Words m) (z .0), z .1)
 
 -- WHAT THE READER GAVE, THE WRITER MAKES THE TEXT OF that was read
 pub text-made : (t vs vs′ : List ℕ) (n : ℕ) (b b′ : List ℕ) (r : Written)
-    → Reads (readAs (Words n)) t vs vs′ → 32 ≤ length b → Writes (take n vs′) b r b′ → (r ≡ Line (length t) n) × (b′ ≡ over t b)
+    → Reads (readPage (Words n)) t vs vs′ → 32 ≤ length b → Writes (take n vs′) b r b′ → (r ≡ Line (length t) n) × (b′ ≡ over t b)
 text-made t vs vs′ n b b′ r q h p =
     let m = q .count ∙ q .whole .count in
     let l = writes-line (take n vs′) b b′ r h (omega (arith, q .whole .count)) p in
@@ -166,7 +170,7 @@ text-made t vs vs′ n b b′ r q h p =
 pub text-ignores : (ws vs b : List ℕ) (n m : ℕ) (b′ b″ : List ℕ) (r : Written)
     → Writes ws b (Line n m) b′ → take m vs ≡ take m ws → Writes vs b r b″ → (r ≡ Line n m) × (b″ ≡ b′)
 text-ignores ws vs b n m b′ b″ r p e q =
-    let l = lined ws b n m b′ p in
+    let l = lined ws b n m b′ (p .met) in
     let f = same-front ws vs m (l .many) (l .room) e in
     let d = writes-line vs b b″ r (l .wide) (rw (f .0) (f .2)) q in
     (d .0 ∙ ap (λ (x : ℕ). Line x (taken (getD vs 0 0))) (ap length (f .1) ∙ sym (l .long)) ∙ ap (λ (x : ℕ). Line n x) (f .0), d .1 ∙ ap (λ (x : List ℕ). over x b) (f .1) ∙ sym (l .left))

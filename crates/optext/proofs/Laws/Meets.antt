@@ -7,12 +7,14 @@ use borrow.Author.Tests.{ne-eqb, lt-ltb, le-ltb}
 use lib.ListN.{length, take, drop, getD}
 use Rattle.optext.specs.declared.reading.Operand.{Operand}
 use Rattle.optext.specs.declared.rows.Kind.{Kind}
+use Rattle.optext.specs.declared.Written.{Written}
 use Rattle.optext.specs.declared.Written.the-variants.{Line, TextShort, NoWords, WordMissing}
 use Rattle.letters.specs.Over.{Wrote}
 use Rattle.optext.specs.Rows.{wordRow, nameOf, baseOf, firstOf, secondOf}
 use Rattle.optext.specs.Line.{rowOf, operandText, takes, sepText, rowText, wordText, lineText, taken, textOf}
 use Rattle.optext.specs.Guess.{rowAt, unOp, guess, guessA, guessB, guessOf}
-use Rattle.optext.specs.Answer.{writeAnswer, writeBytes, Writes, wordAnswer, wordBytes, WritesWord}
+use Rattle.refusal.specs.Page.{left}
+use Rattle.optext.specs.Answer.{writtenPage, writeWhy, writeOf, Writes, writeWordOf}
 use Rattle.optext.specs.Column.{Whole}
 use Rattle.optext.specs.Words.{Accepts, own, wordsOf}
 use Rattle.letters.proofs.Laws.Laid.{wrote-take, wrote-rest}
@@ -27,47 +29,35 @@ taken-le w = omega (arith, takes-le (firstOf (rowOf w)) w, takes-le (secondOf (r
 
 -- the writer's four answers
 module _ (ws b : List ℕ) where
+  as-written : {r : Written} {e : List ℕ} → left (writtenPage r) e ≡ writeOf ws b → Writes ws b r e
+  as-written h = record { met = h; few = taken-le (getD ws 0 0); short = text-le ws }
+
   pub writes-8 : length b < 32 → Writes ws b TextShort b
-  unfolding writeAnswer writeBytes
-  writes-8 h = record { answer = rw (lt-ltb (length b) 32 h) refl; bytes = rw (lt-ltb (length b) 32 h) refl; few = taken-le (getD ws 0 0); short = text-le ws }
+  unfolding writeOf writeWhy
+  writes-8 h = as-written (rw (lt-ltb (length b) 32 h) refl)
 
   pub writes-6 : 32 ≤ length b → length ws < 1 → Writes ws b NoWords b
-  unfolding writeAnswer writeBytes
-  writes-6 h g = record {
-    answer = rw (le-ltb (length b) 32 h, lt-ltb (length ws) 1 g) refl;
-    bytes = rw (le-ltb (length b) 32 h, lt-ltb (length ws) 1 g) refl;
-    few = taken-le (getD ws 0 0);
-    short = text-le ws;
-  }
+  unfolding writeOf writeWhy
+  writes-6 h g = as-written (rw (le-ltb (length b) 32 h, lt-ltb (length ws) 1 g) refl)
 
   pub writes-7 : 32 ≤ length b → 1 ≤ length ws → length ws < taken (getD ws 0 0) → Writes ws b WordMissing b
-  unfolding writeAnswer writeBytes
-  writes-7 h g k = record {
-    answer = rw (le-ltb (length b) 32 h, le-ltb (length ws) 1 g, lt-ltb (length ws) (taken (getD ws 0 0)) k) refl;
-    bytes = rw (le-ltb (length b) 32 h, le-ltb (length ws) 1 g, lt-ltb (length ws) (taken (getD ws 0 0)) k) refl;
-    few = taken-le (getD ws 0 0);
-    short = text-le ws;
-  }
+  unfolding writeOf writeWhy
+  writes-7 h g k = as-written (rw (le-ltb (length b) 32 h, le-ltb (length ws) 1 g, lt-ltb (length ws) (taken (getD ws 0 0)) k) refl)
 
   pub writes-line : (e : List ℕ) (n m : ℕ) → 32 ≤ length b → 1 ≤ length ws → taken (getD ws 0 0) ≤ length ws
       → Wrote (textOf ws) b e n → m ≡ taken (getD ws 0 0) → Writes ws b (Line n m) e
-  unfolding writeAnswer writeBytes
-  writes-line e n m h g k w q = record {
-    answer = rw (le-ltb (length b) 32 h, le-ltb (length ws) 1 g, le-ltb (length ws) (taken (getD ws 0 0)) k, w .count, q) refl;
-    bytes = rw (le-ltb (length b) 32 h, le-ltb (length ws) 1 g, le-ltb (length ws) (taken (getD ws 0 0)) k) (w .bytes);
-    few = taken-le (getD ws 0 0);
-    short = text-le ws;
-  }
+  unfolding writeOf writeWhy
+  writes-line e n m h g k w q = as-written (rw (le-ltb (length b) 32 h, le-ltb (length ws) 1 g, le-ltb (length ws) (taken (getD ws 0 0)) k, w .count, q, w .bytes) refl)
 
 -- .WORD's two
 module _ (w : ℕ) (b : List ℕ) where
-  pub word-8 : length b < 32 → WritesWord w b TextShort b
-  unfolding wordAnswer wordBytes
-  word-8 h = record { answer = rw (lt-ltb (length b) 32 h) refl; bytes = rw (lt-ltb (length b) 32 h) refl }
+  pub word-8 : length b < 32 → left (writtenPage TextShort) b ≡ writeWordOf w b
+  unfolding writeWordOf
+  word-8 h = rw (lt-ltb (length b) 32 h) refl
 
-  pub word-line : (e : List ℕ) (n : ℕ) → 32 ≤ length b → Wrote (rowText wordRow w 0 0) b e n → WritesWord w b (Line n 1) e
-  unfolding wordAnswer wordBytes wordText
-  word-line e n h u = record { answer = rw (le-ltb (length b) 32 h, u .count) refl; bytes = rw (le-ltb (length b) 32 h) (u .bytes) }
+  pub word-line : (e : List ℕ) (n : ℕ) → 32 ≤ length b → Wrote (rowText wordRow w 0 0) b e n → left (writtenPage (Line n 1)) e ≡ writeWordOf w b
+  unfolding writeWordOf wordText
+  word-line e n h u = rw (le-ltb (length b) 32 h, u .count, u .bytes) refl
 
 -- what the code of the guess computes, step by step
 pub decode-is : (t : List ℕ) (k n b v w : ℕ) (f s : Kind) (A B : Operand) → k ≡ rowAt t → n ≡ length (nameOf k) → f ≡ firstOf k → s ≡ secondOf k → b ≡ baseOf k

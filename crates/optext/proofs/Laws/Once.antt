@@ -9,7 +9,7 @@ use lib.ListN.{length, take}
 use lib.Seq.{take-take}
 use Rattle.letters.specs.Over.{over}
 use Rattle.optext.specs.Line.{textOf}
-use Rattle.optext.specs.Answer.{Answer, found, refusal, refusalAt}
+use Rattle.refusal.specs.Page.{Page, refused, refusedAt, answered}
 use Rattle.optext.specs.Column.{Begins, Column, Why, early, after, name, operand}
 use Rattle.optext.specs.Words.{Reads}
 
@@ -61,27 +61,19 @@ one-why t c m n (operand e p i s) (name f q j u) = absurd (unlike (sym s ∙ u))
 one-why t c m n (operand e p i s) (operand f q j u) = e ∙ sym f
 
 -- THE READER HAS ONE OUTCOME
-pub reads-one : (t ws e e' : List ℕ) (a a' : Answer) → Reads a t ws e → Reads a' t ws e' → (a ≡ a') × (e ≡ e')
-reads-one t ws e e' (found []) a' p q = absurd p
-reads-one t ws e e' (found (n ∷ m ∷ l)) a' p q = absurd p
-reads-one t ws e e' (found (n ∷ [])) (found []) p q = absurd q
-reads-one t ws e e' (found (n ∷ [])) (found (m ∷ k ∷ l)) p q = absurd q
-reads-one t ws e e' (refusal r) (found []) p q = absurd q
-reads-one t ws e e' (refusal r) (found (m ∷ k ∷ l)) p q = absurd q
-reads-one t ws e e' (refusalAt r c) (found []) p q = absurd q
-reads-one t ws e e' (refusalAt r c) (found (m ∷ k ∷ l)) p q = absurd q
-reads-one t ws e e' (found (n ∷ [])) (found (m ∷ [])) p q =
+pub reads-one : (t ws e e' : List ℕ) (a a' : Page ℕ) → Reads a t ws e → Reads a' t ws e' → (a ≡ a') × (e ≡ e')
+reads-one t ws e e' (answered n) (answered m) p q =
     let s : take n e ≡ take m e' = q .only (take n e) (p .whole) (p .text) in
     let k : n ≡ m = p .count ∙ ap length s ∙ sym (q .count) in
-    (ap (λ (i : ℕ). found (i ∷ [])) k, p .rest ∙ ap (λ (l : List ℕ). over l ws) s ∙ sym (q .rest))
-reads-one t ws e e' (found (n ∷ [])) (refusal r) p q = absurd (not-less (length ws) (p .room) (q .1 .room))
-reads-one t ws e e' (refusal r) (found (n ∷ [])) p q = absurd (not-less (length ws) (q .room) (p .1 .room))
-reads-one t ws e e' (found (n ∷ [])) (refusalAt r c) p q = absurd (q .none (record { words = take n e; whole = p .whole; text = p .text }))
-reads-one t ws e e' (refusalAt r c) (found (n ∷ [])) p q = absurd (p .none (record { words = take n e'; whole = q .whole; text = q .text }))
-reads-one t ws e e' (refusal r) (refusal s) p q = (ap refusal (p .0 ∙ sym (q .0)), p .1 .same ∙ sym (q .1 .same))
-reads-one t ws e e' (refusal r) (refusalAt s d) p q = absurd (not-less (length ws) (q .room) (p .1 .room))
-reads-one t ws e e' (refusalAt r c) (refusal s) p q = absurd (not-less (length ws) (p .room) (q .1 .room))
-reads-one t ws e e' (refusalAt r c) (refusalAt s d) p q =
+    (ap answered k, p .rest ∙ ap (λ (l : List ℕ). over l ws) s ∙ sym (q .rest))
+reads-one t ws e e' (answered n) (refused r) p q = absurd (not-less (length ws) (p .room) (q .1 .room))
+reads-one t ws e e' (refused r) (answered n) p q = absurd (not-less (length ws) (q .room) (p .1 .room))
+reads-one t ws e e' (answered n) (refusedAt r c) p q = absurd (q .none (record { words = take n e; whole = p .whole; text = p .text }))
+reads-one t ws e e' (refusedAt r c) (answered n) p q = absurd (p .none (record { words = take n e'; whole = q .whole; text = q .text }))
+reads-one t ws e e' (refused r) (refused s) p q = (ap refused (p .0 ∙ sym (q .0)), p .1 .same ∙ sym (q .1 .same))
+reads-one t ws e e' (refused r) (refusedAt s d) p q = absurd (not-less (length ws) (q .room) (p .1 .room))
+reads-one t ws e e' (refusedAt r c) (refused s) p q = absurd (not-less (length ws) (p .room) (q .1 .room))
+reads-one t ws e e' (refusedAt r c) (refusedAt s d) p q =
     let z : c ≡ d = one-column t c d (p .column) (q .column) in
     let y : r ≡ s = one-why t c r s (p .why) (subst (λ (i : ℕ). Why t i s) (sym z) (q .why)) in
-    (ap (λ (i : ℕ). refusalAt i c) y ∙ ap (λ (i : ℕ). refusalAt s i) z, p .same ∙ sym (q .same))
+    (ap (λ (i : ℕ). refusedAt i c) y ∙ ap (λ (i : ℕ). refusedAt s i) z, p .same ∙ sym (q .same))

@@ -13,7 +13,7 @@ use Rattle.optext.specs.Digits.{unHex4}
 use Rattle.optext.specs.Rows.{wordRow, rowCount, rows, theRow, nameOf, firstOf, secondOf}
 use Rattle.optext.specs.Line.{rowOf, takes, taken, sepText, lineText, textOf, wordText}
 use Rattle.optext.specs.Guess.{rowAt, guessA, guessB, guessOf}
-use Rattle.optext.specs.Answer.{found}
+use Rattle.refusal.specs.Page.{answered}
 use Rattle.optext.specs.Column.{Whole, IsText}
 use Rattle.optext.specs.Words.{Reads, wordsOf}
 use Rattle.optext.specs.Read.{same, readFrom, readOf}
@@ -49,7 +49,7 @@ read-of-words t h = go (same (lineText (guessOf t .w) (guessOf t .x) (guessOf t 
     go false e h = absurd (omega arith)
 
 -- the reader answers these words, and a refusal where there are none
-pub read-answers : (t ws e : List ℕ) (n : ℕ) → Reads (found (n ∷ [])) t ws e → readOf t ≡ take n e
+pub read-answers : (t ws e : List ℕ) (n : ℕ) → Reads (answered n) t ws e → readOf t ≡ take n e
 read-answers t ws e n p = ap readOf (sym (p .text)) ∙ read-of-text (take n e) (p .whole)
 
 pub read-refuses : (t : List ℕ) → (IsText t → ⊥) → readOf t ≡ []

@@ -17,7 +17,9 @@ use Rattle.optext.specs.First.{agree}
 use Rattle.optext.specs.Rows.{firstOf, secondOf}
 use Rattle.optext.specs.Line.{rowOf, takes, lineText, taken, textOf}
 use Rattle.optext.specs.Guess.{guess, guessOf}
-use Rattle.optext.specs.Answer.{Answer, found, refusal, refusalAt, writtenAs, readAs}
+use Rattle.refusal.specs.Page.{Page, refused, refusedAt, answered}
+use Rattle.refusal.proofs.Laws.Page.{one, one-call}
+use Rattle.optext.specs.Answer.{LinePage, writtenPage, readPage}
 use Rattle.optext.specs.Column.{Whole}
 use Rattle.optext.specs.Words.{Reads, own, wordsOf}
 use Rattle.optext.proofs.Laws.Once.{not-less, reads-one}
@@ -96,30 +98,27 @@ none-begins us vs s g h e =
     let w : agree (textOf vs) (textOf us) ≡ length (textOf us) = subst (λ (t : List ℕ). agree t (textOf us) ≡ length (textOf us)) (sym e) (agree-self (textOf us) s) in
     sym (near-text (textOf vs) us g .whole w) ∙ own-line (textOf vs) (record { words = vs; whole = h; text = refl })
 
--- the page's numbers and values tell the answers apart
-abbrev writtenOf : Answer → Written
-writtenOf (found []) = NoWords
-writtenOf (found (n ∷ [])) = NoWords
-writtenOf (found (n ∷ m ∷ l)) = Line n m
-writtenOf (refusal r) = cond (eqb r 8) TextShort (cond (eqb r 7) WordMissing NoWords)
-writtenOf (refusalAt r c) = NoWords
+-- the page's numbers tell the answers apart
+abbrev writtenOf : Page LinePage → Written
+writtenOf (answered p) = Line (p .count) (p .words)
+writtenOf (refused r) = cond (eqb r 8) TextShort (cond (eqb r 7) WordMissing NoWords)
+writtenOf (refusedAt r c) = NoWords
 
-written-back : (r : Written) → writtenOf (writtenAs r) ≡ r
+written-back : (r : Written) → writtenOf (writtenPage r) ≡ r
 written-back (Line n m) = refl
 written-back TextShort = refl
 written-back NoWords = refl
 written-back WordMissing = refl
 
-pub written-one : (r q : Written) → writtenAs r ≡ writtenAs q → r ≡ q
-written-one r q e = sym (written-back r) ∙ ap writtenOf e ∙ written-back q
+pub written-one : (r q : Written) → writtenPage r ≡ writtenPage q → r ≡ q
+written-one = one writtenOf written-back
 
-abbrev readOf : Answer → ReadBack
-readOf (found []) = WordsShort
-readOf (found (n ∷ l)) = Words n
-readOf (refusal r) = WordsShort
-readOf (refusalAt r c) = cond (eqb r 32) (EarlyEnd c) (cond (eqb r 31) (AfterText c) (cond (eqb r 9) (UnknownName c) (BadOperand c)))
+abbrev readBackOf : Page ℕ → ReadBack
+readBackOf (answered n) = Words n
+readBackOf (refused r) = WordsShort
+readBackOf (refusedAt r c) = cond (eqb r 32) (EarlyEnd c) (cond (eqb r 31) (AfterText c) (cond (eqb r 9) (UnknownName c) (BadOperand c)))
 
-read-back : (r : ReadBack) → readOf (readAs r) ≡ r
+read-back : (r : ReadBack) → readBackOf (readPage r) ≡ r
 read-back (Words n) = refl
 read-back WordsShort = refl
 read-back (EarlyEnd c) = refl
@@ -127,18 +126,18 @@ read-back (AfterText c) = refl
 read-back (UnknownName c) = refl
 read-back (BadOperand c) = refl
 
-pub read-one : (r q : ReadBack) → readAs r ≡ readAs q → r ≡ q
-read-one r q e = sym (read-back r) ∙ ap readOf e ∙ read-back q
+pub read-one : (r q : ReadBack) → readPage r ≡ readPage q → r ≡ q
+read-one = one readBackOf read-back
 
 pub one-line : OneLine
-one-line ws b e e' r r' p q = (written-one r r' (p .answer ∙ sym (q .answer)), p .bytes ∙ sym (q .bytes))
+one-line ws b e e' r r' p q = one-call writtenPage written-one r r' e e' (p .met ∙ sym (q .met))
 
 pub one-word : OneWord
-one-word w b e e' r r' p q = (written-one r r' (p .answer ∙ sym (q .answer)), p .bytes ∙ sym (q .bytes))
+one-word w b e e' r r' p q = one-call writtenPage written-one r r' e e' (p ∙ sym q)
 
 pub one-answer : OneAnswer
 one-answer t ws e e' r r' p q =
-    let z = reads-one t ws e e' (readAs r) (readAs r') p q in
+    let z = reads-one t ws e e' (readPage r) (readPage r') p q in
     (read-one r r' (z .0), z .1)
 
 pub refused-lines : RefusedLines
@@ -150,7 +149,7 @@ refused-lines t ws e (UnknownName c) h p = (λ q. p .none, λ q. absurd (no q))
 refused-lines t ws e (BadOperand c) h p = (λ q. p .none, λ q. absurd (no q))
 
 -- what the reader may answer to the text of an op code: its words, and the other words as they were
-pub reads-text : (vs ws : List ℕ) → Whole vs → 3 ≤ length ws → Reads (found (length vs ∷ [])) (textOf vs) ws (over vs ws)
+pub reads-text : (vs ws : List ℕ) → Whole vs → 3 ≤ length ws → Reads (answered (length vs)) (textOf vs) ws (over vs ws)
 unfolding over
 reads-text vs ws h g =
     let s : take (length vs) (vs ++ drop (length vs) ws) ≡ vs = take-append-seam vs (drop (length vs) ws) in

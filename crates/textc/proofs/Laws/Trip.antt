@@ -11,16 +11,17 @@ use borrow.Author.Tests.{eq-eqb, ltb-true, ltb-false, le-ltb}
 use Rattle.letters.specs.Over.{over}
 use Rattle.words.specs.Words.{wordAt, bytesIn}
 use Rattle.words.proofs.Laws.{word-again, low-of, high-of}
-use Rattle.refusal.specs.Numbers.{noState, wordsOdd}
-use Rattle.optext.specs.declared.Written.the-variants.{Line}
+use Rattle.refusal.specs.Numbers.{wordsOdd}
+use Rattle.refusal.specs.Page.{Page, refused, refusedAt, answered, left, call, told}
+use Rattle.refusal.proofs.Laws.Page.{first-both}
+use Rattle.answer.specs.Answer.{threeWords, answerWhy, answering}
 use Rattle.optext.specs.Line.{taken, textOf}
-use Rattle.optext.specs.Answer.{Answer, found, refusal, refusalAt, writeAnswer, writeBytes, Writes}
+use Rattle.optext.specs.Answer.{linePage, writeWhy, inFront, writeOf}
 use Rattle.optext.specs.Column.{Why, early, after, name, operand}
 use Rattle.optext.specs.Words.{Accepts, Reads}
 use Rattle.optext.proofs.Laws.Meets.{taken-le}
-use Rattle.optext.proofs.Laws.Longest.{text-le}
 use Rattle.optext.proofs.Laws.Calls.{some-taken, lined, line-written, same-front, again}
-use Rattle.textc.specs.Calls.{lent, wordsIn, odd, notAnswer, Left, left, writtenIn, readIn, writeCall, ReadWith, ReadEven, ReadLent, ReadCall}
+use Rattle.textc.specs.Calls.{lent, wordsIn, odd, lentWhy, lineWords, writeCall, readIn, ReadCall}
 
 -- ---- what is lent
 
@@ -113,64 +114,62 @@ same-words b v m few room g =
     let long : m * 2 ≤ length v = omega (arith, length-take (m * 2) v, ap length g ∙ length-take-le (m * 2) b (words-within b m room few)) in
     words-front v m (words-many v m long few) ∙ three-words b v m few g ∙ sym (words-front b m room)
 
+-- ---- refused for what is lent, or not
+
+lent-sound : (a b : List ℕ) → lentWhy a b ≡ 0 → (answerWhy a ≡ 0) × (odd b ≡ false)
+unfolding lentWhy
+lent-sound a b e = let h = first-both (answerWhy a) (cond (odd b) wordsOdd 0) e in (h .0, by (odd b) (h .1))
+  where
+    by : (uneven : Bool) → cond uneven wordsOdd 0 ≡ 0 → uneven ≡ false
+    by true k = absurd (omega (arith, k))
+    by false k = refl
+
+lent-fits : (a b : List ℕ) → answerWhy a ≡ 0 → odd b ≡ false → lentWhy a b ≡ 0
+unfolding lentWhy
+lent-fits a b h k = rw (h, k) refl
+
 -- ---- a call of the writer that answers 0
 
 -- the line's length and the words taken stand in the answer
 pub record Wrote (b t a t′ a′ : List ℕ) : Type 0 where
-  pub six : notAnswer a ≡ false
+  pub six : answerWhy a ≡ 0
   pub even : odd b ≡ false
   pub long : ℕ
   pub many : ℕ
-  pub line : Writes (wordsIn b) t (Line long many) t′
+  pub line : left (answered (linePage long many)) t′ ≡ writeOf (wordsIn b) t
   pub first : wordAt a′ 0 ≡ long
   pub second : wordAt a′ 2 ≡ many
-  pub answer : a′ ≡ bytesIn (long ∷ many ∷ 0 ∷ [])
+  pub answer : a′ ≡ threeWords long many 0
 
--- an answer that is no refusal
-lines : (p q s : Bool) (x y : ℕ) (e a t′ a′ : List ℕ)
-    → left 0 t′ a′ ≡ writtenIn (cond p (refusal 8) (cond q (refusal 6) (cond s (refusal 7) (found (x ∷ y ∷ []))))) e a
-    → (found (x ∷ y ∷ []) ≡ cond p (refusal 8) (cond q (refusal 6) (cond s (refusal 7) (found (x ∷ y ∷ []))))) × (t′ ≡ e) × (a′ ≡ bytesIn (x ∷ y ∷ 0 ∷ []))
-lines true q s x y e a t′ a′ h = absurd (omega (arith, ap (λ z. z .number) h))
-lines false true s x y e a t′ a′ h = absurd (omega (arith, ap (λ z. z .number) h))
-lines false false true x y e a t′ a′ h = absurd (omega (arith, ap (λ z. z .number) h))
-lines false false false x y e a t′ a′ h = (refl, ap (λ z. z .buffer) h, ap (λ z. z .answer) h)
-
-pub wrote : (b t a t′ a′ : List ℕ) → left 0 t′ a′ ≡ writeCall b t a → Wrote b t a t′ a′
-unfolding writeCall writeAnswer
-wrote b t a t′ a′ h = by (notAnswer a) (odd b) refl refl h
+pub wrote : (b t a t′ a′ : List ℕ) → told 0 (t′, a′) ≡ writeCall b t a → Wrote b t a t′ a′
+unfolding writeCall writeOf
+wrote b t a t′ a′ h = by (lentWhy a b) (writeWhy (wordsIn b) (length t)) refl refl h
   where
-    by : (bad uneven : Bool) → notAnswer a ≡ bad → odd b ≡ uneven
-        → left 0 t′ a′ ≡ cond bad (left noState t a) (cond uneven (left wordsOdd t a) (writtenIn (writeAnswer (wordsIn b) t) (writeBytes (wordsIn b) t) a)) → Wrote b t a t′ a′
-    by true uneven e f g = absurd (omega (arith, ap (λ z. z .number) g))
-    by false true e f g = absurd (omega (arith, ap (λ z. z .number) g))
-    by false false e f g =
+    by : (bad why : ℕ) → lentWhy a b ≡ bad → writeWhy (wordsIn b) (length t) ≡ why
+        → told 0 (t′, a′) ≡ answering lineWords a (call bad (call why (inFront (textOf (wordsIn b)) (taken (getD (wordsIn b) 0 0)) t) t) t) → Wrote b t a t′ a′
+    by (suc bad) why e f g = absurd (omega (arith, ap (λ z. z .number) g))
+    by zero (suc why) e f g = absurd (omega (arith, ap (λ z. z .number) g))
+    by zero zero e f g =
         let ws = wordsIn b in
-        let l = lines (ltb (length t) 32) (ltb (length ws) 1) (ltb (length ws) (taken (getD ws 0 0))) (length (textOf ws)) (taken (getD ws 0 0)) (writeBytes ws t) a t′ a′ g in
+        let known = lent-sound a b e in
         record {
-          six = e;
-          even = f;
+          six = known .0;
+          even = known .1;
           long = length (textOf ws);
           many = taken (getD ws 0 0);
-          line = record { answer = l .0; bytes = l .1; few = taken-le (getD ws 0 0); short = text-le ws };
-          first = ap (λ (z : List ℕ). wordAt z 0) (l .2) ∙ word-again (length (textOf ws));
-          second = ap (λ (z : List ℕ). wordAt z 2) (l .2) ∙ word-again (taken (getD ws 0 0));
-          answer = l .2;
+          line = rw (f, ap (λ z. z .lent .0) g) refl;
+          first = ap (λ z. wordAt (z .lent .1) 0) g ∙ word-again (length (textOf ws));
+          second = ap (λ z. wordAt (z .lent .1) 2) g ∙ word-again (taken (getD ws 0 0));
+          answer = ap (λ z. z .lent .1) g;
         }
 
 -- a call of the writer with room, over bytes that have every word that the op code takes
-writes-line : (b t a : List ℕ) (k : ℕ) (t′ a′ : List ℕ) → notAnswer a ≡ false → odd b ≡ false → 32 ≤ length t → taken (getD (wordsIn b) 0 0) ≤ length (wordsIn b) → left k t′ a′ ≡ writeCall b t a
-    → left k t′ a′ ≡ left 0 (over (textOf (wordsIn b)) t) (bytesIn (length (textOf (wordsIn b)) ∷ taken (getD (wordsIn b) 0 0) ∷ 0 ∷ []))
+writes-line : (b t a : List ℕ) (k : ℕ) (t′ a′ : List ℕ) → answerWhy a ≡ 0 → odd b ≡ false → 32 ≤ length t → taken (getD (wordsIn b) 0 0) ≤ length (wordsIn b) → told k (t′, a′) ≡ writeCall b t a
+    → told {B = List ℕ × List ℕ} k (t′, a′) ≡ told 0 (over (textOf (wordsIn b)) t, threeWords (length (textOf (wordsIn b))) (taken (getD (wordsIn b) 0 0)) 0)
 unfolding writeCall
-writes-line b t a k t′ a′ six even h l e =
-    let w = line-written (wordsIn b) t h l in
-    e ∙ rw (six, even, w .0, w .1) refl
+writes-line b t a k t′ a′ six even h l e = e ∙ rw (lent-fits a b six even, line-written (wordsIn b) t h l) refl
 
--- ---- a call of the reader
-
-read-even : (t c d : List ℕ) (x : Left) → notAnswer d ≡ false → odd c ≡ false → ReadCall t c d x → ReadWith t c d x
-read-even t c d x six even p = subst (λ (z : Bool). ReadEven z t c d x) even (subst (λ (z : Bool). ReadLent z t c d x) six (p .call))
-
--- one that answers 0 took the text
+-- ---- a call of the reader that answers 0 took the text
 pub record Took (t c d c′ d′ : List ℕ) : Type 0 where
   pub words : List ℕ
   pub accepts : Accepts t (wordsIn c) words (wordAt d′ 0)
@@ -182,33 +181,28 @@ why-not-0 (after e p i) h = omega (arith, e, h)
 why-not-0 (name e p i s) h = omega (arith, e, h)
 why-not-0 (operand e p i s) h = omega (arith, e, h)
 
-took-with : (t c d c′ d′ : List ℕ) (a : Answer) (e : List ℕ) → Reads a t (wordsIn c) e → left 0 c′ d′ ≡ readIn a e c d → Took t c d c′ d′
-took-with t c d c′ d′ (found []) e p h = absurd p
-took-with t c d c′ d′ (found (n ∷ m ∷ l)) e p h = absurd p
-took-with t c d c′ d′ (found (n ∷ [])) e p h =
-    let one : wordAt d′ 0 ≡ n = ap (λ z. wordAt (z .answer) 0) h ∙ word-again n in
+took-with : (t c d c′ d′ : List ℕ) (a : Page ℕ) (e : List ℕ) → Reads a t (wordsIn c) e → told 0 (c′, d′) ≡ readIn c d (left a e) → Took t c d c′ d′
+took-with t c d c′ d′ (answered n) e p h =
+    let one : wordAt d′ 0 ≡ n = ap (λ z. wordAt (z .lent .1) 0) h ∙ word-again n in
     record {
       words = e;
       accepts = subst (λ (k : ℕ). Accepts t (wordsIn c) e k) (sym one) p;
-      left = ap (λ z. z .buffer) h ∙ ap (λ (k : ℕ). over (bytesIn (take k e)) c) (sym one);
+      left = ap (λ z. z .lent .0) h ∙ ap (λ (k : ℕ). over (bytesIn (take k e)) c) (sym one);
     }
-took-with t c d c′ d′ (refusal r) e p h = absurd (omega (arith, p .0, ap (λ z. z .number) h))
-took-with t c d c′ d′ (refusalAt r k) e p h = absurd (why-not-0 (p .why) (ap (λ z. z .number) h))
+took-with t c d c′ d′ (refused r) e p h = absurd (omega (arith, p .0, ap (λ z. z .number) h))
+took-with t c d c′ d′ (refusedAt r k) e p h = absurd (why-not-0 (p .why) (ap (λ z. z .number) h))
 
-took-even : (uneven : Bool) (t c d c′ d′ : List ℕ) → ReadEven uneven t c d (left 0 c′ d′) → Took t c d c′ d′
-took-even true t c d c′ d′ p = absurd (omega (arith, ap (λ z. z .number) p))
-took-even false t c d c′ d′ p = took-with t c d c′ d′ (p .answer) (p .words) (p .reads) (p .leaves)
-
-took-lent : (bad : Bool) (t c d c′ d′ : List ℕ) → ReadLent bad t c d (left 0 c′ d′) → Took t c d c′ d′
-took-lent true t c d c′ d′ p = absurd (omega (arith, ap (λ z. z .number) p))
-took-lent false t c d c′ d′ p = took-even (odd c) t c d c′ d′ p
-
-pub took : (t c d c′ d′ : List ℕ) → ReadCall t c d (left 0 c′ d′) → Took t c d c′ d′
-took t c d c′ d′ p = took-lent (notAnswer d) t c d c′ d′ (p .call)
+pub took : (t c d c′ d′ : List ℕ) → ReadCall t c d (told 0 (c′, d′)) → Took t c d c′ d′
+took t c d c′ d′ p = by (lentWhy d c) (p .reads) (p .leaves)
+  where
+    by : (bad : ℕ) → (bad ≡ 0 → Reads (p .page) t (wordsIn c) (p .words)) → told 0 (c′, d′) ≡ readIn c d (call bad (left (p .page) (p .words)) (wordsIn c)) → Took t c d c′ d′
+    by zero r e = took-with t c d c′ d′ (p .page) (p .words) (r refl) e
+    by (suc bad) r e = absurd (omega (arith, ap (λ z. z .number) e))
 
 -- ---- the two calls
 
-is-answer : (a : List ℕ) → length a ≡ 6 → notAnswer a ≡ false
+is-answer : (a : List ℕ) → length a ≡ 6 → answerWhy a ≡ 0
+unfolding answerWhy
 is-answer a h = rw (eq-eqb (length a) 6 h) refl
 
 three : (c : List ℕ) → 6 ≤ length c → 3 ≤ length (wordsIn c)
@@ -219,26 +213,27 @@ unfolding over
 over-front xs c m e = take-at xs (drop (length xs) c) m e
 
 -- WHAT THE WRITER LEFT, THE READER GIVES BACK
-pub text-again : (b t a t′ a′ c d : List ℕ) (k : ℕ) (c′ d′ : List ℕ) → ((i : ℕ) → getD b i 0 < 256) → left 0 t′ a′ ≡ writeCall b t a
-    → length d ≡ 6 → odd c ≡ false → 6 ≤ length c → ReadCall (take (wordAt a′ 0) t′) c d (left k c′ d′)
-    → (k ≡ 0) × (c′ ≡ over (take (wordAt a′ 2 * 2) b) c) × (d′ ≡ bytesIn (wordAt a′ 2 ∷ 0 ∷ 0 ∷ []))
+pub text-again : (b t a t′ a′ c d : List ℕ) (k : ℕ) (c′ d′ : List ℕ) → ((i : ℕ) → getD b i 0 < 256) → told 0 (t′, a′) ≡ writeCall b t a
+    → length d ≡ 6 → odd c ≡ false → 6 ≤ length c → ReadCall (take (wordAt a′ 0) t′) c d (told k (c′, d′))
+    → (k ≡ 0) × (c′ ≡ over (take (wordAt a′ 2 * 2) b) c) × (d′ ≡ threeWords (wordAt a′ 2) 0 0)
 text-again b t a t′ a′ c d k c′ d′ bytes e six even room p =
     let w = wrote b t a t′ a′ e in
     let m = w .many in
     let ws = wordsIn b in
     let l = lined ws t (w .long) m t′ (w .line) in
-    let r = read-even (take (w .long) t′) c d (left k c′ d′) (is-answer d six) even (subst (λ (z : ℕ). ReadCall (take z t′) c d (left k c′ d′)) (w .first) p) in
-    let z = again ws t (w .long) m t′ (wordsIn c) (r .words) (r .answer) (words-small b bytes) (w .line) (three c room) (r .reads) in
-    let x : left k c′ d′ ≡ readIn (found (m ∷ [])) (over (take m ws) (wordsIn c)) c d =
-    r .leaves ∙ ap (λ (y : Answer). readIn y (r .words) c d) (z .0) ∙ ap (λ (y : List ℕ). readIn (found (m ∷ [])) y c d) (z .1) in
+    let r = subst (λ (z : ℕ). ReadCall (take z t′) c d (told k (c′, d′))) (w .first) p in
+    let fits = lent-fits d c (is-answer d six) even in
+    let z = again ws t (w .long) m t′ (wordsIn c) (r .words) (r .page) (words-small b bytes) (w .line) (three c room) (r .reads fits) in
+    let x : told k (c′, d′) ≡ readIn c d (left (answered m) (over (take m ws) (wordsIn c))) =
+    r .leaves ∙ ap (λ (y : ℕ). readIn c d (call y (left (r .page) (r .words)) (wordsIn c))) fits ∙ ap (λ (y : Page ℕ). readIn c d (left y (r .words))) (z .0) ∙ ap (λ (y : List ℕ). readIn c d (left (answered m) y)) (z .1) in
     let few : m ≤ 3 = omega (arith, l .many, taken-le (getD ws 0 0)) in
     let front : bytesIn (take m (over (take m ws) (wordsIn c))) ≡ take (m * 2) b = ap bytesIn (over-front (take m ws) (wordsIn c) m (length-take-le m ws (l .room))) ∙ front-bytes b m bytes (l .room) few in
-    rw (w .second) (ap (λ y. y .number) x, ap (λ y. y .buffer) x ∙ ap (λ (y : List ℕ). over y c) front, ap (λ y. y .answer) x)
+    rw (w .second) (ap (λ y. y .number) x, ap (λ y. y .lent .0) x ∙ ap (λ (y : List ℕ). over y c) front, ap (λ y. y .lent .1) x)
 
 -- WHAT THE READER GAVE, THE WRITER MAKES THE TEXT OF that was read
-pub text-made : (t c d c′ d′ u a : List ℕ) (k : ℕ) (u′ a′ : List ℕ) → ReadCall t c d (left 0 c′ d′)
-    → length a ≡ 6 → 32 ≤ length u → left k u′ a′ ≡ writeCall (take (wordAt d′ 0 * 2) c′) u a
-    → (k ≡ 0) × (u′ ≡ over t u) × (a′ ≡ bytesIn (length t ∷ wordAt d′ 0 ∷ 0 ∷ []))
+pub text-made : (t c d c′ d′ u a : List ℕ) (k : ℕ) (u′ a′ : List ℕ) → ReadCall t c d (told 0 (c′, d′))
+    → length a ≡ 6 → 32 ≤ length u → told k (u′, a′) ≡ writeCall (take (wordAt d′ 0 * 2) c′) u a
+    → (k ≡ 0) × (u′ ≡ over t u) × (a′ ≡ threeWords (length t) (wordAt d′ 0) 0)
 text-made t c d c′ d′ u a k u′ a′ p six room e =
     let w = took t c d c′ d′ p in
     let n = wordAt d′ 0 in
@@ -251,8 +246,8 @@ text-made t c d c′ d′ u a k u′ a′ p six room e =
     let again : wordsIn (bytesIn ws) ≡ ws = words-again ws (rw count some) (rw count few) in
     let even : odd (bytesIn ws) ≡ false = even-bytes ws in
     let x = writes-line (bytesIn ws) u a k u′ a′ (is-answer a six) even room (rw (again, many, count) (le-refl n)) (e ∙ ap (λ (z : List ℕ). writeCall z u a) bytes) in
-    let y : left k u′ a′ ≡ left 0 (over t u) (bytesIn (length t ∷ n ∷ 0 ∷ [])) = x ∙ rw (again, w .accepts .text, many) refl in
-    (ap (λ z. z .number) y, ap (λ z. z .buffer) y, ap (λ z. z .answer) y)
+    let y : told {B = List ℕ × List ℕ} k (u′, a′) ≡ told 0 (over t u, threeWords (length t) n 0) = x ∙ rw (again, w .accepts .text, many) refl in
+    (ap (λ z. z .number) y, ap (λ z. z .lent .0) y, ap (λ z. z .lent .1) y)
   where
     le-refl : (n : ℕ) → n ≤ n
     le-refl n = omega arith
@@ -261,8 +256,8 @@ text-made t c d c′ d′ u a k u′ a′ p six room e =
     even-bytes ws = rw (bytes-long ws, eq-eqb (length ws * 2 % 2) 0 (omega arith)) refl
 
 -- WORDS LENT PAST THOSE TAKEN ARE IGNORED
-pub text-ignores : (b v t a t′ a′ : List ℕ) (k : ℕ) (t″ a″ : List ℕ) → left 0 t′ a′ ≡ writeCall b t a → odd v ≡ false → take (wordAt a′ 2 * 2) v ≡ take (wordAt a′ 2 * 2) b
-    → left k t″ a″ ≡ writeCall v t a → (k ≡ 0) × (t″ ≡ t′) × (a″ ≡ a′)
+pub text-ignores : (b v t a t′ a′ : List ℕ) (k : ℕ) (t″ a″ : List ℕ) → told 0 (t′, a′) ≡ writeCall b t a → odd v ≡ false → take (wordAt a′ 2 * 2) v ≡ take (wordAt a′ 2 * 2) b
+    → told k (t″, a″) ≡ writeCall v t a → (k ≡ 0) × (t″ ≡ t′) × (a″ ≡ a′)
 text-ignores b v t a t′ a′ k t″ a″ e even f d =
     let w = wrote b t a t′ a′ e in
     let m = w .many in
@@ -272,5 +267,5 @@ text-ignores b v t a t′ a′ k t″ a″ e even f d =
     let front : take m (wordsIn v) ≡ take m (wordsIn b) = same-words b v m few (l .room) g in
     let h = same-front (wordsIn b) (wordsIn v) m (l .many) (l .room) front in
     let x = writes-line v t a k t″ a″ (w .six) even (l .wide) (rw (h .0) (h .2)) d in
-    let y : left k t″ a″ ≡ left 0 t′ a′ = x ∙ rw (h .1, h .0, ← l .long, ← l .left) (ap (λ (z : List ℕ). left 0 t′ z) (sym (w .answer))) in
-    (ap (λ z. z .number) y, ap (λ z. z .buffer) y, ap (λ z. z .answer) y)
+    let y : told {B = List ℕ × List ℕ} k (t″, a″) ≡ told 0 (t′, a′) = x ∙ rw (h .1, h .0, ← l .long, ← l .left) (ap (λ (z : List ℕ). told 0 (t′, z)) (sym (w .answer))) in
+    (ap (λ z. z .number) y, ap (λ z. z .lent .0) y, ap (λ z. z .lent .1) y)
