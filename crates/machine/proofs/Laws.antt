@@ -7,7 +7,7 @@ pub mod Block
 pub mod Counted
 pub mod Door
 pub mod Entry
-pub mod Leg
 pub mod Run
 pub mod Same
+pub mod Turn
 pub mod Until

@@ -1,6 +1,5 @@
 pub mod Numbers
 pub mod Run
-pub mod Leg
 pub mod Entry
 pub mod Door
 pub mod Back

@@ -2,7 +2,7 @@
 use Prim.Native.Nat.{ℕ, _+_}
 use mathlib.Core.List.{List, [], _∷_}
 use mathlib.Core.Path.{_≡_}
-use Rattle.board.specs.Exec.{Lent}
+use Rattle.board.specs.Exec.{Store, Lent, Board}
 use Rattle.state.specs.declared.State.{State}
 use Rattle.state.specs.declared.Settings.{Settings}
 use Rattle.state.specs.State.{heard}
@@ -59,3 +59,9 @@ pub record Ended (settings : Settings) (map lines : List ℕ) (s : State) (m : L
   pub same : ranOf (r .ran) n ≡ runOf settings map lines s m
   pub cause : r .cause ≡ lastCause settings map lines s m Cause.Nothing
   pub lent : Lent map n
+
+-- and a run whose log is lent, which may hold the last step's entries after it
+pub record Logged (settings : Settings) (map lines : List ℕ) (s : State) (m : List ℕ) (r : Last) (st : Store) : Type 0 where
+  pub same : ranOf (r .ran) (st .image) ≡ runOf settings map lines s m
+  pub cause : r .cause ≡ lastCause settings map lines s m Cause.Nothing
+  pub board : Board map st

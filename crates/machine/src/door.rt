@@ -1,14 +1,10 @@
 // The inner door, for crates of ours: a run and a step over a board that is known to be good. Nothing is looked at again, and a step
 // is lent its log and its plate.
-use super::First;
 use super::Ran;
-use super::Stage;
-use super::Tally;
-use super::runs::leg;
+use super::runs::run_from;
 use super::runs::run_on;
 use state::Settings;
 use state::State;
-use step::Cause;
 use step::Turn;
 ghost use mathlib.Core.Path.{_≡_};
 ghost use Rattle.plate.specs.Plate.{table};
@@ -44,18 +40,9 @@ pub fn step(
     ensures { λ r. ⌜ Spec.Steps settings (now (map .entry)) line s (now (image .entry)) r (now (image .exit)) (now (log .exit)) ⌝ }
 {
     let lines = [line];
-    let tally = Tally {
-        blanks: 0,
-        first: First::Never,
-    };
-    let from = Stage {
-        state: s,
-        tally,
-        cause: Cause::Nothing,
-        at: 0,
-    };
-    let stage = leg(from, image, map, log, settings, &lines, sheet);
-    let state = stage.state;
-    let cause = stage.cause;
+    let last = run_from(s, image, map, log, settings, &lines, sheet);
+    let ran = last.ran;
+    let state = ran.state;
+    let cause = last.cause;
     Turn { state, cause }
 }

@@ -2,7 +2,6 @@
 use state::Settings;
 use state::State;
 use step::Cause;
-use step::Kind;
 use step::Turn;
 ghost use mathlib.Core.Path.{_≡_};
 ghost use Prim.Native.Nat.{_≤_};
@@ -39,20 +38,6 @@ pub struct Ran {
 pub(crate) struct Last {
     pub ran: Ran,
     pub cause: Cause,
-}
-
-// Why a burst of op codes ended: the line words are over, or another comes; the next step is no op code; its work was not answered.
-pub(crate) enum End {
-    Over,
-    Other(Kind),
-    Blank(u16),
-}
-
-// The state before the step at a place, and what that step is.
-pub(crate) struct Burst {
-    pub state: State,
-    pub at: usize,
-    pub end: End,
 }
 
 // Where a run stands: before the step at a place, with the tally so far and the cause of the step before.

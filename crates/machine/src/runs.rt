@@ -1,10 +1,7 @@
 // A run: one step for each line word.
-use super::Burst;
-use super::End;
 use super::First;
 use super::Last;
 use super::Ran;
-use super::Stage;
 use super::Tally;
 use state::Settings;
 use state::State;
@@ -14,18 +11,18 @@ use step::Cause;
 use step::Kind;
 use step::Told;
 use step::blank_at;
+use step::calm;
 use step::error;
-use step::is_code;
+use step::goes_on;
 use step::kind_of;
 use step::op_code;
 use step::other;
 ghost use mathlib.Core.Path.{_≡_};
-ghost use Prim.Native.Nat.{_≤_, _<_, _+_};
+ghost use Prim.Native.Nat.{_≤_, _+_};
 ghost use lib.ListN.{length};
 ghost use Rattle.board.specs.Exec.{beside, Lent, Board};
 ghost use Rattle.plate.specs.Plate.{table};
 ghost use Rattle.machine.specs.Run as Spec;
-ghost use Rattle.machine.specs.Leg as Leg;
 
 // The earlier one stays.
 fn first_of(first: First, place: u16, address: u16) -> First
@@ -54,128 +51,61 @@ pub(crate) fn noted(t: Tally, place: u16, blank: Told) -> Tally
     }
 }
 
-// Work that was not answered ends a burst.
-fn blank_of(went: Went) -> End
-    ensures { λ r. ⌜ r ≡ Leg.blankOf went ⌝ }
-{
-    match went {
-        Went::Done(_) => End::Blank(0),
-        Went::Blank(a) => End::Blank(a),
-    }
-}
-
-// Op codes, one after another, as long as the line word stays the same, each step is an op code, and its work is answered.
-fn op_codes(
+// A run, with a log that may hold an earlier step's entries and the plate lent. A line word is heard anew where it is another than
+// the one before; the state stays in variables of its own, and each way that a step goes sets them (docs/SPEED.md tells why).
+pub(crate) fn run_from(
     s: State,
     image: &mut [u8],
     map: &[u8],
     log: &mut [u16; 32],
     settings: Settings,
     lines: &[u16],
-    from: usize,
     sheet: &[u8; 256],
-) -> Burst
-    requires { ⌜ (Board (now map) (beside (now image) (now log))) × (now sheet ≡ table) × (from < length (now lines)) × (length (now lines) ≤ 4096) ⌝ }
-    ensures { λ r. ⌜ Leg.Bursts settings (now (map .entry)) (now (lines .entry)) from s (now (image .entry)) (r .at) (r .state) (r .end) (beside (now (image .exit)) (now (log .exit))) ⌝ }
+) -> Last
+    requires { ⌜ (Board (now map) (beside (now image) (now log))) × (now sheet ≡ table) × (length (now lines) ≤ 4096) ⌝ }
+    ensures { λ r. ⌜ Spec.Logged settings (now (map .entry)) (now (lines .entry)) s (now (image .entry)) r (beside (now (image .exit)) (now (log .exit))) ⌝ }
 {
-    let line = lines[from];
-    let out = hear(settings, line);
     let mut state = s;
-    let mut i = from;
-    while i < lines.len() {
-        if lines[i] != line {
-            board::clear(log);
-            return Burst {
-                state,
-                at: i,
-                end: End::Over,
-            };
+    let mut tally = Tally {
+        blanks: 0,
+        first: First::Never,
+    };
+    let mut cause = Cause::Nothing;
+    let n = lines.len() as u16;
+    let mut i: u16 = 0;
+    let mut line: u16 = 0;
+    let mut out = hear(settings, 0);
+    let mut quiet = calm(out);
+    while i < n {
+        let next = lines[i as usize];
+        if next != line {
+            line = next;
+            out = hear(settings, next);
+            quiet = calm(out);
         }
-        let k = kind_of(state, out);
-        if !is_code(k) {
-            board::clear(log);
-            return Burst {
-                state,
-                at: i,
-                end: End::Other(k),
-            };
+        if goes_on(state, out, quiet) {
+            match op_code(state, image, map, log, out, sheet) {
+                Went::Done(t) => {
+                    state = t;
+                    cause = Cause::OpCode;
+                }
+                Went::Blank(a) => {
+                    let turn = error(state, image, map, log, out, Kind::OpCode, a);
+                    state = turn.state;
+                    cause = turn.cause;
+                }
+            }
+        } else {
+            let turn = other(state, image, map, log, out, kind_of(state, out));
+            state = turn.state;
+            cause = turn.cause;
         }
-        let went = op_code(state, image, map, log, out, sheet);
-        let Went::Done(t) = went else {
-            return Burst {
-                state,
-                at: i,
-                end: blank_of(went),
-            };
-        };
-        state = t;
+        tally = noted(tally, i, blank_at(cause));
         i += 1;
     }
-    board::clear(log);
-    Burst {
-        state,
-        at: i,
-        end: End::Over,
-    }
-}
-
-// A burst, and the step that it ended before.
-pub(crate) fn leg(
-    stage: Stage,
-    image: &mut [u8],
-    map: &[u8],
-    log: &mut [u16; 32],
-    settings: Settings,
-    lines: &[u16],
-    sheet: &[u8; 256],
-) -> Stage
-    requires { ⌜ (Board (now map) (beside (now image) (now log))) × (now sheet ≡ table) × (stage .at < length (now lines)) × (length (now lines) ≤ 4096) × (stage .tally .blanks ≤ stage .at) ⌝ }
-    ensures { λ r. ⌜ Leg.Led settings (now (map .entry)) (now (lines .entry)) stage (now (image .entry)) r (beside (now (image .exit)) (now (log .exit))) ⌝ }
-{
-    let s = stage.state;
-    let tally = stage.tally;
-    let from = stage.at;
-    let ended = op_codes(s, image, map, log, settings, lines, from, sheet);
-    let state = ended.state;
-    let at = ended.at;
-    let end = ended.end;
-    match end {
-        End::Over => Stage {
-            state,
-            tally,
-            cause: Cause::OpCode,
-            at,
-        },
-        End::Other(k) => {
-            let turn = other(state, image, map, log, hear(settings, lines[at]), k);
-            let next = turn.state;
-            let cause = turn.cause;
-            Stage {
-                state: next,
-                tally: noted(tally, at as u16, blank_at(cause)),
-                cause,
-                at: at + 1,
-            }
-        }
-        End::Blank(a) => {
-            let turn = error(
-                state,
-                image,
-                map,
-                log,
-                hear(settings, lines[at]),
-                Kind::OpCode,
-                a,
-            );
-            let next = turn.state;
-            let cause = turn.cause;
-            Stage {
-                state: next,
-                tally: noted(tally, at as u16, blank_at(cause)),
-                cause,
-                at: at + 1,
-            }
-        }
+    Last {
+        ran: Ran { state, tally },
+        cause,
     }
 }
 
@@ -192,24 +122,5 @@ pub(crate) fn run_on(
 {
     let mut log = [0u16; 32];
     let sheet = plate::PLATE;
-    let tally = Tally {
-        blanks: 0,
-        first: First::Never,
-    };
-    let mut stage = Stage {
-        state: s,
-        tally,
-        cause: Cause::Nothing,
-        at: 0,
-    };
-    while stage.at < lines.len() {
-        stage = leg(stage, image, map, &mut log, settings, lines, &sheet);
-    }
-    let state = stage.state;
-    let tally = stage.tally;
-    let cause = stage.cause;
-    Last {
-        ran: Ran { state, tally },
-        cause,
-    }
+    run_from(s, image, map, &mut log, settings, lines, &sheet)
 }

@@ -1,6 +1,6 @@
 -- One step.
 use Prim.Native.Nat.{ℕ, _+_, _*_, _%_}
-use mathlib.Core.Bool.{Bool, true, false, not, _&&_, cond}
+use mathlib.Core.Bool.{Bool, true, false, not, _&&_, _||_, cond}
 use mathlib.Core.List.{List, [], _∷_}
 use mathlib.Core.Path.{_≡_}
 use lib.ListN.{getD}
@@ -237,6 +237,18 @@ pub record Stepped (map : List ℕ) (a : After) (r : Turn) (st : Store) : Type 0
 pub record Powered (map : List ℕ) (u : Up) (s : State) (m : List ℕ) : Type 0 where
   pub came : up s m ≡ u
   pub lent : Lent map m
+
+-- nothing is asked for: no I3, no I1, no I0
+abbrev pub calm : Outside → Bool
+calm out = not (out .i3 || out .i1 || out .i0)
+
+abbrev pub running : Mode → Bool
+running Running = true
+running Waiting = false
+running PowerHalt = false
+running SwitchHalt = false
+running Locked = false
+running Saved = false
 
 -- what an op code's work on a board promises: what it comes to; where it was not answered, the log takes back what was done
 pub record Coded (map : List ℕ) (out : Outside) (s : State) (m : List ℕ) (r : Went) (st : Store) : Type 0 where

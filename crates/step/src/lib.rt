@@ -301,7 +301,7 @@ fn seldom(
 }
 
 // Is the step an op code?
-pub fn is_code(k: Kind) -> bool
+fn is_code(k: Kind) -> bool
     ensures { λ r. ⌜ r ≡ Spec.isCode k ⌝ }
 {
     match k {
@@ -317,6 +317,38 @@ pub fn is_code(k: Kind) -> bool
         Kind::Waits => false,
         Kind::Stuck => false,
     }
+}
+
+// Nothing is asked for: no I3, no I1, no I0.
+pub fn calm(out: Outside) -> bool
+    ensures { λ r. ⌜ r ≡ Spec.calm out ⌝ }
+{
+    !(out.i3 | out.i1 | out.i0)
+}
+
+fn running(mode: Mode) -> bool
+    ensures { λ r. ⌜ r ≡ Spec.running mode ⌝ }
+{
+    match mode {
+        Mode::Running => true,
+        Mode::Waiting => false,
+        Mode::PowerHalt => false,
+        Mode::SwitchHalt => false,
+        Mode::Locked => false,
+        Mode::Saved => false,
+    }
+}
+
+// Is the next step an op code? Where nothing is asked for the mode tells it.
+pub fn goes_on(s: State, out: Outside, quiet: bool) -> bool
+    requires { ⌜ quiet ≡ Spec.calm out ⌝ }
+    ensures { λ r. ⌜ r ≡ Spec.isCode (Spec.kindOf s out) ⌝ }
+{
+    let mode = s.mode;
+    if quiet {
+        return running(mode);
+    }
+    is_code(kind_of(s, out))
 }
 
 fn cause_of(k: Kind) -> Cause

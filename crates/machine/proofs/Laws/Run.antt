@@ -1,17 +1,19 @@
 -- A run from any place on: one step more, or none left.
 use Prim.Native.Nat.{ℕ, _+_, _<_}
 use mathlib.Core.List.{List, [], _∷_}
-use mathlib.Core.Path.{_≡_, refl, ap}
+use mathlib.Core.Bool.{Bool}
+use mathlib.Core.Path.{_≡_, refl, sym, ap, _∙_}
 use native.Mathlib.Numerals.{add-one}
 use lib.ListN.{length, drop, getD}
 use lib.Seq.{drop-cons, drop-length}
 use Rattle.state.specs.declared.State.{State}
 use Rattle.state.specs.declared.Settings.{Settings}
+use Rattle.state.specs.declared.Outside.{Outside}
 use Rattle.state.specs.State.{heard}
 use Rattle.machine.specs.declared.Tally.{Tally}
 use Rattle.step.specs.declared.Cause.{Cause}
 use Rattle.step.specs.declared.Cause.the-variants as Cause
-use Rattle.step.specs.Step.{stepOf, After, after, blankAt}
+use Rattle.step.specs.Step.{stepOf, After, after, blankAt, calm}
 use Rattle.machine.specs.Run.{noted, End, end, rest, runOf, lastCause}
 
 rest-cons : (settings : Settings) (map : List ℕ) (i x : ℕ) (xs : List ℕ) (s : State) (m : List ℕ) (t : Tally)
@@ -58,3 +60,18 @@ run-of-one settings map line s m {t = t} {n = n} e d =
 
     imageIn : End → List ℕ
     imageIn (end t n y) = n
+
+-- ---- what is heard of the line word at a place: anew where it is another than the one before
+
+pub record Hearing (settings : Settings) (x line : ℕ) (out : Outside) (quiet : Bool) : Type 0 where
+  pub word : line ≡ x
+  pub parted : out ≡ heard settings line
+  pub told : quiet ≡ calm out
+
+pub hearing-new : {settings : Settings} {x line : ℕ} {out o : Outside} {quiet q : Bool}
+    → line ≡ x → out ≡ o → quiet ≡ q → o ≡ heard settings x → q ≡ calm o → Hearing settings x line out quiet
+hearing-new {settings = settings} a b d e f = record { word = a; parted = b ∙ e ∙ ap (λ l. heard settings l) (sym a); told = d ∙ f ∙ ap (λ o. calm o) (sym b) }
+
+pub hearing-old : {settings : Settings} {x l line : ℕ} {out o : Outside} {quiet q : Bool}
+    → line ≡ l → out ≡ o → quiet ≡ q → x ≡ l → o ≡ heard settings l → q ≡ calm o → Hearing settings x line out quiet
+hearing-old {settings = settings} a b d x e f = record { word = a ∙ sym x; parted = b ∙ e ∙ ap (λ l. heard settings l) (sym a); told = d ∙ f ∙ ap (λ o. calm o) (sym b) }

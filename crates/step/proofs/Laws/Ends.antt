@@ -1,6 +1,6 @@
 -- A step's ends: from what the work came to on the board to the step's definition on the image alone.
 use Prim.Native.Nat.{ℕ, zero, suc}
-use mathlib.Core.Bool.{true, false}
+use mathlib.Core.Bool.{Bool, true, false, not, _||_, cond}
 use mathlib.Core.List.{List, [], _∷_}
 use mathlib.Core.Path.{_≡_, refl, sym, ap, _∙_}
 use native.Mathlib.Omega.{arith}
@@ -12,13 +12,14 @@ use Rattle.board.proofs.Laws.Undo.{none-left, board-fresh, board-back}
 use Rattle.state.specs.declared.State.{State}
 use Rattle.state.specs.declared.Outside.{Outside}
 use Rattle.state.specs.declared.Settings.{Settings}
-use Rattle.state.specs.declared.Mode.the-variants.{Locked}
+use Rattle.state.specs.declared.Mode.{Mode}
+use Rattle.state.specs.declared.Mode.the-variants.{Running, Waiting, PowerHalt, SwitchHalt, Locked, Saved}
 use Rattle.state.specs.State.{withMode, cleared, heard}
 use Rattle.step.specs.declared.Kind.{Kind}
 use Rattle.step.specs.declared.Kind.the-variants.{OpCode, HaltEnd, Boots, Saves, LocksUp, Restarts, Restores, NonVectored, Vectored, Waits, Stuck}
 use Rattle.step.specs.declared.Cause.{Cause}
 use Rattle.step.specs.declared.Cause.the-variants.{LockedAt}
-use Rattle.step.specs.Step.{After, after, kindOf, workOf, busError, causeOf, errorCauseOf, errorOf, stepOf, isCode, haltOption, powerUpOption, up, orLocked, powerUpOf}
+use Rattle.step.specs.Step.{After, after, kindIn, hears, kindOf, workOf, busError, causeOf, errorCauseOf, errorOf, stepOf, isCode, calm, running, haltOption, powerUpOption, up, orLocked, powerUpOf}
 
 pub fresh-clear : {map m l l′ : List ℕ} → Board map (beside m l) → l′ ≡ set l 0 0 → Fresh map (beside m l′)
 fresh-clear {l = l} b e = rw e (record { board = board-fresh {l = l} b; empty = none-left l (b .whole) })
@@ -99,3 +100,28 @@ power-no-code (suc (suc (suc (suc n)))) k h = refl
 pub option-no-code : (settings : Settings) {k : Kind} → k ≡ powerUpOption settings → isCode k ≡ false
 unfolding powerUpOption haltOption
 option-no-code settings e = ap isCode e ∙ power-no-code (settings .powerup) _ (halt-no-code (settings .halt))
+
+-- where nothing is asked for, the mode alone tells whether a step is an op code
+not-any : (a b c : Bool) → not (a || b || c) ≡ true → (a ≡ false) × (b ≡ false) × (c ≡ false)
+not-any true b c e = absurd (unlike (sym e))
+not-any false true c e = absurd (unlike (sym e))
+not-any false false true e = absurd (unlike (sym e))
+not-any false false false e = (refl, refl, refl)
+
+calm-in : (mode : Mode) (hearing : Bool) (out : Outside) → (out .i3 ≡ false) × (out .i1 ≡ false) × (out .i0 ≡ false) → isCode (kindIn mode hearing out) ≡ running mode
+unfolding kindIn
+calm-in Running true out e = rw (e .0, e .1, e .2)
+calm-in Running false out e = rw (e .0)
+calm-in Waiting true out e = rw (e .0, e .1, e .2)
+calm-in Waiting false out e = rw (e .0)
+calm-in PowerHalt hearing out e = halted (out .fail)
+  where
+    halted : (b : Bool) → isCode (cond b Waits HaltEnd) ≡ false
+    halted true = refl
+    halted false = refl
+calm-in SwitchHalt hearing out e = rw (e .0)
+calm-in Locked hearing out e = refl
+calm-in Saved hearing out e = rw (e .0)
+
+pub calm-code : (s : State) (out : Outside) → calm out ≡ true → isCode (kindOf s out) ≡ running (s .mode)
+calm-code s out e = calm-in (s .mode) (hears s) out (not-any (out .i3) (out .i1) (out .i0) e)
