@@ -13,8 +13,9 @@ use Rattle.optext.specs.Read.{opOf}
 use Rattle.patchline.specs.declared.oneline.How.the-variants.{Branch, Sob}
 use Rattle.patchline.specs.Line.{commaAt, firstIn, secondIn, labelIn, filled, isSob, saidOf, ahead, behind}
 use Rattle.assembler.specs.Source.{countOf, textAt, saidAt, hereOf, valueOf, wordsIn}
-use Rattle.assembler.specs.Answer.{section, after, asmOf}
-use Rattle.assembler_c.specs.Call.{went, assembleCall}
+use Rattle.refusal.specs.Page.{answered, left, told}
+use Rattle.assembler.specs.Answer.{asmOf}
+use Rattle.assembler_c.specs.Call.{assembleCall}
 use Rattle.patches.specs.Given.{Gives}
 
 -- the op code whose text the line is with d for its label
@@ -52,7 +53,7 @@ pub record LabelGives (s : List ℕ) (i : ℕ) (bytes : List ℕ) : Type 0 where
       → (ws : List ℕ) × Reads (textAt s i) (sobDigits (valueOf s (labelIn (secondIn (textAt s i)))) (hereOf s i)) ws × Gives s i bytes ws
 
 abbrev pub LabelsGive : Type 0
-LabelsGive = (s out : List ℕ) (n : ℕ) (out′ : List ℕ) → after (section n) out′ ≡ asmOf s out → (i : ℕ) → i < countOf s → LabelGives s i out′
+LabelsGive = (s out : List ℕ) (n : ℕ) (out′ : List ℕ) → left (answered n) out′ ≡ asmOf s out → (i : ℕ) → i < countOf s → LabelGives s i out′
 
 abbrev pub Wd16LabelsGive : Type 0
-Wd16LabelsGive = (s out b out′ b′ : List ℕ) → went 0 out′ b′ ≡ assembleCall s out b → (i : ℕ) → i < countOf s → LabelGives s i out′
+Wd16LabelsGive = (s out b out′ b′ : List ℕ) → told {B = List ℕ × List ℕ} 0 (out′, b′) ≡ assembleCall s out b → (i : ℕ) → i < countOf s → LabelGives s i out′

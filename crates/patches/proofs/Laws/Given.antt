@@ -295,7 +295,7 @@ one-word s out n out′ e a w v x y =
 
 -- ---- a line with a label
 
-label-line : (s bytes : List ℕ) → Left s bytes → (i : ℕ) → i < countOf s → LabelGives s i bytes
+label-line : (s bytes : List ℕ) → Leaves s bytes → (i : ℕ) → i < countOf s → LabelGives s i bytes
 unfolding saidAt
 label-line s bytes g i h = record {
   branch = λ how comma label.
