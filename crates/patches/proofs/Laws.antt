@@ -3,6 +3,8 @@ pub mod Again
 pub mod Given
 pub mod Labels
 pub mod Listed
+pub mod Modes
+pub mod Offsets
 pub mod Padded
 pub mod Pieces
 pub mod Rising

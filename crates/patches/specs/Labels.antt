@@ -1,16 +1,20 @@
--- A LINE WITH A LABEL GIVES THE WORDS THAT 01'S READER GIVES OF THE SAME LINE WITH THE LABEL'S DIGITS IN ITS PLACE: `BR X` as `BR dd`, and
--- `SOB R1,X` as `SOB R1,dd`. The reader's words are told by the text's own definition: words that are one op code, whose text it is.
-use mathlib.Core.Bool.{true}
+-- A LINE WITH A LABEL GIVES THE WORDS THAT 01'S READER GIVES OF THE SAME LINE WITH THE LABEL'S DIGITS IN ITS PLACE: `BR X` as `BR dd`,
+-- `SOB R1,X` as `SOB R1,dd`, `MOV X,R0` as `MOV oooo(PC),R0`. The reader's words are told by the text's own definition: words that are one op code, whose text it is.
+use mathlib.Core.Bool.{true, cond}
 use mathlib.Core.Path.{_≡_}
-use mathlib.Core.List.{List, []}
+use mathlib.Core.List.{List, [], _++_}
 use Prim.Native.Nat.{ℕ, _/_, _%_, _≤_, _<_}
+use lib.Dec.{eqb}
 use lib.ListN.{length}
-use Rattle.letters.specs.Digits.{letters, hex2}
+use Rattle.letters.specs.Digits.{letters, hex4, hex2}
+use Rattle.word.specs.Address.{plus, minus}
+use Rattle.codes.specs.Fields.{highByte}
+use Rattle.plate.specs.Plate.{formatOf}
 use Rattle.optext.specs.Rows.{nameOf}
 use Rattle.optext.specs.Line.{rowOf, textOf}
 use Rattle.optext.specs.Column.{Whole}
 use Rattle.optext.specs.Read.{opOf}
-use Rattle.patchline.specs.declared.oneline.How.the-variants.{Branch, Sob}
+use Rattle.patchline.specs.declared.oneline.How.the-variants.{Branch, Sob, Relative}
 use Rattle.patchline.specs.Line.{commaAt, firstIn, secondIn, labelIn, filled, isSob, saidOf, ahead, behind}
 use Rattle.assembler.specs.Source.{countOf, textAt, saidAt, hereOf, valueOf, wordsIn}
 use Rattle.refusal.specs.Page.{answered, left, told}
@@ -40,6 +44,23 @@ abbrev pub SobRead : Type 0
 SobRead = (s t : List ℕ) (h : ℕ) → saidOf t .how ≡ Sob → labelIn (firstIn t) ≡ [] → 0 < length (labelIn (secondIn t))
     → (ws : List ℕ) × Reads t (sobDigits (valueOf s (labelIn (secondIn t))) h) ws × (wordsIn s h t ≡ opOf ws)
 
+-- A label as A or @A, where it is an operand of an op code with two (format 10): `MOV X,R0` as `MOV oooo(PC),R0`. The offset is that from op
+-- code + 4, or from op code + 6 where it is the third word
+abbrev pub offsetDigits : ℕ → ℕ → ℕ → List ℕ
+offsetDigits n v h = hex4 (minus v (plus h n)) ++ letters "(PC)"
+
+-- the first operand is a label, and the second is none
+abbrev pub FirstRead : Type 0
+FirstRead = (s t : List ℕ) (h : ℕ) → saidOf t .how ≡ Relative → formatOf (highByte (saidOf t .op .a)) ≡ 10 → commaAt t < length t
+    → 0 < length (labelIn (firstIn t)) → labelIn (secondIn t) ≡ []
+    → (ws : List ℕ) × Reads t (offsetDigits 4 (valueOf s (labelIn (firstIn t))) h) ws × (wordsIn s h t ≡ opOf ws)
+
+-- the second operand is a label, and the first is none
+abbrev pub SecondRead : Type 0
+SecondRead = (s t : List ℕ) (h : ℕ) → saidOf t .how ≡ Relative → formatOf (highByte (saidOf t .op .a)) ≡ 10
+    → labelIn (firstIn t) ≡ [] → 0 < length (labelIn (secondIn t))
+    → (ws : List ℕ) × Reads t (offsetDigits (cond (eqb (saidOf t .op .count) 3) 6 4) (valueOf s (labelIn (secondIn t))) h) ws × (wordsIn s h t ≡ opOf ws)
+
 -- what a label is put into as SOB is the text's row of that name. (As a branch, the plate's format 5: laws Labels `branches-are-plates`.)
 abbrev pub SobIsRow : Type 0
 SobIsRow = (nameOf 94 ≡ letters "SOB") × ((w : ℕ) → w < 65536 → (isSob w ≡ true → rowOf w ≡ 94) × (rowOf w ≡ 94 → isSob w ≡ true))
@@ -51,6 +72,12 @@ pub record LabelGives (s : List ℕ) (i : ℕ) (bytes : List ℕ) : Type 0 where
       → (ws : List ℕ) × Reads (textAt s i) (branchDigits (valueOf s (labelIn (firstIn (textAt s i)))) (hereOf s i)) ws × Gives s i bytes ws
   pub sob : saidAt s i .how ≡ Sob → labelIn (firstIn (textAt s i)) ≡ [] → 0 < length (labelIn (secondIn (textAt s i)))
       → (ws : List ℕ) × Reads (textAt s i) (sobDigits (valueOf s (labelIn (secondIn (textAt s i)))) (hereOf s i)) ws × Gives s i bytes ws
+  pub first : saidAt s i .how ≡ Relative → formatOf (highByte (saidAt s i .op .a)) ≡ 10 → commaAt (textAt s i) < length (textAt s i)
+      → 0 < length (labelIn (firstIn (textAt s i))) → labelIn (secondIn (textAt s i)) ≡ []
+      → (ws : List ℕ) × Reads (textAt s i) (offsetDigits 4 (valueOf s (labelIn (firstIn (textAt s i)))) (hereOf s i)) ws × Gives s i bytes ws
+  pub second : saidAt s i .how ≡ Relative → formatOf (highByte (saidAt s i .op .a)) ≡ 10
+      → labelIn (firstIn (textAt s i)) ≡ [] → 0 < length (labelIn (secondIn (textAt s i)))
+      → (ws : List ℕ) × Reads (textAt s i) (offsetDigits (cond (eqb (saidAt s i .op .count) 3) 6 4) (valueOf s (labelIn (secondIn (textAt s i)))) (hereOf s i)) ws × Gives s i bytes ws
 
 abbrev pub LabelsGive : Type 0
 LabelsGive = (s out : List ℕ) (n : ℕ) (out′ : List ℕ) → left (answered n) out′ ≡ asmOf s out → (i : ℕ) → i < countOf s → LabelGives s i out′

@@ -36,6 +36,7 @@ use Rattle.patches.specs.Given.{Has, Gives, OneWord, ReaderGives, Wd16Re
 use Rattle.patches.proofs.Laws.Again.{plain-words, text-said}
 use Rattle.patches.specs.Labels.{LabelGives, LabelsGive, Wd16LabelsGive}
 use Rattle.patches.proofs.Laws.Labels.{branch-read, sob-read}
+use Rattle.patches.proofs.Laws.Offsets.{first-read, second-read}
 use Rattle.patches.proofs.Laws.Rising.{ends-below, words-count, placed-rises}
 use Rattle.patches.proofs.Laws.Taken.{byte-is, word-is, count-is, behind, placed-few}
 
@@ -300,11 +301,20 @@ unfolding saidAt
 label-line s bytes g i h = record {
   branch = λ how comma label.
       let r = branch-read s (textAt s i) (hereOf s i) how comma label in
-      (r .0, r .1, line-gives s bytes g i (r .0) h (whole-few (r .0) (r .1 .whole)) (r .1 .whole .words) (r .2) (ap isOrigin how));
+      (r .0, r .1, given (r .0) (r .1 .whole) (r .2) (ap isOrigin how));
   sob = λ how first label.
       let r = sob-read s (textAt s i) (hereOf s i) how first label in
-      (r .0, r .1, line-gives s bytes g i (r .0) h (whole-few (r .0) (r .1 .whole)) (r .1 .whole .words) (r .2) (ap isOrigin how));
+      (r .0, r .1, given (r .0) (r .1 .whole) (r .2) (ap isOrigin how));
+  first = λ how ten comma label other.
+      let r = first-read s (textAt s i) (hereOf s i) how ten comma label other in
+      (r .0, r .1, given (r .0) (r .1 .whole) (r .2) (ap isOrigin how));
+  second = λ how ten other label.
+      let r = second-read s (textAt s i) (hereOf s i) how ten other label in
+      (r .0, r .1, given (r .0) (r .1 .whole) (r .2) (ap isOrigin how));
 }
+  where
+    given : (ws : List ℕ) → Whole ws → wordsIn s (hereOf s i) (textAt s i) ≡ opOf ws → isOrigin (saidAt s i .how) ≡ false → Gives s i bytes ws
+    given ws w e o = line-gives s bytes g i ws h (whole-few ws w) (w .words) e o
 
 pub labels-give : LabelsGive
 labels-give s out n out′ e i h = label-line s out′ (left-of s out n out′ e) i h

@@ -74,11 +74,11 @@ record Row (j : ℕ) : Type 0 where
   text : (w x y : ℕ) → rowText (24 + j) w x y ≡ nameOf (24 + j) ++ (32 ∷ hex2 (w % 256))
   one : (w : ℕ) → 1 + takes (firstOf (24 + j)) w + takes (secondOf (24 + j)) w ≡ 1
 
-unfoldable Each : (ℕ → Type 0) → ℕ → Type 0
+unfoldable pub Each : (ℕ → Type 0) → ℕ → Type 0
 Each P zero = Unit {0}
 Each P (suc n) = Each P n × P n
 
-each-at : (P : ℕ → Type 0) (n : ℕ) → Each P n → (k : ℕ) → k < n → P k
+pub each-at : (P : ℕ → Type 0) (n : ℕ) → Each P n → (k : ℕ) → k < n → P k
 unfolding Each
 each-at P zero b k h = absurd (omega (arith, h))
 each-at P (suc n) b k h = elim (ℕ-discrete k n) [ yes e ↦ subst P (sym e) (b .1) | no d ↦ each-at P n (b .0) k (omega (arith, h, d)) ]
@@ -175,7 +175,7 @@ sob-tailed w e =
 
 -- ---- a text with a label at its end: with digits for it
 
-isLabel : (o : List ℕ) → 0 < length (labelIn o) → isName (bare o) ≡ true
+pub isLabel : (o : List ℕ) → 0 < length (labelIn o) → isName (bare o) ≡ true
 unfolding labelIn
 isLabel o h = by (isName (bare o)) h
   where
@@ -187,7 +187,7 @@ no-name : isName [] ≡ false
 unfolding isName pastOf
 no-name = refl
 
-noLabel : (o : List ℕ) → labelIn o ≡ [] → isName (bare o) ≡ false
+pub noLabel : (o : List ℕ) → labelIn o ≡ [] → isName (bare o) ≡ false
 unfolding labelIn
 noLabel o e = by (isName (bare o)) refl e
   where
@@ -195,10 +195,10 @@ noLabel o e = by (isName (bare o)) refl e
     by true q z = sym q ∙ ap isName z ∙ no-name
     by false q z = refl
 
-abbrev beforeFirst : List ℕ → List ℕ
+abbrev pub beforeFirst : List ℕ → List ℕ
 beforeFirst t = aliasOf (partOf 0 (operandsAt t) t) ++ partOf 0 (atOf (firstIn t)) (firstIn t)
 
-abbrev beforeSecond : List ℕ → List ℕ
+abbrev pub beforeSecond : List ℕ → List ℕ
 beforeSecond t = (aliasOf (partOf 0 (operandsAt t) t) ++ firstIn t) ++ (44 ∷ partOf 0 (atOf (secondIn t)) (secondIn t))
 
 -- its only operand
@@ -210,7 +210,7 @@ first-filled t d c e =
     (append-nil (aliasOf (partOf 0 (operandsAt t) t) ++ (partOf 0 (atOf (firstIn t)) (firstIn t) ++ d)) ∙ sym (append-assoc (aliasOf (partOf 0 (operandsAt t) t)) (partOf 0 (atOf (firstIn t)) (firstIn t)) d))
 
 -- its second operand
-second-filled : (t d : List ℕ) → commaAt t < length t → isName (bare (firstIn t)) ≡ false → isName (bare (secondIn t)) ≡ true
+pub second-filled : (t d : List ℕ) → commaAt t < length t → isName (bare (firstIn t)) ≡ false → isName (bare (secondIn t)) ≡ true
     → filled d t ≡ beforeSecond t ++ d
 unfolding filled filledIn tailOf
 second-filled t d c f e =
@@ -267,7 +267,7 @@ kind Branch = 3
 kind Sob = 4
 kind Relative = 5
 
-unlike : {A : Type 0} (x y : How) → eqb (kind x) (kind y) ≡ false → x ≡ y → A
+pub unlike : {A : Type 0} (x y : How) → eqb (kind x) (kind y) ≡ false → x ≡ y → A
 unlike x y n e = differ (sym n ∙ eq-eqb (kind x) (kind y) (ap kind e))
 
 -- by the tests in their order
@@ -284,10 +284,10 @@ taken-as false false false false false true g p q r u v w z how h = (λ k. unlik
 taken-as false false false false false false true p q r u v w z how h = (λ k. unlike Unknown Branch refl (h ∙ k), λ k. unlike Unknown Sob refl (h ∙ k))
 taken-as false false false false false false false p q r u v w z how h = (λ k. unlike Relative Branch refl (h ∙ k), λ k. unlike Relative Sob refl (h ∙ k))
 
-abbrev zeros : List ℕ → List ℕ
+abbrev pub zeros : List ℕ → List ℕ
 zeros t = filled (letters "00") t
 
-abbrev offsets : List ℕ → List ℕ
+abbrev pub offsets : List ℕ → List ℕ
 offsets t = filled (letters "0000(PC)") t
 
 said-branch : (t : List ℕ) → saidOf t .how ≡ Branch → (isBranch (opIn (zeros t) .a) ≡ true) × (saidOf t ≡ says Branch (opIn (zeros t)))
@@ -309,11 +309,11 @@ some-words (x ∷ l) n = omega arith
 
 -- ---- what is put into its words
 
-put-none : (s : List ℕ) (how : How) (third : Bool) (h : ℕ) (u : List ℕ) (o : Op) → u ≡ [] → put s how third h u o ≡ o
+pub put-none : (s : List ℕ) (how : How) (third : Bool) (h : ℕ) (u : List ℕ) (o : Op) → u ≡ [] → put s how third h u o ≡ o
 unfolding put
 put-none s how third h u o e = rw e refl
 
-put-some : (s : List ℕ) (how : How) (third : Bool) (h : ℕ) (u : List ℕ) (o : Op) → 0 < length u → put s how third h u o ≡ withLabel how third (valueOf s u) h o
+pub put-some : (s : List ℕ) (how : How) (third : Bool) (h : ℕ) (u : List ℕ) (o : Op) → 0 < length u → put s how third h u o ≡ withLabel how third (valueOf s u) h o
 unfolding put
 put-some s how third h u o l = rw (ne-eqb (length u) 0 (λ e. omega (arith, e, l))) refl
 
@@ -332,7 +332,7 @@ no-second : (t : List ℕ) → length t ≤ commaAt t → labelIn (secondIn t) �
 unfolding secondIn
 no-second t l = ap labelIn (past-end (commaAt t + 1) t (omega (arith, l))) ∙ nothing-in
 
-has-comma : (t : List ℕ) → 0 < length (labelIn (secondIn t)) → commaAt t < length t
+pub has-comma : (t : List ℕ) → 0 < length (labelIn (secondIn t)) → commaAt t < length t
 has-comma t h =
     ⊎-elim (λ l. l) (λ l. let z : length (labelIn (secondIn t)) ≡ 0 = ap length (no-second t l) in absurd (omega (arith, z, h))) (lt-cases (commaAt t) (length t))
 
