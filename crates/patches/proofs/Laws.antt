@@ -2,6 +2,7 @@
 pub mod Again
 pub mod Given
 pub mod Labels
+pub mod Last
 pub mod Listed
 pub mod Modes
 pub mod Offsets

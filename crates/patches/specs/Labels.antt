@@ -1,6 +1,6 @@
 -- A LINE WITH A LABEL GIVES THE WORDS THAT 01'S READER GIVES OF THE SAME LINE WITH THE LABEL'S DIGITS IN ITS PLACE: `BR X` as `BR dd`,
 -- `SOB R1,X` as `SOB R1,dd`, `MOV X,R0` as `MOV oooo(PC),R0`. The reader's words are told by the text's own definition: words that are one op code, whose text it is.
-use mathlib.Core.Bool.{true, cond}
+use mathlib.Core.Bool.{Bool, true, not, _&&_, _||_, cond}
 use mathlib.Core.Path.{_≡_}
 use mathlib.Core.List.{List, [], _++_}
 use Prim.Native.Nat.{ℕ, _/_, _%_, _≤_, _<_}
@@ -11,7 +11,7 @@ use Rattle.word.specs.Address.{plus, minus}
 use Rattle.codes.specs.Fields.{highByte}
 use Rattle.plate.specs.Plate.{formatOf}
 use Rattle.optext.specs.Rows.{nameOf}
-use Rattle.optext.specs.Line.{rowOf, textOf}
+use Rattle.optext.specs.Line.{isReserved, rowOf, textOf}
 use Rattle.optext.specs.Column.{Whole}
 use Rattle.optext.specs.Read.{opOf}
 use Rattle.patchline.specs.declared.oneline.How.the-variants.{Branch, Sob, Relative}
@@ -61,6 +61,20 @@ SecondRead = (s t : List ℕ) (h : ℕ) → saidOf t .how ≡ Relative → forma
     → labelIn (firstIn t) ≡ [] → 0 < length (labelIn (secondIn t))
     → (ws : List ℕ) × Reads t (offsetDigits (cond (eqb (saidOf t .op .count) 3) 6 4) (valueOf s (labelIn (secondIn t))) h) ws × (wordsIn s h t ≡ opOf ws)
 
+-- A label as the one operand A or @A: of format 7, and of format 9 but SOB, and JSR and LEA with mode 0. CALL and JMP are JSR and LEA
+abbrev pub takesOne : ℕ → Bool
+takesOne w = eqb (formatOf (highByte w)) 7 || (eqb (formatOf (highByte w)) 9 && not (isReserved w || isSob w))
+
+-- it is the line's only operand: `CLR X`, `JMP X`, `CALL X`
+abbrev pub OnlyRead : Type 0
+OnlyRead = (s t : List ℕ) (h : ℕ) → saidOf t .how ≡ Relative → takesOne (saidOf t .op .a) ≡ true → length t ≤ commaAt t → 0 < length (labelIn (firstIn t))
+    → (ws : List ℕ) × Reads t (offsetDigits 4 (valueOf s (labelIn (firstIn t))) h) ws × (wordsIn s h t ≡ opOf ws)
+
+-- it is its second operand: `JSR R5,X`
+abbrev pub LastRead : Type 0
+LastRead = (s t : List ℕ) (h : ℕ) → saidOf t .how ≡ Relative → takesOne (saidOf t .op .a) ≡ true → labelIn (firstIn t) ≡ [] → 0 < length (labelIn (secondIn t))
+    → (ws : List ℕ) × Reads t (offsetDigits 4 (valueOf s (labelIn (secondIn t))) h) ws × (wordsIn s h t ≡ opOf ws)
+
 -- what a label is put into as SOB is the text's row of that name. (As a branch, the plate's format 5: laws Labels `branches-are-plates`.)
 abbrev pub SobIsRow : Type 0
 SobIsRow = (nameOf 94 ≡ letters "SOB") × ((w : ℕ) → w < 65536 → (isSob w ≡ true → rowOf w ≡ 94) × (rowOf w ≡ 94 → isSob w ≡ true))
@@ -78,6 +92,10 @@ pub record LabelGives (s : List ℕ) (i : ℕ) (bytes : List ℕ) : Type 0 where
   pub second : saidAt s i .how ≡ Relative → formatOf (highByte (saidAt s i .op .a)) ≡ 10
       → labelIn (firstIn (textAt s i)) ≡ [] → 0 < length (labelIn (secondIn (textAt s i)))
       → (ws : List ℕ) × Reads (textAt s i) (offsetDigits (cond (eqb (saidAt s i .op .count) 3) 6 4) (valueOf s (labelIn (secondIn (textAt s i)))) (hereOf s i)) ws × Gives s i bytes ws
+  pub only : saidAt s i .how ≡ Relative → takesOne (saidAt s i .op .a) ≡ true → length (textAt s i) ≤ commaAt (textAt s i) → 0 < length (labelIn (firstIn (textAt s i)))
+      → (ws : List ℕ) × Reads (textAt s i) (offsetDigits 4 (valueOf s (labelIn (firstIn (textAt s i)))) (hereOf s i)) ws × Gives s i bytes ws
+  pub last : saidAt s i .how ≡ Relative → takesOne (saidAt s i .op .a) ≡ true → labelIn (firstIn (textAt s i)) ≡ [] → 0 < length (labelIn (secondIn (textAt s i)))
+      → (ws : List ℕ) × Reads (textAt s i) (offsetDigits 4 (valueOf s (labelIn (secondIn (textAt s i)))) (hereOf s i)) ws × Gives s i bytes ws
 
 abbrev pub LabelsGive : Type 0
 LabelsGive = (s out : List ℕ) (n : ℕ) (out′ : List ℕ) → left (answered n) out′ ≡ asmOf s out → (i : ℕ) → i < countOf s → LabelGives s i out′

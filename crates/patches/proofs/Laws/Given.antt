@@ -37,6 +37,7 @@ use Rattle.patches.proofs.Laws.Again.{plain-words, text-said}
 use Rattle.patches.specs.Labels.{LabelGives, LabelsGive, Wd16LabelsGive}
 use Rattle.patches.proofs.Laws.Labels.{branch-read, sob-read}
 use Rattle.patches.proofs.Laws.Offsets.{first-read, second-read}
+use Rattle.patches.proofs.Laws.Last.{only-read, last-read}
 use Rattle.patches.proofs.Laws.Rising.{ends-below, words-count, placed-rises}
 use Rattle.patches.proofs.Laws.Taken.{byte-is, word-is, count-is, behind, placed-few}
 
@@ -310,6 +311,12 @@ label-line s bytes g i h = record {
       (r .0, r .1, given (r .0) (r .1 .whole) (r .2) (ap isOrigin how));
   second = λ how ten other label.
       let r = second-read s (textAt s i) (hereOf s i) how ten other label in
+      (r .0, r .1, given (r .0) (r .1 .whole) (r .2) (ap isOrigin how));
+  only = λ how one comma label.
+      let r = only-read s (textAt s i) (hereOf s i) how one comma label in
+      (r .0, r .1, given (r .0) (r .1 .whole) (r .2) (ap isOrigin how));
+  last = λ how one other label.
+      let r = last-read s (textAt s i) (hereOf s i) how one other label in
       (r .0, r .1, given (r .0) (r .1 .whole) (r .2) (ap isOrigin how));
 }
   where

@@ -32,7 +32,7 @@ use Rattle.patches.specs.Labels.{Reads, branchDigits, sobDigits, BranchR
 
 -- ---- texts with two digits at their end
 
-differ : {A : Type 0} → false ≡ true → A
+pub differ : {A : Type 0} → false ≡ true → A
 differ e = let z : _≡_ {A = ℕ} 0 1 = ap (λ (b : Bool). cond b 1 0) e in absurd (omega (arith, z))
 
 long-end : (y : ℕ) (ys : List ℕ) (a b c d : ℕ) → (a ∷ b ∷ []) ≡ y ∷ (ys ++ (c ∷ d ∷ [])) → ⊥
@@ -202,7 +202,7 @@ abbrev pub beforeSecond : List ℕ → List ℕ
 beforeSecond t = (aliasOf (partOf 0 (operandsAt t) t) ++ firstIn t) ++ (44 ∷ partOf 0 (atOf (secondIn t)) (secondIn t))
 
 -- its only operand
-first-filled : (t d : List ℕ) → length t ≤ commaAt t → isName (bare (firstIn t)) ≡ true
+pub first-filled : (t d : List ℕ) → length t ≤ commaAt t → isName (bare (firstIn t)) ≡ true
     → filled d t ≡ beforeFirst t ++ d
 unfolding filled filledIn tailOf
 first-filled t d c e =
@@ -328,7 +328,7 @@ past-end n t l = by (drop n t) (length-drop n t)
     by [] e = refl
     by (x ∷ u) e = absurd (omega (arith, e, l))
 
-no-second : (t : List ℕ) → length t ≤ commaAt t → labelIn (secondIn t) ≡ []
+pub no-second : (t : List ℕ) → length t ≤ commaAt t → labelIn (secondIn t) ≡ []
 unfolding secondIn
 no-second t l = ap labelIn (past-end (commaAt t + 1) t (omega (arith, l))) ∙ nothing-in
 

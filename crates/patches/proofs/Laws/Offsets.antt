@@ -109,7 +109,7 @@ taken-relative false false false false false true g p q r u v w z h = unlike Sob
 taken-relative false false false false false false true p q r u v w z h = unlike Unknown Relative refl h
 taken-relative false false false false false false false p q r u v w z h = (refl, refl)
 
-said-relative : (t : List ℕ) → saidOf t .how ≡ Relative → (eqb (opIn (offsets t) .count) 0 ≡ false) × (saidOf t ≡ says Relative (opIn (offsets t)))
+pub said-relative : (t : List ℕ) → saidOf t .how ≡ Relative → (eqb (opIn (offsets t) .count) 0 ≡ false) × (saidOf t ≡ says Relative (opIn (offsets t)))
 unfolding saidOf saidWith
 said-relative t h =
     taken-relative (eqb (length t) 0) (ltb 0 (opIn t .count)) (isDirective (letters ".ORG ") t) (isDirective (letters ".WORD ") t) (isBranch (opIn (zeros t) .a)) (isSob (opIn (zeros t) .a)) (eqb (opIn (offsets t) .count) 0)
@@ -125,7 +125,7 @@ first-of-two t d c f e =
 -- ---- a word put into others
 
 -- the text of words, by the words that it shows
-shown : (l : List ℕ) (n : ℕ) → takes (firstOf (rowOf (getD l 0 0))) (getD l 0 0) ≡ n → textOf l ≡ lineText (getD l 0 0) (getD l 1 0) (getD l (1 + n) 0)
+pub shown : (l : List ℕ) (n : ℕ) → takes (firstOf (rowOf (getD l 0 0))) (getD l 0 0) ≡ n → textOf l ≡ lineText (getD l 0 0) (getD l 1 0) (getD l (1 + n) 0)
 unfolding textOf
 shown l n e = rw e refl
 
@@ -136,13 +136,13 @@ small-set (x ∷ l) zero o h s (suc k) = s (suc k)
 small-set (x ∷ l) (suc i) o h s zero = s zero
 small-set (x ∷ l) (suc i) o h s (suc k) = small-set l i o h (λ j. s (suc j)) k
 
-record Put (l : List ℕ) (i o : ℕ) : Type 0 where
-  first : getD (set l i o) 0 0 ≡ getD l 0 0
-  there : getD (set l i o) i 0 ≡ o
-  size : length (set l i o) ≡ length l
-  rest : (k : ℕ) → (k ≡ i → ⊥) → getD (set l i o) k 0 ≡ getD l k 0
+pub record Put (l : List ℕ) (i o : ℕ) : Type 0 where
+  pub first : getD (set l i o) 0 0 ≡ getD l 0 0
+  pub there : getD (set l i o) i 0 ≡ o
+  pub size : length (set l i o) ≡ length l
+  pub rest : (k : ℕ) → (k ≡ i → ⊥) → getD (set l i o) k 0 ≡ getD l k 0
 
-put-in : (l : List ℕ) (i o : ℕ) → 0 < i → i < length l → Put l i o
+pub put-in : (l : List ℕ) (i o : ℕ) → 0 < i → i < length l → Put l i o
 put-in l i o p h = record {
   first = getD-set-other l i 0 o 0 (λ e. omega (arith, e, p));
   there = getD-set-same l i o 0 h;
@@ -150,22 +150,22 @@ put-in l i o p h = record {
   rest = λ k n. getD-set-other l i k o 0 n;
 }
 
-put-whole : (l : List ℕ) (i o : ℕ) → 0 < i → i < length l → o < 65536 → Whole l → Whole (set l i o)
+pub put-whole : (l : List ℕ) (i o : ℕ) → 0 < i → i < length l → o < 65536 → Whole l → Whole (set l i o)
 put-whole l i o p h s w =
     let q = put-in l i o p h in
     record { count = q .size ∙ w .count ∙ ap taken (sym (q .first)); words = small-set l i o s (w .words) }
 
-put-op : (l : List ℕ) (i o : ℕ) (b c : ℕ) → 0 < i → i < length l → getD (set l i o) 1 0 ≡ b → getD (set l i o) 2 0 ≡ c
+pub put-op : (l : List ℕ) (i o : ℕ) (b c : ℕ) → 0 < i → i < length l → getD (set l i o) 1 0 ≡ b → getD (set l i o) 2 0 ≡ c
     → opOf (set l i o) ≡ record { count = length l; a = getD l 0 0; b = b; c = c }
 put-op l i o b c p h e f = let q = put-in l i o p h in rw (q .size, q .first, e, f) refl
 
-some-count : (l : List ℕ) → eqb (length l) 0 ≡ false → 0 < length l
+pub some-count : (l : List ℕ) → eqb (length l) 0 ≡ false → 0 < length l
 some-count l e = let n = eqb-false (length l) 0 e in omega (arith, n)
 
-zero-offset : letters "0000(PC)" ≡ offsetPc 0
+pub zero-offset : letters "0000(PC)" ≡ offsetPc 0
 zero-offset = sym zeros-are
 
-low-word : (v h n : ℕ) → minus v (plus h n) < 65536
+pub low-word : (v h n : ℕ) → minus v (plus h n) < 65536
 low-word v h n = omega arith
 
 -- the line of a first operand that has no word of its own
