@@ -15,7 +15,8 @@ use Rattle.optext.specs.Line.{isReserved, rowOf, textOf}
 use Rattle.optext.specs.Column.{Whole}
 use Rattle.optext.specs.Read.{opOf}
 use Rattle.patchline.specs.declared.oneline.How.the-variants.{Branch, Sob, Relative}
-use Rattle.patchline.specs.Line.{commaAt, firstIn, secondIn, labelIn, filled, isSob, saidOf, ahead, behind}
+use Rattle.patchline.specs.Text.{partOf}
+use Rattle.patchline.specs.Line.{operandsAt, commaAt, firstIn, secondIn, labelIn, filledIn, aliasOf, tailOf, filled, isSob, saidOf, ahead, behind}
 use Rattle.assembler.specs.Source.{countOf, textAt, saidAt, hereOf, valueOf, wordsIn}
 use Rattle.refusal.specs.Page.{answered, left, told}
 use Rattle.assembler.specs.Answer.{asmOf}
@@ -61,6 +62,15 @@ SecondRead = (s t : List ℕ) (h : ℕ) → saidOf t .how ≡ Relative → forma
     → labelIn (firstIn t) ≡ [] → 0 < length (labelIn (secondIn t))
     → (ws : List ℕ) × Reads t (offsetDigits (cond (eqb (saidOf t .op .count) 3) 6 4) (valueOf s (labelIn (secondIn t))) h) ws × (wordsIn s h t ≡ opOf ws)
 
+-- both are labels: `MOV X,Y` as `MOV oooo(PC),pppp(PC)`, the first offset from op code + 4, the second from op code + 6
+abbrev pub filledTwice : List ℕ → List ℕ → List ℕ → List ℕ
+filledTwice d e t = (aliasOf (partOf 0 (operandsAt t) t) ++ filledIn d (firstIn t)) ++ tailOf e t
+
+abbrev pub BothRead : Type 0
+BothRead = (s t : List ℕ) (h : ℕ) → saidOf t .how ≡ Relative → formatOf (highByte (saidOf t .op .a)) ≡ 10
+    → 0 < length (labelIn (firstIn t)) → 0 < length (labelIn (secondIn t))
+    → (ws : List ℕ) × Whole ws × (textOf ws ≡ filledTwice (offsetDigits 4 (valueOf s (labelIn (firstIn t))) h) (offsetDigits 6 (valueOf s (labelIn (secondIn t))) h) t) × (wordsIn s h t ≡ opOf ws)
+
 -- A label as the one operand A or @A: of format 7, and of format 9 but SOB, and JSR and LEA with mode 0. CALL and JMP are JSR and LEA
 abbrev pub takesOne : ℕ → Bool
 takesOne w = eqb (formatOf (highByte w)) 7 || (eqb (formatOf (highByte w)) 9 && not (isReserved w || isSob w))
@@ -96,6 +106,9 @@ pub record LabelGives (s : List ℕ) (i : ℕ) (bytes : List ℕ) : Type 0 where
       → (ws : List ℕ) × Reads (textAt s i) (offsetDigits 4 (valueOf s (labelIn (firstIn (textAt s i)))) (hereOf s i)) ws × Gives s i bytes ws
   pub last : saidAt s i .how ≡ Relative → takesOne (saidAt s i .op .a) ≡ true → labelIn (firstIn (textAt s i)) ≡ [] → 0 < length (labelIn (secondIn (textAt s i)))
       → (ws : List ℕ) × Reads (textAt s i) (offsetDigits 4 (valueOf s (labelIn (secondIn (textAt s i)))) (hereOf s i)) ws × Gives s i bytes ws
+  pub both : saidAt s i .how ≡ Relative → formatOf (highByte (saidAt s i .op .a)) ≡ 10 → 0 < length (labelIn (firstIn (textAt s i))) → 0 < length (labelIn (secondIn (textAt s i)))
+      → (ws : List ℕ) × Whole ws × (textOf ws ≡ filledTwice (offsetDigits 4 (valueOf s (labelIn (firstIn (textAt s i)))) (hereOf s i)) (offsetDigits 6 (valueOf s (labelIn (secondIn (textAt s i)))) (hereOf s i)) (textAt s i))
+      × Gives s i bytes ws
 
 abbrev pub LabelsGive : Type 0
 LabelsGive = (s out : List ℕ) (n : ℕ) (out′ : List ℕ) → left (answered n) out′ ≡ asmOf s out → (i : ℕ) → i < countOf s → LabelGives s i out′

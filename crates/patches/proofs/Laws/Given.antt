@@ -36,7 +36,7 @@ use Rattle.patches.specs.Given.{Has, Gives, OneWord, ReaderGives, Wd16Re
 use Rattle.patches.proofs.Laws.Again.{plain-words, text-said}
 use Rattle.patches.specs.Labels.{LabelGives, LabelsGive, Wd16LabelsGive}
 use Rattle.patches.proofs.Laws.Labels.{branch-read, sob-read}
-use Rattle.patches.proofs.Laws.Offsets.{first-read, second-read}
+use Rattle.patches.proofs.Laws.Offsets.{first-read, second-read, both-read}
 use Rattle.patches.proofs.Laws.Last.{only-read, last-read}
 use Rattle.patches.proofs.Laws.Rising.{ends-below, words-count, placed-rises}
 use Rattle.patches.proofs.Laws.Taken.{byte-is, word-is, count-is, behind, placed-few}
@@ -318,6 +318,9 @@ label-line s bytes g i h = record {
   last = λ how one other label.
       let r = last-read s (textAt s i) (hereOf s i) how one other label in
       (r .0, r .1, given (r .0) (r .1 .whole) (r .2) (ap isOrigin how));
+  both = λ how ten label label′.
+      let r = both-read s (textAt s i) (hereOf s i) how ten label label′ in
+      (r .0, r .1, r .2, given (r .0) (r .1) (r .3) (ap isOrigin how));
 }
   where
     given : (ws : List ℕ) → Whole ws → wordsIn s (hereOf s i) (textAt s i) ≡ opOf ws → isOrigin (saidAt s i .how) ≡ false → Gives s i bytes ws

@@ -30,7 +30,7 @@ use Rattle.patchline.specs.declared.oneline.How.{How}
 use Rattle.patchline.specs.declared.oneline.How.the-variants.{Unknown, Origin, Plain, Branch, Sob, Relative}
 use Rattle.patchline.specs.Line.{operandsAt, commaAt, firstIn, secondIn, atOf, bare, labelIn, filledIn, aliasOf, tailOf, filled, isDirective, isBranch, isSob, says, op, opIn, saidWith, saidOf, withLabel}
 use Rattle.assembler.specs.Source.{valueOf, put, wordsIn}
-use Rattle.patches.specs.Labels.{Reads, offsetDigits, FirstRead, SecondRead}
+use Rattle.patches.specs.Labels.{Reads, offsetDigits, filledTwice, FirstRead, SecondRead, BothRead}
 use Rattle.patches.proofs.Laws.Modes.{computed, mode-commas, comma-same, offsetPc, zeros-are, mode-end}
 use Rattle.patches.proofs.Laws.Labels.{Each, each-at, unlike, zeros, offsets, isLabel, noLabel, beforeFirst, beforeSecond, second-filled, put-none, put-some, has-comma}
 
@@ -257,3 +257,57 @@ second-read s t h how ten-op other label =
         subst (λ (t : Bool). Put vs 2 (minus v (plus h (cond t 6 4))) → withLabel Relative t v h (opOf vs) ≡ opOf (set vs 2 (minus v (plus h (cond t 6 4))))) (sym three)
         (λ q. sym (put-op vs 2 (minus v (plus h 6)) (getD vs 1 0) (minus v (plus h 6)) (omega arith) (omega (arith, e)) (q .rest 1 (λ z. omega (arith, z))) (q .there))) p
     placed vs (suc (suc n)) v h e l p = absurd (omega (arith, l))
+
+-- ---- both operands are labels
+
+abbrev atSecond : List ℕ → List ℕ
+atSecond t = partOf 0 (atOf (secondIn t)) (secondIn t)
+
+twice-filled : (t d e : List ℕ) → commaAt t < length t → isName (bare (firstIn t)) ≡ true → isName (bare (secondIn t)) ≡ true
+    → filledTwice d e t ≡ (beforeFirst t ++ d) ++ (44 ∷ (atSecond t ++ e))
+unfolding filledIn tailOf
+twice-filled t d e c f g =
+    rw (f, g, lt-ltb (commaAt t) (length t) c)
+    (ap (λ (z : List ℕ). z ++ (44 ∷ (atSecond t ++ e))) (sym (append-assoc (aliasOf (partOf 0 (operandsAt t) t)) (partOf 0 (atOf (firstIn t)) (firstIn t)) d)))
+
+once-twice : (t d : List ℕ) → filled d t ≡ filledTwice d d t
+unfolding filled
+once-twice t d = refl
+
+three-words : (a b c : ℕ) → a < 65536 → b < 65536 → c < 65536 → (i : ℕ) → getD (a ∷ b ∷ c ∷ []) i 0 < 65536
+three-words a b c la lb lc zero = la
+three-words a b c la lb lc (suc zero) = lb
+three-words a b c la lb lc (suc (suc zero)) = lc
+three-words a b c la lb lc (suc (suc (suc i))) = omega arith
+
+pub both-read : BothRead
+unfolding opIn wordsIn
+both-read s t h how ten-op label label′ =
+    let sr = said-relative t how in
+    let vs = readOf (offsets t) in
+    let w = getD vs 0 0 in
+    let read = read-of-words (offsets t) (some-count vs (sr .0)) in
+    let r = ten w (read .0 .words 0) (ap (λ z. formatOf (highByte (z .op .a))) (sym (sr .1)) ∙ ten-op) in
+    let x = getD vs 1 0 in
+    let y = getD vs (1 + modeTakes (w / 64 % 64)) 0 in
+    let fill : (d e : List ℕ) → filledTwice d e t ≡ (beforeFirst t ++ d) ++ (44 ∷ (atSecond t ++ e)) = λ d e. twice-filled t d e (has-comma t label′) (isLabel (firstIn t) label) (isLabel (secondIn t) label′) in
+    let line = sym (fill (offsetPc 0) (offsetPc 0)) ∙ sym (once-twice t (offsetPc 0)) ∙ sym (ap (λ (z : List ℕ). filled z t) zero-offset) ∙ sym (read .1) ∙ shown vs (modeTakes (w / 64 % 64)) (r .first) ∙ r .text x y in
+    let parts = comma-same (beforeFirst t ++ offsetPc 0) (atSecond t ++ offsetPc 0) (r .name ++ modeText (w / 64 % 64) x) (modeText (w % 64) y) (without-append (r .free) (mode-commas (w / 64 % 64) x)) (mode-commas (w % 64) y) line in
+    let m = mode-end (r .name) (beforeFirst t) (w / 64 % 64) x (omega arith) (sym (parts .0)) in
+    let k = mode-end [] (atSecond t) (w % 64) y (omega arith) (sym (parts .1)) in
+    let v = valueOf s (labelIn (firstIn t)) in
+    let u = valueOf s (labelIn (secondIn t)) in
+    let o = minus v (plus h 4) in
+    let p = minus u (plus h 6) in
+    let three : taken w ≡ 3 = r .count ∙ rw (m .takes, k .takes) refl in
+    let n : length vs ≡ 3 = read .0 .count ∙ three in
+    let ws : List ℕ = w ∷ o ∷ p ∷ [] in
+    let text : textOf ws ≡ filledTwice (offsetPc o) (offsetPc p) t = shown ws 1 (r .first ∙ m .takes) ∙ r .text o p ∙ rw (m .other o, k .other p) (sym (fill (offsetPc o) (offsetPc p))) in
+    let words : withLabel Relative (eqb (length vs) 3) u h (withLabel Relative false v h (opOf vs)) ≡ opOf ws = rw n refl in (
+      ws,
+      record { count = sym three; words = three-words w o p (read .0 .words 0) (low-word v h 4) (low-word u h 6) },
+      text,
+      rw (sr .1)
+          (put-some s Relative (eqb (length vs) 3) h (labelIn (secondIn t)) (put s Relative false h (labelIn (firstIn t)) (opOf vs)) label′
+          ∙ ap (λ (z : Op). withLabel Relative (eqb (length vs) 3) u h z) (put-some s Relative false h (labelIn (firstIn t)) (opOf vs) label) ∙ words),
+    )
