@@ -19,7 +19,9 @@ use Rattle.state.specs.declared.Mode.the-variants.{Running}
 use Rattle.state.specs.State.{withPc, withMark}
 use Rattle.step.specs.declared.Turn.{Turn}
 use Rattle.step.specs.declared.Cause.the-variants as Cause
-use Rattle.laws.specs.Mark.{Steps}
+use Rattle.words.specs.Words.{byteAt}
+use Rattle.firmware.specs.Layout.{stateFrom}
+use Rattle.laws.specs.Mark.{Steps, LentSteps}
 
 -- a printed line: its name, the high byte, and when "PC ← PC + (DISP * 2)"
 pub record Line : Type 0 where
@@ -66,3 +68,9 @@ branched op s =
 abbrev pub BranchesAsPrinted : Type 0
 BranchesAsPrinted = (settings : Settings) (m map : List ℕ) (lines : ℕ) (s : State) (t : Turn) (n : List ℕ) → Steps settings m map lines s t n
     → (let op = wordAt m (s .regs .pc) in s .mode ≡ Running → t .cause ≡ Cause.OpCode → formatOf (highByte op) ≡ 5 → (t .state ≡ branched op s) × (n ≡ m))
+
+-- The same for C: a step that leaves cause 0, on the bytes that `wd16_step` leaves.
+abbrev pub Wd16BranchesAsPrinted : Type 0
+Wd16BranchesAsPrinted = (w b m map : List ℕ) (lines : ℕ) (b′ m′ : List ℕ) → LentSteps w b m map lines b′ m′
+    → (let s = stateFrom b in let op = wordAt m (s .regs .pc) in
+    s .mode ≡ Running → byteAt b′ 19 ≡ 0 → formatOf (highByte op) ≡ 5 → (stateFrom b′ ≡ branched op s) × (m′ ≡ m))

@@ -22,11 +22,13 @@ use Rattle.state.specs.State.{heard, withReg, withPc, withMark}
 use Rattle.state.specs.Registers.{setReg}
 use Rattle.step.specs.Execute.{execute, byFormat}
 use Rattle.step.specs.Xct.{opWork}
-use Rattle.laws.specs.Branches.{lines, whenIn, branched, BranchesAsPrinted}
+use Rattle.laws.specs.Branches.{lines, whenIn, branched, BranchesAsPrinted, Wd16BranchesAsPrinted}
 use Rattle.codes.proofs.Laws.Past.{Below, below}
 use Rattle.laws.proofs.Laws.Marked.{code-work, plain-run}
 use Rattle.step.proofs.Laws.Late.{begins}
 use Rattle.laws.proofs.Laws.Mark.{turn-is}
+use Rattle.firmware.specs.Layout.{stateFrom, settingsFrom}
+use Rattle.laws.proofs.Laws.Calls.{step-done, cause-0}
 
 -- ---- the high bytes of format 5
 
@@ -138,3 +140,9 @@ branches-as-printed settings m map line s t n e runs c five =
     let out = heard settings line in
     let b = branch-work map out s m _ _ five (code-work map out s m runs (sym (is .1) ∙ c)) in
     (is .0 ∙ b .0, is .2 ∙ b .1)
+
+pub wd16-branches-as-printed : Wd16BranchesAsPrinted
+wd16-branches-as-printed w b m map line b′ m′ e runs zero five =
+    let d = step-done w b m map line b′ m′ e in
+    let x = branches-as-printed (settingsFrom w) m map line (stateFrom b) (d .turn) m′ (d .page) runs (cause-0 (d .turn .cause) (sym (d .cause) ∙ zero)) five in
+    (d .state ∙ x .0, x .1)
