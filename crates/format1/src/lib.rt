@@ -249,7 +249,8 @@ pub fn format1(
 {
     if op == 10 {
         let t = s;
-        return state::apart(save(t, image, map, log));
+        let m = map;
+        return state::apart(save(t, image, m, log));
     }
     if op == 12 {
         return rest(s, image, map);
@@ -259,8 +260,9 @@ pub fn format1(
     }
     let t = s;
     let o = out;
+    let m = map;
     if op < 8 {
-        return state::apart(by_number(t, image, map, log, o, op));
+        return state::apart(by_number(t, image, m, log, o, op));
     }
-    state::apart(by_number(t, image, map, log, o, op))
+    state::apart(by_number(t, image, m, log, o, op))
 }

@@ -295,8 +295,9 @@ pub fn format7(
     }
     let t = s;
     let o = out;
+    let m = map;
     if op < 0x8000 {
-        return state::apart(no_result(t, image, map, log, o, op, row));
+        return state::apart(no_result(t, image, m, log, o, op, row));
     }
-    state::apart(no_result(t, image, map, log, o, op, row))
+    state::apart(no_result(t, image, m, log, o, op, row))
 }

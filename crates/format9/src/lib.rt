@@ -46,7 +46,9 @@ fn jsr_to(
     match place {
         Place::Reg => {
             let t = s;
-            state::apart(t.trap_now(image, map, log, out, 0x1c))
+            let o = out;
+            let m = map;
+            state::apart(t.trap_now(image, m, log, o, 0x1c))
         }
         Place::Mem(a, _, _) => call(s, image, map, log, k, a),
     }
@@ -226,8 +228,9 @@ pub fn format9(
     }
     let t = s;
     let o = out;
+    let m = map;
     if op < 0x7600 {
-        return state::apart(preset_code(t, image, map, log, o, op));
+        return state::apart(preset_code(t, image, m, log, o, op));
     }
-    state::apart(preset_code(t, image, map, log, o, op))
+    state::apart(preset_code(t, image, m, log, o, op))
 }

@@ -4,7 +4,6 @@ use mathlib.Core.List.{List}
 use mathlib.Core.Path.{_≡_}
 use lib.ListN.{length}
 use Rattle.board.specs.Exec.{Lent, Board, beside}
-use Rattle.plate.specs.Plate.{table}
 use Rattle.state.specs.declared.State.{State}
 use Rattle.state.specs.declared.Settings.{Settings}
 use Rattle.state.specs.State.{heard}
@@ -23,11 +22,7 @@ pub record Runs (settings : Settings) (map lines : List ℕ) (s : State) (m : Li
   pub same : ranOf r n ≡ runOf settings map lines s m
   pub lent : Lent map n
 
--- ---- a step: besides, there are the log and the plate, which last for as many steps as are wanted
-
-pub record Plated (map image log sheet : List ℕ) : Type 0 where
-  pub board : Board map (beside image log)
-  pub plate : sheet ≡ table
+-- ---- a step: besides, there is the log, which lasts for as many steps as are wanted
 
 pub record Steps (settings : Settings) (map : List ℕ) (line : ℕ) (s : State) (m : List ℕ) (r : Turn) (n log : List ℕ) : Type 0 where
   pub same : turnOf r n ≡ stepOf map (heard settings line) s m

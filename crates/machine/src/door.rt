@@ -1,13 +1,12 @@
 // The inner door, for crates of ours: a run and a step over a board that is known to be good. Nothing is looked at again, and a step
-// is lent its log and its plate.
+// is lent its log.
 use super::Ran;
 use super::runs::run_from;
 use super::runs::run_on;
 use state::Settings;
 use state::State;
 use step::Turn;
-ghost use mathlib.Core.Path.{_≡_};
-ghost use Rattle.plate.specs.Plate.{table};
+ghost use Rattle.board.specs.Exec.{beside, Board};
 ghost use Rattle.machine.specs.Door as Spec;
 
 // A run over line words.
@@ -19,13 +18,6 @@ pub fn run(s: State, image: &mut [u8], map: &[u8], settings: Settings, lines: &[
     last.ran
 }
 
-// The plate, laid out.
-pub fn sheet() -> [u8; 256]
-    ensures { λ r. ⌜ r ≡ table ⌝ }
-{
-    plate::PLATE
-}
-
 // One step over a line word.
 pub fn step(
     s: State,
@@ -34,13 +26,12 @@ pub fn step(
     log: &mut [u16; 32],
     settings: Settings,
     line: u16,
-    sheet: &[u8; 256],
 ) -> Turn
-    requires { ⌜ Spec.Plated (now map) (now image) (now log) (now sheet) ⌝ }
+    requires { ⌜ Board (now map) (beside (now image) (now log)) ⌝ }
     ensures { λ r. ⌜ Spec.Steps settings (now (map .entry)) line s (now (image .entry)) r (now (image .exit)) (now (log .exit)) ⌝ }
 {
     let lines = [line];
-    let last = run_from(s, image, map, log, settings, &lines, sheet);
+    let last = run_from(s, image, map, log, settings, &lines);
     let ran = last.ran;
     let state = ran.state;
     let cause = last.cause;

@@ -21,7 +21,6 @@ ghost use mathlib.Core.Path.{_≡_};
 ghost use Prim.Native.Nat.{_≤_, _+_};
 ghost use lib.ListN.{length};
 ghost use Rattle.board.specs.Exec.{beside, Lent, Board};
-ghost use Rattle.plate.specs.Plate.{table};
 ghost use Rattle.machine.specs.Run as Spec;
 
 // The earlier one stays.
@@ -51,7 +50,7 @@ pub(crate) fn noted(t: Tally, place: u16, blank: Told) -> Tally
     }
 }
 
-// A run, with a log that may hold an earlier step's entries and the plate lent. A line word is heard anew where it is another than
+// A run, with a log that may hold an earlier step's entries. A line word is heard anew where it is another than
 // the one before; the state stays in variables of its own, and each way that a step goes sets them (docs/SPEED.md tells why).
 pub(crate) fn run_from(
     s: State,
@@ -60,9 +59,8 @@ pub(crate) fn run_from(
     log: &mut [u16; 32],
     settings: Settings,
     lines: &[u16],
-    sheet: &[u8; 256],
 ) -> Last
-    requires { ⌜ (Board (now map) (beside (now image) (now log))) × (now sheet ≡ table) × (length (now lines) ≤ 4096) ⌝ }
+    requires { ⌜ (Board (now map) (beside (now image) (now log))) × (length (now lines) ≤ 4096) ⌝ }
     ensures { λ r. ⌜ Spec.Logged settings (now (map .entry)) (now (lines .entry)) s (now (image .entry)) r (beside (now (image .exit)) (now (log .exit))) ⌝ }
 {
     let mut state = s;
@@ -84,19 +82,24 @@ pub(crate) fn run_from(
             quiet = calm(out);
         }
         if goes_on(state, out, quiet) {
-            match op_code(state, image, map, log, out, sheet) {
+            match op_code(state, image, map, log, out) {
                 Went::Done(t) => {
                     state = t;
                     cause = Cause::OpCode;
                 }
                 Went::Blank(a) => {
-                    let turn = error(state, image, map, log, out, Kind::OpCode, a);
+                    let o = out;
+                    let m = map;
+                    let turn = error(state, image, m, log, o, Kind::OpCode, a);
                     state = turn.state;
                     cause = turn.cause;
                 }
             }
         } else {
-            let turn = other(state, image, map, log, out, kind_of(state, out));
+            let t = state;
+            let o = out;
+            let m = map;
+            let turn = other(t, image, m, log, o, kind_of(t, o));
             state = turn.state;
             cause = turn.cause;
         }
@@ -109,7 +112,7 @@ pub(crate) fn run_from(
     }
 }
 
-// The log is made once and cleared for each step; the plate is laid out once.
+// The log is made once and cleared for each step.
 pub(crate) fn run_on(
     s: State,
     image: &mut [u8],
@@ -121,6 +124,5 @@ pub(crate) fn run_on(
     ensures { λ r. ⌜ Spec.Ended settings (now (map .entry)) (now (lines .entry)) s (now (image .entry)) r (now (image .exit)) ⌝ }
 {
     let mut log = [0u16; 32];
-    let sheet = plate::PLATE;
-    run_from(s, image, map, &mut log, settings, lines, &sheet)
+    run_from(s, image, map, &mut log, settings, lines)
 }

@@ -1,8 +1,7 @@
 -- The plate: formats by high byte.
-use Prim.Native.Nat.{ℕ, zero, suc}
+use Prim.Native.Nat.{ℕ}
 use mathlib.Core.Bool.{Bool, _&&_, cond}
-use mathlib.Core.List.{List, [], _∷_}
-use lib.Dec.{eqb, leb}
+use lib.Dec.{eqb, leb, ltb}
 
 -- h is one of lo to hi
 abbrev within : ℕ → ℕ → ℕ → Bool
@@ -25,11 +24,10 @@ formatOf h =
     (cond (within 0x90 0xef h) 10
     11)))))))))))
 
--- n entries, from the high byte h on
-unfoldable pub entries : ℕ → ℕ → List ℕ
-entries zero h = []
-entries (suc n) h = formatOf h ∷ entries n (suc h)
+-- ---- as the code tells it, by the halves of the high byte: the rows 00 to 0F and 80 to 8F, by the lower
 
--- THE PLATE: the rule at every one of the 256 entries. The program's constant is held to it, entry by entry, by computation.
-unfoldable pub table : List ℕ
-table = entries 256 0
+abbrev pub row0 : ℕ → ℕ
+row0 k = cond (eqb k 0) 1 (cond (ltb k 8) 5 (cond (ltb k 10) 6 (cond (ltb k 14) 7 8)))
+
+abbrev pub row8 : ℕ → ℕ
+row8 k = cond (ltb k 8) 5 (cond (ltb k 10) 6 (cond (ltb k 14) 7 6))

@@ -12,7 +12,6 @@ ghost use mathlib.Core.Bool.{cond, false};
 ghost use mathlib.Core.Path.{_≡_};
 ghost use Rattle.board.specs.Exec.{beside, Lent, Board, Saw, undone};
 ghost use Rattle.state.specs.Answer.{Works, wentAs};
-ghost use Rattle.plate.specs.Plate.{table};
 ghost use Rattle.step.specs.Step as Spec;
 
 mod execute;
@@ -430,20 +429,13 @@ pub fn error(
     logged::dropped(s, image, map, log, out, k, a)
 }
 
-// The work of a step that is an op code, with a log that may hold an earlier step's entries, and the plate.
-pub fn op_code(
-    s: State,
-    image: &mut [u8],
-    map: &[u8],
-    log: &mut [u16; 32],
-    out: Outside,
-    sheet: &[u8; 256],
-) -> Went
-    requires { ⌜ (Board (now map) (beside (now image) (now log))) × (now sheet ≡ table) ⌝ }
+// The work of a step that is an op code, with a log that may hold an earlier step's entries.
+pub fn op_code(s: State, image: &mut [u8], map: &[u8], log: &mut [u16; 32], out: Outside) -> Went
+    requires { ⌜ Board (now map) (beside (now image) (now log)) ⌝ }
     ensures { λ r. ⌜ Spec.Coded (now (map .entry)) out s (now (image .entry)) r (beside (now (image .exit)) (now (log .exit))) ⌝ }
 {
     board::clear(log);
-    op_work(s, image, map, log, out, sheet)
+    op_work(s, image, map, log, out)
 }
 
 // A step that is no op code, with a log that may hold an earlier step's entries.

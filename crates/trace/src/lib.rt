@@ -16,7 +16,7 @@ ghost use Rattle.words.specs.Words.{low, high, bytesIn};
 ghost use Rattle.board.specs.Exec.{Board, beside};
 ghost use Rattle.step.specs.Step.{up};
 ghost use Rattle.refusal.specs.Page.{left};
-ghost use Rattle.machine.specs.Door.{Good, Plated};
+ghost use Rattle.machine.specs.Door.{Good};
 ghost use Rattle.trace.specs.Trace as Spec;
 ghost use Rattle.trace.specs.Walk as Walk;
 
@@ -68,19 +68,12 @@ fn entry_of(s: State) -> [u16; 10]
 }
 
 // One step on bench's board.
-fn stepped(
-    s: State,
-    image: &mut [u8],
-    map: &[u8],
-    log: &mut [u16; 32],
-    line: u16,
-    sheet: &[u8; 256],
-) -> State
-    requires { ⌜ Plated (now map) (now image) (now log) (now sheet) ⌝ }
+fn stepped(s: State, image: &mut [u8], map: &[u8], log: &mut [u16; 32], line: u16) -> State
+    requires { ⌜ Board (now map) (beside (now image) (now log)) ⌝ }
     ensures { λ r. ⌜ (up r (now (image .exit)) ≡ Walk.upAfter (Walk.stepped (now (map .entry)) line s (now (image .entry))))
         × Board (now (map .entry)) (beside (now (image .exit)) (now (log .exit))) ⌝ }
 {
-    let turn = door::step(s, image, map, log, bench_board(), line, sheet);
+    let turn = door::step(s, image, map, log, bench_board(), line);
     turn.state
 }
 
@@ -141,12 +134,11 @@ fn judge_steps(s: State, image: &mut [u8], map: &[u8], lines: &[u16], trace: &[u
         × (now (image .exit) ≡ Walk.imageOn (now (map .entry)) (now (lines .entry)) s (now (image .entry))) ⌝ }
 {
     let mut log = [0u16; 32];
-    let sheet = door::sheet();
     let mut state = s;
     let mut found = Verdict::Accepted;
     let mut i: usize = 0;
     while i < lines.len() {
-        state = stepped(state, image, map, &mut log, lines[i], &sheet);
+        state = stepped(state, image, map, &mut log, lines[i]);
         found = or_else(found, step_verdict(i as u16, state, trace));
         i += 1;
     }
@@ -248,11 +240,10 @@ fn put_steps(s: State, image: &mut [u8], map: &[u8], lines: &[u16], out: &mut [u
         × (now (image .exit) ≡ Walk.imageOn (now (map .entry)) (now (lines .entry)) s (now (image .entry))) ⌝ }
 {
     let mut log = [0u16; 32];
-    let sheet = door::sheet();
     let mut state = s;
     let mut i: usize = 0;
     while i < lines.len() {
-        state = stepped(state, image, map, &mut log, lines[i], &sheet);
+        state = stepped(state, image, map, &mut log, lines[i]);
         put_entry(out, 2 + i * 20, entry_of(state));
         i += 1;
     }

@@ -9,14 +9,14 @@ use Rattle.step.proofs.op_code.Statement.{statement}
 use Rattle.step.proofs.op_code.Tie as tie
 
 op-work-requires : tie.Need-op-work-requires
-op-work-requires c κs = ((fresh-clear (c .before .before .before .before .before .before .pre .0) (c .before .before .clear .ensures)) .board, c .before .before .before .before .before .before .pre .1)
+op-work-requires c κs = (fresh-clear (c .before .before .before .before .before .before .pre) (c .before .before .clear .ensures)) .board
 
 returns : tie.Need-returns
 unfolding workOf
 returns c = record {
-  done = λ e. ended-well (fresh-clear (c .before .before .before .before .before .before .before .before .before .pre .0) (c .before .before .before .before .before .clear .ensures)) (bounded-step OpCode _ _) (c .before .before .op-work .ensures .got) (went-is e);
-  lost = λ e. ended-blank (fresh-clear (c .before .before .before .before .before .before .before .before .before .pre .0) (c .before .before .before .before .before .clear .ensures)) (bounded-step OpCode _ _) (c .before .before .op-work .ensures .got) (went-none e);
-  back = λ e. taken-back (fresh-clear (c .before .before .before .before .before .before .before .before .before .pre .0) (c .before .before .before .before .before .clear .ensures)) (c .before .before .op-work .ensures .got) (went-none e);
+  done = λ e. ended-well (fresh-clear (c .before .before .before .before .before .before .before .before .before .pre) (c .before .before .before .before .before .clear .ensures)) (bounded-step OpCode _ _) (c .before .before .op-work .ensures .got) (went-is e);
+  lost = λ e. ended-blank (fresh-clear (c .before .before .before .before .before .before .before .before .before .pre) (c .before .before .before .before .before .clear .ensures)) (bounded-step OpCode _ _) (c .before .before .op-work .ensures .got) (went-none e);
+  back = λ e. taken-back (fresh-clear (c .before .before .before .before .before .before .before .before .before .pre) (c .before .before .before .before .before .clear .ensures)) (c .before .before .op-work .ensures .got) (went-none e);
   board = c .before .before .op-work .ensures .board;
 }
 

@@ -15,20 +15,20 @@ use Rattle.machine.proofs.runs.run_from.Statement.{statement}
 use Rattle.machine.proofs.runs.run_from.Tie as tie
 
 abbrev Inv-loop : tie.InvT-loop
-Inv-loop image₀ map log₀ settings lines sheet state₀ tally₀ cause₀ n i₀ line₀ out₀ quiet₀ image log state tally cause i line out quiet =
+Inv-loop image₀ map log₀ settings lines state₀ tally₀ cause₀ n i₀ line₀ out₀ quiet₀ image log state tally cause i line out quiet =
     (i ≤ length lines) × (tally .blanks ≤ i) × (rest settings map i (drop i lines) state image tally ≡ runOf settings map lines state₀ image₀) × (lastCause settings map (drop i lines) state image cause ≡ lastCause settings map lines state₀ image₀ Cause.Nothing) × Board map (beside image log) × (out ≡ heard settings line) × (quiet ≡ calm out)
 
 abbrev μ-loop : tie.MeasureT-loop
-μ-loop image₀ map log₀ settings lines sheet state₀ tally₀ cause₀ n i₀ line₀ out₀ quiet₀ image log state tally cause i line out quiet = length lines - i
+μ-loop image₀ map log₀ settings lines state₀ tally₀ cause₀ n i₀ line₀ out₀ quiet₀ image log state tally cause i line out quiet = length lines - i
 
 cast-n : tie.Need-cast-n Inv-loop μ-loop
-cast-n c = omega (arith, c .before .before .before .pre .2)
+cast-n c = omega (arith, c .before .before .before .pre .1)
 
 loop-holds : tie.Need-loop-holds Inv-loop μ-loop
 loop-holds c = (omega arith, omega arith, refl, refl, c .before .before .before .before .before .pre .0, c .before .hear .ensures, c .calm .ensures)
 
 mul-next : tie.Need-mul-next Inv-loop μ-loop
-mul-next c = omega (arith, c .loop-test .taken, c .before .before .before .before .before .before .before .pre .2)
+mul-next c = omega (arith, c .loop-test .taken, c .before .before .before .before .before .before .before .pre .1)
 
 shared-slice-read-next : tie.Need-shared-slice-read-next Inv-loop μ-loop
 shared-slice-read-next c = omega (arith, c .before .loop-test .taken)
@@ -40,7 +40,7 @@ goes-on-requires c κs =
     h .told
 
 op-code-requires : tie.Need-op-code-requires Inv-loop μ-loop
-op-code-requires c κs = (c .before .before .before .before .before .before .before .loop .inv .4, c .before .before .before .before .before .before .before .before .before .before .before .before .before .pre .1)
+op-code-requires c κs = c .before .before .before .before .before .before .before .loop .inv .4
 
 error-requires : tie.Need-error-requires Inv-loop μ-loop
 error-requires c κs = c .before .before .before .before .before .before .before .op-code .ensures .board
@@ -49,10 +49,10 @@ other-requires : tie.Need-other-requires Inv-loop μ-loop
 other-requires c κs = (c .before .before .before .before .before .before .before .before .loop .inv .4, c .kind-of .ensures, ap isCode (c .kind-of .ensures) ∙ sym (c .before .before .before .before .goes-on .ensures) ∙ c .before .before .before .if2 .left)
 
 noted-requires : tie.Need-noted-requires Inv-loop μ-loop
-noted-requires c κs = omega (arith, c .before .before .before .before .before .loop-test .taken, c .before .before .before .before .before .before .loop .inv .1, c .before .before .before .before .before .before .before .before .before .before .before .before .pre .2)
+noted-requires c κs = omega (arith, c .before .before .before .before .before .loop-test .taken, c .before .before .before .before .before .before .loop .inv .1, c .before .before .before .before .before .before .before .before .before .before .before .before .pre .1)
 
 add-i : tie.Need-add-i Inv-loop μ-loop
-add-i c = omega (arith, c .before .before .before .before .before .before .loop-test .taken, c .before .before .before .before .before .before .before .before .before .before .before .before .before .pre .2)
+add-i c = omega (arith, c .before .before .before .before .before .before .loop-test .taken, c .before .before .before .before .before .before .before .before .before .before .before .before .before .pre .1)
 
 loop-less : tie.Need-loop-less Inv-loop μ-loop
 loop-less c = omega (arith, c .before .before .before .before .before .before .loop-test .taken)

@@ -10,19 +10,19 @@ execute-requires : tie.Need-execute-requires
 execute-requires c κs = c .before .before .before .before .before .pre
 
 same-length : tie.Need-same-length
-same-length c = c .before .before .before .before .execute .ensures .board .lent .size ∙ sym (c .before .before .before .before .before .before .before .before .before .before .pre .0 .lent .size)
+same-length c = c .before .before .before .before .execute .ensures .board .lent .size ∙ sym (c .before .before .before .before .before .before .before .before .before .before .pre .lent .size)
 
 returns : tie.Need-returns
 unfolding carry
 returns c =
-    did (went-store (c .before .before .before .before .execute .result)) (c .before .before .before .before .before .before .before .before .before .before .pre .0)
+    did (went-store (c .before .before .before .before .execute .result)) (c .before .before .before .before .before .before .before .before .before .before .pre)
     (got-gone _ ((rw (c .before .before .before .before .before .before .before .with-mark .ensures) at (c .before .before .before .before .execute .ensures)) .got) (went-none (c .enum-told .given .1)) (went-none (c .enum-told .given .1)))
 
 traced-requires : tie.Need-traced-requires
 traced-requires c κs = c .before .before .before .before .before .before .before .execute .ensures .board
 
 same-length-2 : tie.Need-same-length-2
-same-length-2 c = c .before .before .traced .ensures .board .lent .size ∙ sym (c .before .before .before .before .before .before .before .before .before .before .before .before .before .before .before .before .pre .0 .lent .size)
+same-length-2 c = c .before .before .traced .ensures .board .lent .size ∙ sym (c .before .before .before .before .before .before .before .before .before .before .before .before .before .before .before .before .pre .lent .size)
 
 returns-2 : tie.Need-returns-2
 unfolding carry
