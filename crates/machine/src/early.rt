@@ -15,8 +15,7 @@ use step::blank_at;
 ghost use mathlib.Core.Path.{_≡_};
 ghost use Prim.Native.Nat.{_≤_, _<_};
 ghost use lib.ListN.{length};
-ghost use Rattle.board.specs.Exec.{beside, Lent};
-ghost use Rattle.machine.specs.Door as Door;
+ghost use Rattle.board.specs.Exec.{beside, Board, Lent};
 ghost use Rattle.machine.specs.Until as Spec;
 
 // Is a cause asked for?
@@ -69,15 +68,14 @@ fn stride(
     log: &mut [u16; 32],
     settings: Settings,
     lines: &[u16],
-    sheet: &[u8; 256],
 ) -> Stage
-    requires { ⌜ (Door.Plated (now map) (now image) (now log) (now sheet)) × (length (now lines) ≤ 4096) × (stage .at < length (now lines)) × (stage .tally .blanks ≤ stage .at) ⌝ }
+    requires { ⌜ (Board (now map) (beside (now image) (now log))) × (length (now lines) ≤ 4096) × (stage .at < length (now lines)) × (stage .tally .blanks ≤ stage .at) ⌝ }
     ensures { λ r. ⌜ Spec.Strode settings (now (map .entry)) (now (lines .entry)) stage (now (image .entry)) r (beside (now (image .exit)) (now (log .exit))) ⌝ }
 {
     let s = stage.state;
     let tally = stage.tally;
     let at = stage.at;
-    let turn = door::step(s, image, map, log, settings, lines[at], sheet);
+    let turn = door::step(s, image, map, log, settings, lines[at]);
     let state = turn.state;
     let cause = turn.cause;
     Stage {
@@ -102,7 +100,7 @@ fn stop_at(stage: Stage) -> Stop
     }
 }
 
-// The log is made once and cleared for each step; the plate is laid out once.
+// The log is made once and cleared for each step.
 pub(crate) fn until_on(
     s: State,
     image: &mut [u8],
@@ -115,7 +113,6 @@ pub(crate) fn until_on(
     ensures { λ r. ⌜ Spec.Ended settings (now (map .entry)) (now (lines .entry)) until s (now (image .entry)) r (now (image .exit)) ⌝ }
 {
     let mut log = [0u16; 32];
-    let sheet = plate::PLATE;
     let tally = Tally {
         blanks: 0,
         first: First::Never,
@@ -127,7 +124,7 @@ pub(crate) fn until_on(
         at: 0,
     };
     while stage.at < lines.len() {
-        stage = stride(stage, image, map, &mut log, settings, lines, &sheet);
+        stage = stride(stage, image, map, &mut log, settings, lines);
         if ends(until, stage) {
             return stop_at(stage);
         }

@@ -300,7 +300,7 @@ fn seldom(
 }
 
 // Is the step an op code?
-fn is_code(k: Kind) -> bool
+pub fn is_code(k: Kind) -> bool
     ensures { λ r. ⌜ r ≡ Spec.isCode k ⌝ }
 {
     match k {

@@ -15,26 +15,17 @@ use state::State;
 use state::Went;
 ghost use mathlib.Core.Path.{_≡_};
 ghost use Rattle.board.specs.Exec.{beside, Board, undone};
-ghost use Rattle.plate.specs.Plate.{table};
 ghost use Rattle.state.specs.Answer.{Works};
 ghost use Rattle.step.specs.Step.{workOf, errorOf, stepOf};
 ghost use Rattle.step.specs.Written as Spec;
 
 // The work of a step.
-fn work(
-    s: State,
-    image: &mut [u8],
-    map: &[u8],
-    log: &mut [u16; 32],
-    out: Outside,
-    sheet: &[u8; 256],
-    k: Kind,
-) -> Went
-    requires { ⌜ (Board (now map) (beside (now image) (now log))) × (now sheet ≡ table) ⌝ }
+fn work(s: State, image: &mut [u8], map: &[u8], log: &mut [u16; 32], out: Outside, k: Kind) -> Went
+    requires { ⌜ Board (now map) (beside (now image) (now log)) ⌝ }
     ensures { λ r. ⌜ Works (now (map .entry)) (workOf k out s) (now (image .entry)) (now (log .entry)) r (now (image .exit)) (now (log .exit)) ⌝ }
 {
     if is_code(k) {
-        return op_work(s, image, map, log, out, sheet);
+        return op_work(s, image, map, log, out);
     }
     seldom(s, image, map, log, out, k)
 }
@@ -67,22 +58,15 @@ pub(crate) fn dropped(
     }
 }
 
-// One step, with a log that may hold an earlier step's entries, and the plate. After it the log's entries are what the step wrote.
-pub fn step(
-    s: State,
-    image: &mut [u8],
-    map: &[u8],
-    log: &mut [u16; 32],
-    out: Outside,
-    sheet: &[u8; 256],
-) -> Turn
-    requires { ⌜ (Board (now map) (beside (now image) (now log))) × (now sheet ≡ table) ⌝ }
+// One step, with a log that may hold an earlier step's entries. After it the log's entries are what the step wrote.
+pub fn step(s: State, image: &mut [u8], map: &[u8], log: &mut [u16; 32], out: Outside) -> Turn
+    requires { ⌜ Board (now map) (beside (now image) (now log)) ⌝ }
     ensures { λ r. ⌜ Spec.Logged (now (map .entry)) (stepOf (now (map .entry)) out s (now (image .entry)))
         (Spec.stepWrites (now (map .entry)) out s (now (image .entry))) r (beside (now (image .exit)) (now (log .exit))) ⌝ }
 {
     let k = kind_of(s, out);
     board::clear(log);
-    match work(s, image, map, log, out, sheet, k) {
+    match work(s, image, map, log, out, k) {
         Went::Done(t) => Turn {
             state: t,
             cause: cause_of(k),

@@ -2,7 +2,6 @@
 use letters::hex;
 use listing::Listed;
 use listing::list_line;
-use machine::door;
 use refusal::number::TEXT_SHORT;
 use state::Settings;
 use state::State;
@@ -262,8 +261,7 @@ fn write_on(
     let code = put_code(text, s, image, map, is_code(kind_of(s, out)));
     let begun = tab_at(text, code);
     let mut log = [0u16; 32];
-    let sheet = door::sheet();
-    let turn = logged::step(s, image, map, &mut log, out, &sheet);
+    let turn = logged::step(s, image, map, &mut log, out);
     let t = turn.state;
     let cause = turn.cause;
     let after = columns_at(

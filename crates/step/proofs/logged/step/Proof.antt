@@ -8,11 +8,11 @@ use Rattle.step.proofs.logged.step.Statement.{statement}
 use Rattle.step.proofs.logged.step.Tie as tie
 
 work-requires : tie.Need-work-requires
-work-requires c κs = ((fresh-clear (c .before .before .before .before .before .before .before .pre .0) (c .before .before .clear .ensures)) .board, c .before .before .before .before .before .before .before .pre .1)
+work-requires c κs = (fresh-clear (c .before .before .before .before .before .before .before .pre) (c .before .before .clear .ensures)) .board
 
 returns : tie.Need-returns
 returns c =
-    let f = fresh-clear (c .before .before .before .before .before .before .before .before .before .before .before .before .before .before .pre .0) (c .before .before .before .before .before .before .before .before .before .clear .ensures) in
+    let f = fresh-clear (c .before .before .before .before .before .before .before .before .before .before .before .before .before .before .pre) (c .before .before .before .before .before .before .before .before .before .clear .ensures) in
     let d = went-is (c .before .before .t .given .1) in
     let e = ended-well f (bounded-step _ _ _) (c .before .before .before .before .before .before .work .ensures .got) d in
     record {
@@ -23,7 +23,7 @@ returns c =
 
 returns-2 : tie.Need-returns-2
 returns-2 c =
-    let f = fresh-clear (c .before .before .before .before .before .before .before .before .before .before .before .before .before .before .before .before .before .before .pre .0) (c .before .before .before .before .before .before .before .before .before .before .before .before .before .clear .ensures) in
+    let f = fresh-clear (c .before .before .before .before .before .before .before .before .before .before .before .before .before .before .before .before .before .before .pre) (c .before .before .before .before .before .before .before .before .before .before .before .before .before .clear .ensures) in
     let d = went-none (c .before .before .before .before .before .before .a .given .1) in
     let e = ended-blank f (bounded-step _ _ _) (c .before .before .before .before .before .before .before .before .before .before .work .ensures .got) d in
     let b = taken-back f (c .before .before .before .before .before .before .before .before .before .before .work .ensures .got) d in
