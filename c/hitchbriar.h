@@ -26,25 +26,25 @@
 
 /* Measured on each chip, of the module that is proved; docs/CHIPS.md tells how, and chips/measure.py --write writes it here.
    instructions                            cortex-m4           riscv32imc          aarch64             x86-64
-   a step of wd16_run                      155 to 300          174 to 383          87 to 198           144 to 279
-   a step of wd16_run_same                 147 to 290          165 to 372          81 to 192           134 to 268
-   a step of wd16_run_until                495 to 631          803 to 914          292 to 379          379 to 483
-   a step of wd16_step                     1904 to 2040        4200 to 4311        1577 to 1664        1420 to 1524
-   a call of wd16_step, the most seen      2840                5852                2223                2354
+   a step of wd16_run                      124 to 273          148 to 267          82 to 174           123 to 236
+   a step of wd16_run_same                 116 to 264          135 to 254          75 to 167           112 to 225
+   a step of wd16_run_until                376 to 525          598 to 716          245 to 337          337 to 450
+   a step of wd16_step                     1525 to 1674        3694 to 3813        1501 to 1593        1308 to 1421
+   a call of wd16_step, the most seen      2324                5051                2107                2287
    bytes of stack, and what is called      cortex-m4           riscv32imc          aarch64             x86-64
    wd16_assemble                           24040 memset        24112 memset        24144 memset        23976 memset
-   wd16_check_trace                        76008 memset        75664 both          75728 memset        75736 memset
+   wd16_check_trace                        75392 memset        75072 both          75200 memset        75328 memset
    wd16_labels                             11704 memset        11792 memset        11856 memset        11624 memset
    wd16_list_line                          1532                1488                1568                1400
-   wd16_power_up                           372 memset          160 memset          480                 448
+   wd16_power_up                           372 memset          160 memset          480                 528
    wd16_read_job                           440 memset          400 memset          352 memset          256 memset
    wd16_read_text                          2824                2912                2880                2680
    wd16_report                             752 memcpy          720 memcpy          1504 memcpy         1456 memcpy
-   wd16_run                                2096 memset         1648 both           1808                1872
-   wd16_run_same                           2328 memset         1872 both           1952                2024
-   wd16_run_until                          2144 memset         1728 both           1808                1832
-   wd16_scan                               3432 both           2992 both           3664 memcpy         3888 memcpy
-   wd16_step                               1976 memset         1600 both           1664                1720
+   wd16_run                                1432 memset         1056 both           1184                1264
+   wd16_run_same                           1752 memset         1296 both           1504                1568
+   wd16_run_until                          1512 memset         1088 both           1264                1376
+   wd16_scan                               3000 both           2640 both           2512 memcpy         2592 memcpy
+   wd16_step                               1384 memset         1024 both           1168                1264
    wd16_write_text                         1460                1440                1472                1304 */
 
 #include <stddef.h>

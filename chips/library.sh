@@ -35,8 +35,9 @@ if [ "$as" = x86 ]; then
     retargeted "$out/optimized.ll" "$out/module.ll" -O2 $words
     compiled -Xclang -disable-llvm-passes
 else
+    # Registers that are packed into a vector cost each step more than they save (docs/SPEED.md).
     retargeted "$from/module.ll" "$out/module.ll" "$optimization" $words
-    compiled $inlining
+    compiled -fno-slp-vectorize $inlining
 fi
 
 # One module of WebAssembly, with the memory functions that the library calls, and a stack for the deepest of its functions.
