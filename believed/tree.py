@@ -7,7 +7,7 @@ from antt import File, Item, NAME, bare, module_of
 from source import Source
 
 # Crates of theorems alone.
-THEOREMS = "demands laws patches examples".split()
+THEOREMS = "demands laws patchlaws examples".split()
 PROOFS, CONTRACTS, README = "docs/PROOFS.md", "docs/CONTRACTS.md", "README.md"
 # The part of docs/PROOFS.md that tells how proofs go: what it names is no statement.
 HOW = "## How code and definition meet"

@@ -10,7 +10,7 @@ import sys
 import check
 
 LOAD = re.compile(r"^(  (%r\d+) = load ptr, ptr (%r\d+), align 8, !noundef !1)$", re.M)
-ENTRY = re.compile(r'^define internal .*@"firmware::layout::refused_run"\(ptr noundef %a0.*\n\w+:.*\n', re.M)
+ENTRY = re.compile(r'^define internal .*@"machine_c::layout::refused_run"\(ptr noundef %a0.*\n\w+:.*\n', re.M)
 
 # What is found, and the line: \2 is the loaded pointer, \3 its slot.
 AFTER_LOAD = {

@@ -2,11 +2,11 @@
 // 256 of each fitted page as the run leaves them; a refused job is its line alone. The board is its four settings as for C, a byte
 // each. Where the answer could not be written standard error says so.
 ghost use Prim.Native.Nat.{_<_};
+use benchline::Printed;
 use job::Answer;
 use libc::STDERR_FILENO;
 use libc::STDIN_FILENO;
 use libc::STDOUT_FILENO;
-use line::Printed;
 use machine::Finished;
 use machine::Powered;
 use machine::Ran;
@@ -36,13 +36,13 @@ fn put_printed(text: &[u8], printed: Printed) -> bool {
 
 fn put_refused(why: u8) -> bool {
     let mut text = [0u8; 16];
-    let printed = line::write_refused(&mut text, why);
+    let printed = benchline::write_refused(&mut text, why);
     put_printed(&text, printed)
 }
 
 fn put_end(ran: Ran, board: Settings) -> bool {
     let mut text = [0u8; 64];
-    let printed = report::write_end_on(&mut text, ran, board);
+    let printed = endline::write_end_on(&mut text, ran, board);
     put_printed(&text, printed)
 }
 

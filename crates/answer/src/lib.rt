@@ -1,7 +1,7 @@
 // The answer of a call for C: three words in six lent bytes, low byte first.
 use refusal::number::NO_STATE;
-use words::high;
-use words::low;
+use wordbytes::high;
+use wordbytes::low;
 ghost use mathlib.Core.Path.{_≡_};
 ghost use Rattle.answer.specs.Answer as Spec;
 

@@ -1,12 +1,12 @@
 -- Format 10 by op code: s is the source operand, d the destination operand, f the indicators before. CMP, BIT and CMPB have a result that is not stored.
 use Prim.Native.Nat.{ℕ}
-use Rattle.word.specs.declared.Flags.{Flags}
-use Rattle.word.specs.declared.Done.{Done}
-use Rattle.codes.specs.declared.Binary.{Binary}
-use Rattle.codes.specs.declared.Binary.the-variants.{Add, Sub, And, Bic, Bis, Xor, Cmp, Bit, Mov}
-use Rattle.codes.specs.declared.ByteBinary.{ByteBinary}
-use Rattle.codes.specs.declared.ByteBinary.the-variants.{Cmpb, Movb, Bisb}
-use Rattle.word.specs.Number.{movOf}
+use Rattle.wordmath.specs.declared.Flags.{Flags}
+use Rattle.wordmath.specs.declared.Done.{Done}
+use Rattle.opcodes.specs.declared.Binary.{Binary}
+use Rattle.opcodes.specs.declared.Binary.the-variants.{Add, Sub, And, Bic, Bis, Xor, Cmp, Bit, Mov}
+use Rattle.opcodes.specs.declared.ByteBinary.{ByteBinary}
+use Rattle.opcodes.specs.declared.ByteBinary.the-variants.{Cmpb, Movb, Bisb}
+use Rattle.wordmath.specs.Number.{movOf}
 use Rattle.arith.specs.Ops.{addOf, subOf, andOf, bicOf, bisOf, xorOf}
 
 -- on words; CMP takes the destination from the source

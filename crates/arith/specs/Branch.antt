@@ -4,8 +4,8 @@ use mathlib.Core.List.{List, [], _∷_}
 use Prim.Native.Nat.{ℕ, _-_, _/_, _%_}
 use lib.Dec.{eqb, ltb}
 use lib.ListN.{getD}
-use Rattle.word.specs.declared.Flags.{Flags}
-use Rattle.word.specs.Number.{differ}
+use Rattle.wordmath.specs.declared.Flags.{Flags}
+use Rattle.wordmath.specs.Number.{differ}
 
 infixl 32 _xor_
 abbrev pub _xor_ : Bool → Bool → Bool

@@ -1,10 +1,10 @@
 -- Format 6, 0800 to 09FF: the number n, 1 to 16, on the register d; f the indicators before.
 use Prim.Native.Nat.{ℕ}
 use mathlib.Core.Bool.{false}
-use Rattle.word.specs.declared.Flags.{Flags}
-use Rattle.word.specs.declared.Done.{Done}
-use Rattle.codes.specs.declared.Immediate.{Immediate}
-use Rattle.codes.specs.declared.Immediate.the-variants.{Addi, Subi, Bici, Movi}
+use Rattle.wordmath.specs.declared.Flags.{Flags}
+use Rattle.wordmath.specs.declared.Done.{Done}
+use Rattle.opcodes.specs.declared.Immediate.{Immediate}
+use Rattle.opcodes.specs.declared.Immediate.the-variants.{Addi, Subi, Bici, Movi}
 use Rattle.arith.specs.Ops.{addOf, subOf, bicOf}
 
 -- MOVI: N, Z and V reset, C unchanged

@@ -3,9 +3,9 @@ use Prim.Native.Nat.{ℕ, _+_, _-_, _*_, _/_, _%_, _^_}
 use mathlib.Core.Bool.{_&&_}
 use lib.Dec.{leb, ltb}
 use lib.Bits.{bitAnd, bitOr, bitXor}
-use Rattle.word.specs.declared.Flags.{Flags}
-use Rattle.word.specs.declared.Done.{Done}
-use Rattle.word.specs.Number.{sign, same, differ, complement, done, movOf}
+use Rattle.wordmath.specs.declared.Flags.{Flags}
+use Rattle.wordmath.specs.declared.Done.{Done}
+use Rattle.wordmath.specs.Number.{sign, same, differ, complement, done, movOf}
 
 -- ADD, ADDI
 abbrev pub addOf : ℕ → ℕ → ℕ → Done

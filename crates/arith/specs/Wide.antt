@@ -2,8 +2,8 @@
 use Prim.Native.Nat.{ℕ, _+_, _*_, _/_, _%_, _^_}
 use mathlib.Core.Bool.{true, false, cond}
 use lib.Dec.{leb, eqb}
-use Rattle.word.specs.declared.Pair.{Pair}
-use Rattle.word.specs.Number.{bit}
+use Rattle.wordmath.specs.declared.Pair.{Pair}
+use Rattle.wordmath.specs.Number.{bit}
 
 -- MUL: REG+1:REG <- REG * (DST); C stays the preset 1
 abbrev pub mulOf : ℕ → ℕ → Pair

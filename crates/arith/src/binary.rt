@@ -3,12 +3,12 @@ ghost use mathlib.Core.Path.{_≡_};
 ghost use Rattle.arith.specs.Binary.{binaryOf, byteBinaryOf};
 use super::on_bytes;
 use super::on_words;
-use codes::Binary;
-use codes::ByteBinary;
-use word::Done;
-use word::Flags;
-use word::result::mov8;
-use word::result::mov16;
+use opcodes::Binary;
+use opcodes::ByteBinary;
+use wordmath::Done;
+use wordmath::Flags;
+use wordmath::result::mov8;
+use wordmath::result::mov16;
 
 pub fn binary(op: Binary, s: u16, d: u16, f: Flags) -> Done
     ensures { λ r. ⌜ r ≡ binaryOf op s d f ⌝ }

@@ -1,7 +1,7 @@
 // Format 5: when a branch is taken. Seven conditions and one reversal; BR stands alone.
 ghost use mathlib.Core.Path.{_≡_};
 ghost use Rattle.arith.specs.Branch as Spec;
-use word::Flags;
+use wordmath::Flags;
 
 // The seven conditions, each for the even high byte; beside it stands its pair.
 fn condition(pair: u16, f: Flags) -> bool

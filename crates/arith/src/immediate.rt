@@ -2,9 +2,9 @@
 ghost use mathlib.Core.Path.{_≡_};
 ghost use Rattle.arith.specs.Immediate.{immediateOf, moviOf};
 use super::on_words;
-use codes::Immediate;
-use word::Done;
-use word::Flags;
+use opcodes::Immediate;
+use wordmath::Done;
+use wordmath::Flags;
 
 // ADDI, SUBI, BICI, MOVI: the number n and the register d.
 pub fn immediate(op: Immediate, n: u16, d: u16, f: Flags) -> Done

@@ -1,8 +1,8 @@
 // Op codes on two bytes, and a byte's place in a register.
 ghost use mathlib.Core.Path.{_≡_};
 ghost use Rattle.arith.specs.Ops.{subOf, extended, withLow};
-use word::Done;
-use word::result::done8;
+use wordmath::Done;
+use wordmath::result::done8;
 
 // CMPB with the operands exchanged
 pub(crate) fn sub(s: u8, d: u8) -> Done

@@ -1,10 +1,10 @@
 // Op codes on two words: each is the definition over the width, at 16.
 ghost use mathlib.Core.Path.{_≡_};
 ghost use Rattle.arith.specs.Ops.{addOf, subOf, bicOf};
-use word::Done;
-use word::Flags;
-use word::result::done16;
-use word::result::mov16;
+use wordmath::Done;
+use wordmath::Flags;
+use wordmath::result::done16;
+use wordmath::result::mov16;
 
 // ADD, ADDI
 pub(crate) fn add(s: u16, d: u16) -> Done

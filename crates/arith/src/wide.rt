@@ -1,8 +1,8 @@
 // Format 9: MUL and DIV. low is REG, high is REG+1.
 ghost use mathlib.Core.Path.{_≡_};
 ghost use Rattle.arith.specs.Wide.{mulOf, divOf};
-use word::Flags;
-use word::Pair;
+use wordmath::Flags;
+use wordmath::Pair;
 
 pub fn mul(a: u16, b: u16) -> Pair
     ensures { λ r. ⌜ r ≡ mulOf a b ⌝ }

@@ -7,7 +7,7 @@ use native.Mathlib.Omega.{arith}
 use borrow.Author.Tests.{lt-ltb, le-ltb}
 use lib.Dec.{ltb, eqb}
 use lib.ListN.{length, take}
-use Rattle.letters.specs.Over.{Wrote}
+use Rattle.hexdigits.specs.Over.{Wrote}
 use Rattle.optext.proofs.Laws.Calls.{none-told}
 use Rattle.refusal.specs.Numbers.{outputShort, sourceLines}
 use Rattle.refusal.specs.Page.{refused, refusedAt, answered, Left, left, first}

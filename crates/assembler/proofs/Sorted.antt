@@ -7,10 +7,10 @@ use native.Mathlib.Omega.{arith}
 use borrow.Author.Tests.{lt-ltb, le-ltb}
 use lib.ListN.{length, take, drop, getD, set, length-take}
 use lib.Seq.{take-suc-set, take-set-lt, drop-set-lt, drop-cons, getD-take, append-snoc, take-suc, length-take-le, drop-length}
-use Rattle.word.specs.Address.{plus}
+use Rattle.wordmath.specs.Address.{plus}
 use Rattle.optext.specs.declared.Op.{Op}
-use Rattle.letters.specs.Over.{Wrote, WroteAt}
-use Rattle.letters.proofs.Laws.Laid.{then}
+use Rattle.hexdigits.specs.Over.{Wrote, WroteAt}
+use Rattle.hexdigits.proofs.Laws.Laid.{then}
 use Rattle.patchline.proofs.Laws.Joined.{then-at, none-at}
 use Rattle.assembler.specs.Source.{textAt, hereOf, wordsIn}
 use Rattle.assembler.specs.Section.{lowerOf, higherOf, inserted, entryOf, entered, placed, pair, bytesOf, flat, sectionOf, Inserts, Enters}

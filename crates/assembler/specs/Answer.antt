@@ -4,7 +4,7 @@ use mathlib.Core.List.{List, [], _∷_}
 use Prim.Native.Nat.{ℕ, _%_}
 use lib.Dec.{ltb, eqb}
 use lib.ListN.{length}
-use Rattle.letters.specs.Over.{over}
+use Rattle.hexdigits.specs.Over.{over}
 use Rattle.refusal.specs.Numbers.{unknownText, labelAgain, labelMissing, outOfReach, outOfPlace, sourceLines, outputShort}
 use Rattle.refusal.specs.Page.{Page, refused, refusedAt, answered, Left, left, call, first}
 use Rattle.assembler.specs.Source.{countOf, lowest}

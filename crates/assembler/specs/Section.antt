@@ -5,7 +5,7 @@ use Prim.Native.Nat.{ℕ, zero, suc, _+_, _*_, _/_, _%_, _≤_}
 use lib.Dec.{ltb}
 use mathlib.Core.Path.{_≡_}
 use lib.ListN.{length, take}
-use Rattle.word.specs.Address.{plus}
+use Rattle.wordmath.specs.Address.{plus}
 use Rattle.optext.specs.declared.Op.{Op}
 use Rattle.assembler.specs.Source.{textAt, hereOf, wordsIn}
 

@@ -3,7 +3,7 @@ ghost use mathlib.Core.Path.{_≡_};
 ghost use mathlib.Core.List.{_++_};
 ghost use Prim.Native.Nat.{_+_, _*_, _≤_};
 ghost use lib.ListN.{length};
-ghost use Rattle.letters.specs.Over.{Wrote, WroteAt};
+ghost use Rattle.hexdigits.specs.Over.{Wrote, WroteAt};
 ghost use Rattle.refusal.specs.Page.{left};
 ghost use Rattle.assembler.specs.Source.{countOf, Starts};
 ghost use Rattle.assembler.specs.Section.{pair};

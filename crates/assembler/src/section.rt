@@ -3,7 +3,7 @@ ghost use mathlib.Core.Path.{_≡_};
 ghost use mathlib.Core.List.{_++_};
 ghost use Prim.Native.Nat.{_+_, _*_, _≤_, _<_};
 ghost use lib.ListN.{length, take};
-ghost use Rattle.letters.specs.Over.{Wrote, WroteAt};
+ghost use Rattle.hexdigits.specs.Over.{Wrote, WroteAt};
 ghost use Rattle.assembler.specs.Source.{countOf, Starts};
 ghost use Rattle.assembler.specs.Section.{entryOf, lowerOf, higherOf, inserted, entered, placed, pair, bytesOf, flat, sectionOf, Inserts, Enters};
 use crate::source::count;
@@ -11,7 +11,7 @@ use crate::source::here;
 use crate::source::text_at;
 use crate::source::words_in;
 use optext::Op;
-use word::address::plus;
+use wordmath::address::plus;
 
 // An address and its word as one number.
 fn entry(address: u16, word: u16) -> u32

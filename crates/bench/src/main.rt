@@ -1,8 +1,8 @@
 // Reads a job on standard input, powers up, runs, and prints one line. Where it could not be written standard error says so.
+use benchline::Printed;
 use libc::STDERR_FILENO;
 use libc::STDIN_FILENO;
 use libc::STDOUT_FILENO;
-use line::Printed;
 
 // Prints the first bytes of a text and ends the line; answers whether all was written.
 fn print(text: &[u8], n: usize) -> bool {
@@ -16,7 +16,7 @@ fn print(text: &[u8], n: usize) -> bool {
 
 // REFUSED and the number.
 fn print_refused(text: &mut [u8], why: u8) -> bool {
-    match line::write_refused(text, why) {
+    match benchline::write_refused(text, why) {
         Printed::Line(n) => print(text, n),
         Printed::Refused(_) => false,
     }

@@ -1,6 +1,6 @@
 // The board: the lent image, the page map, and the log of what a step wrote over.
-use words::high;
-use words::low;
+use wordbytes::high;
+use wordbytes::low;
 ghost use mathlib.Core.Path.{_≡_};
 ghost use Prim.Native.Nat.{_+_, _*_, _≤_, _<_, _%_, _/_};
 ghost use lib.ListN.{length, getD, set};

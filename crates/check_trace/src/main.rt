@@ -1,13 +1,13 @@
 // Checks another shop's trace of a job and says in words what it is found to be: check_trace JOB TRACE, two files by name. Where the
 // answer could not be written standard error says so. Each function that prints answers whether all was written.
-use letters::hex;
+use hexdigits::hex;
 ghost use mathlib.Core.Path.{_≡_};
 ghost use lib.ListN.{length};
 use libc::STDERR_FILENO;
 use libc::STDOUT_FILENO;
 use trace::Checked;
 use trace::Verdict;
-use words::word_at;
+use wordbytes::word_at;
 
 fn put(text: &[u8]) -> bool {
     io::write_all(STDOUT_FILENO, text)

@@ -15,8 +15,8 @@ use Rattle.machine.specs.declared.Stepped.{Stepped}
 use Rattle.machine.specs.Numbers.{statePage, address, TurnPage}
 use Rattle.machine.specs.Entry.{steppedPage, stepPage}
 use Rattle.machine.specs.Trail.{trailOf, causeAt}
-use Rattle.firmware.specs.Layout.{bytesOf, stateFrom, settingsFrom}
-use Rattle.firmware.specs.Calls.{stepCall}
+use Rattle.machine_c.specs.Layout.{bytesOf, stateFrom, settingsFrom}
+use Rattle.machine_c.specs.Calls.{stepCall}
 
 -- A STEP THAT CAN'T FETCH 16, or can't pick up the nine places, from 0 on, locks: cause 8, with that address, the state as before but the mode, and the
 -- image as lent. a is 16 or 0 (`Fetches`)

@@ -18,27 +18,27 @@ use Rattle.machine.specs.declared.Until.{Until}
 use Rattle.machine.specs.Entry.{powerWhy, stepWhy, runWhy, powerUpPage, stepPage, runPage}
 use Rattle.machine.specs.Same.{runSamePage}
 use Rattle.machine.specs.Until.{runUntilPage}
-use Rattle.firmware.specs.Layout.{settingsFrom, refusedUp, refusedStep, refusedRun}
-use Rattle.firmware.specs.Calls.{powerUpCall, stepCall, runCall}
-use Rattle.firmware.specs.Runs.{refusedUntil, runSameCall, runUntilCall}
+use Rattle.machine_c.specs.Layout.{settingsFrom, refusedUp, refusedStep, refusedRun}
+use Rattle.machine_c.specs.Calls.{powerUpCall, stepCall, runCall}
+use Rattle.machine_c.specs.Runs.{refusedUntil, runSameCall, runUntilCall}
 use Rattle.job.specs.Job.{whyJob, whyRead, jobOf}
 use Rattle.job_c.specs.Calls.{readCall}
 use Rattle.optext.specs.Answer.{roomWhy, writeWhy, writeOf, writeWordOf}
 use Rattle.optext.specs.Column.{Column}
 use Rattle.optext.specs.Words.{Reads}
-use Rattle.line.specs.Line.{printWhy, printOf}
+use Rattle.benchline.specs.Line.{printWhy, printOf}
 use Rattle.runjob.specs.Bench.{jobRun, benchWhy, benchOf}
 use Rattle.listing.specs.Calls.{lineWhy, lineCall}
 use Rattle.listjob.specs.Stretch.{listWhy, listOf}
 use Rattle.listing_c.specs.Calls.{listCall}
 use Rattle.stepline.specs.Shown.{showWhy, showOf}
-use Rattle.textc.specs.Calls.{wordsIn, writeCall, ReadCall, lentWhy}
+use Rattle.optext_c.specs.Calls.{wordsIn, writeCall, ReadCall, lentWhy}
 use Rattle.assembler.specs.Answer.{asmOf}
 use Rattle.assembler.specs.Labels.{labelsPage}
 use Rattle.assembler.specs.Ends.{assembleWhy, labelsWhy, tellsLine, FaultLine}
 use Rattle.assembler_c.specs.Call.{assembleCall, labelsCall}
 use Rattle.trace.specs.Trace.{whyTrace, whyCheck, checkOf, whyMake, makeOf}
-use Rattle.tracecall.specs.Calls.{checkCall}
+use Rattle.trace_c.specs.Calls.{checkCall}
 use Rattle.demands.specs.Terms.{OrPlace, wordsWhy, OwnWhy, tellsColumn}
 
 -- ---- the theorem. `why` is the number of the first refusal that applies, 0 where there is none; `promised` is what the contract says

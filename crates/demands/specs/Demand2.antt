@@ -4,8 +4,8 @@ use mathlib.Core.Bool.{false}
 use mathlib.Core.List.{List}
 use mathlib.Core.Path.{_≡_}
 use lib.ListN.{length, getD, take}
-use Rattle.letters.specs.Over.{over}
-use Rattle.words.specs.Words.{wordAt}
+use Rattle.hexdigits.specs.Over.{over}
+use Rattle.wordbytes.specs.Words.{wordAt}
 use Rattle.answer.specs.Answer.{threeWords}
 use Rattle.state.specs.declared.State.{State}
 use Rattle.state.specs.declared.Settings.{Settings}
@@ -20,15 +20,15 @@ use Rattle.machine.specs.Numbers.{StatePage, statePage, nowhere, toldOf, TurnPa
 use Rattle.machine.specs.Entry.{poweredPage, powered, powerUpPage, steppedPage, turned, stepPage, finishedPage, runPage}
 use Rattle.machine.specs.Trail.{trailOf, lastOf, blanksIn, firstIn}
 use Rattle.machine.specs.Answered.{shown}
-use Rattle.firmware.specs.Layout.{bytesOf, tallyBytes, stateFrom, settingsFrom}
-use Rattle.firmware.specs.Calls.{powerUpCall, stepCall, runCall}
+use Rattle.machine_c.specs.Layout.{bytesOf, tallyBytes, stateFrom, settingsFrom}
+use Rattle.machine_c.specs.Calls.{powerUpCall, stepCall, runCall}
 use Rattle.optext.specs.declared.Written.{Written}
 use Rattle.optext.specs.declared.Written.the-variants.{Line}
 use Rattle.optext.specs.declared.ReadBack.{ReadBack}
 use Rattle.optext.specs.declared.ReadBack.the-variants.{Words}
 use Rattle.optext.specs.Answer.{Writes, readPage}
 use Rattle.optext.specs.Words.{Reads}
-use Rattle.textc.specs.Calls.{odd, writeCall, ReadCall}
+use Rattle.optext_c.specs.Calls.{odd, writeCall, ReadCall}
 use Rattle.demands.specs.Terms.{AllWords, AllBytes, beforeAt}
 
 -- ---- "Each step does what the WD16 Programmer's Reference Manual says, odd corners included, with the board's rules of document 01."

@@ -20,9 +20,9 @@ use Rattle.machine.specs.Entry.{poweredPage, powerUpPage, steppedPage, stepPage
 use Rattle.machine.specs.Same.{runSamePage}
 use Rattle.machine.specs.Until.{stoppedPage, runUntilPage}
 use Rattle.machine.specs.Blind.{Blind}
-use Rattle.firmware.specs.Layout.{stateFrom, settingsFrom}
-use Rattle.firmware.specs.Calls.{powerUpCall, stepCall, runCall}
-use Rattle.firmware.specs.Runs.{runSameCall, runUntilCall}
+use Rattle.machine_c.specs.Layout.{stateFrom, settingsFrom}
+use Rattle.machine_c.specs.Calls.{powerUpCall, stepCall, runCall}
+use Rattle.machine_c.specs.Runs.{runSameCall, runUntilCall}
 use Rattle.job.specs.declared.Answer.{Answer}
 use Rattle.job.specs.Job.{pageOf, whyRead, jobOf}
 use Rattle.job_c.specs.Calls.{readCall}

@@ -6,17 +6,17 @@ use mathlib.Core.Path.{_≡_}
 use lib.ListN.{length}
 use Rattle.board.specs.Work.{Agree}
 use Rattle.state.specs.declared.Settings.{Settings}
-use Rattle.words.specs.Words.{byteAt}
+use Rattle.wordbytes.specs.Words.{byteAt}
 use Rattle.refusal.specs.Numbers.{noState}
 use Rattle.refusal.specs.Page.{answered, left, nothing, first, told}
 use Rattle.machine.specs.Blind.{Blind}
-use Rattle.firmware.specs.Layout.{stateFrom, settingsFrom}
+use Rattle.machine_c.specs.Layout.{stateFrom, settingsFrom}
 use Rattle.plugs.specs.declared.Channel.{Channel}
 use Rattle.recorder.specs.declared.Recorder.{Recorder}
 use Rattle.recorder.specs.declared.Scanned.{Scanned}
 use Rattle.recorder.specs.Scan.{TallyPage, answerPage, scanWhy, scanMap, scanImage, scanOf, reportWhy, reportPage}
-use Rattle.lentrecorder.specs.Layout.{channelsFrom, recorderFrom, refusedScan, refusedReport}
-use Rattle.lentrecorder.specs.Calls.{scanCall, reportCall}
+use Rattle.recorder_c.specs.Layout.{channelsFrom, recorderFrom, refusedScan, refusedReport}
+use Rattle.recorder_c.specs.Calls.{scanCall, reportCall}
 use Rattle.demands.specs.Terms.{Counted, TallyBytes}
 use Rattle.demands.specs.Demand1.{Keeps, KeepsC}
 

@@ -21,7 +21,7 @@ use Rattle.refusal.specs.Page.{first}
 use Rattle.optext.specs.Column.{IsText, Column, Why}
 use Rattle.machine.specs.Numbers.{statePage, address, nowhere, TurnPage, Place}
 use Rattle.machine.specs.Trail.{trailOf, lastOf, blanksIn, causeAt, Least}
-use Rattle.firmware.specs.Layout.{bytesOf, tallyBytes}
+use Rattle.machine_c.specs.Layout.{bytesOf, tallyBytes}
 
 -- ---- demand 1
 

@@ -3,13 +3,13 @@ use Prim.Native.Nat.{ℕ, _+_, _*_, _/_, _<_}
 use mathlib.Core.Bool.{Bool, true, false, not, cond}
 use mathlib.Core.List.{List, [], _∷_, _++_, map}
 use lib.ListN.{replicate}
-use Rattle.word.specs.Number.{digit}
-use Rattle.word.specs.Status.{flagsOf}
+use Rattle.wordmath.specs.Number.{digit}
+use Rattle.wordmath.specs.Status.{flagsOf}
 use Rattle.board.specs.Work.{wordAt, withWord}
 use Rattle.state.specs.declared.State.{State}
 use Rattle.state.specs.declared.Settings.{Settings}
 use Rattle.state.specs.State.{withReg, withPc, withSp, withFlags, withI2, cleared, heard}
-use Rattle.letters.specs.Digits.{letters}
+use Rattle.hexdigits.specs.Digits.{letters}
 use Rattle.optext.specs.Line.{taken, textOf, isReserved}
 use Rattle.step.specs.Step.{After, stepOf}
 use mathlib.Core.Path.{_≡_}

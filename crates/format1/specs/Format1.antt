@@ -10,7 +10,7 @@ use Rattle.state.specs.declared.State.{State}
 use Rattle.state.specs.declared.Outside.{Outside}
 use Rattle.state.specs.declared.Mode.the-variants.{Waiting, PowerHalt, SwitchHalt}
 use Rattle.state.specs.State.{withSp, withI2, withMode, withMark, psOf}
-use Rattle.word.specs.Address.{plus}
+use Rattle.wordmath.specs.Address.{plus}
 use Rattle.state.specs.Stack.{push, pushReg, pop, popReg, popStatus, fetch, fromLoc, pushBoth, trapNow}
 
 -- NOP: no operations are performed. RESET: a pulse is transmitted; here nothing hears it

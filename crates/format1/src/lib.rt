@@ -7,7 +7,7 @@ use state::State;
 use state::Took;
 use state::Went;
 use state::untaken;
-use word::address::plus;
+use wordmath::address::plus;
 ghost use mathlib.Core.Bool.{cond};
 ghost use mathlib.Core.Path.{_≡_};
 ghost use Rattle.board.specs.Exec.{beside, Lent, Board, Saw};

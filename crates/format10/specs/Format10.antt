@@ -2,24 +2,24 @@
 use Prim.Native.Nat.{ℕ, _%_}
 use mathlib.Core.Bool.{Bool, true, false, cond}
 use lib.Dec.{ltb}
-use Rattle.codes.specs.declared.Binary.{Binary}
-use Rattle.codes.specs.declared.Binary.the-variants.{Add, Sub, And, Bic, Bis, Xor, Cmp, Bit, Mov}
-use Rattle.codes.specs.declared.ByteBinary.{ByteBinary}
-use Rattle.codes.specs.declared.ByteBinary.the-variants.{Cmpb, Movb, Bisb}
+use Rattle.opcodes.specs.declared.Binary.{Binary}
+use Rattle.opcodes.specs.declared.Binary.the-variants.{Add, Sub, And, Bic, Bis, Xor, Cmp, Bit, Mov}
+use Rattle.opcodes.specs.declared.ByteBinary.{ByteBinary}
+use Rattle.opcodes.specs.declared.ByteBinary.the-variants.{Cmpb, Movb, Bisb}
 use Rattle.arith.specs.Binary.{binaryOf, byteBinaryOf}
-use Rattle.codes.specs.Codes.{binaryAt, byteBinaryAt}
-use Rattle.codes.specs.Fields.{highDigit, sourceMode, sourceRegister, destinationRegister}
+use Rattle.opcodes.specs.Codes.{binaryAt, byteBinaryAt}
+use Rattle.opcodes.specs.Fields.{highDigit, sourceMode, sourceRegister, destinationRegister}
 use Rattle.arith.specs.Ops.{extended}
 use Rattle.board.specs.Work.{Work, give, Size, word, byte, _>>=_, _>>_}
 use Rattle.state.specs.declared.State.{State}
 use Rattle.state.specs.State.{withReg, withFlags}
-use Rattle.word.specs.Address.{plus, minus}
+use Rattle.wordmath.specs.Address.{plus, minus}
 use Rattle.operand.specs.declared.Place.{Place}
 use Rattle.operand.specs.declared.Place.the-variants.{Reg, Mem}
 use Rattle.operand.specs.Operand.{writeTo}
 use Rattle.operand.specs.Destination.{operandOf, destination}
-use Rattle.word.specs.declared.Flags.{Flags}
-use Rattle.word.specs.declared.Done.{Done}
+use Rattle.wordmath.specs.declared.Flags.{Flags}
+use Rattle.wordmath.specs.declared.Done.{Done}
 
 -- six from digit 1 on, ADD 1000 to XOR 6000; then, from digit 9 on, CMP 9000, BIT A000, MOV B000
 abbrev pub binaryNumber : ℕ → ℕ

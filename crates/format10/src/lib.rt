@@ -1,8 +1,8 @@
 // Format 10: two operands.
 use board::Byte;
 use board::Word;
-use codes::Binary;
-use codes::ByteBinary;
+use opcodes::Binary;
+use opcodes::ByteBinary;
 use operand::Found;
 use operand::Place;
 use operand::byte_step;
@@ -14,8 +14,8 @@ use operand::unanswered;
 use operand::unfound;
 use state::State;
 use state::Went;
-use word::address::minus;
-use words::low;
+use wordbytes::low;
+use wordmath::address::minus;
 ghost use mathlib.Core.Path.{_≡_};
 ghost use Rattle.board.specs.Work.{word, byte};
 ghost use Rattle.board.specs.Exec.{beside, Lent, Board, Saw};
@@ -82,13 +82,13 @@ fn onto_words(s: State, image: &mut [u8], map: &[u8], log: &mut [u16; 32], op: u
     };
     let u = moved(s, place);
     if op / 4096 == 11 {
-        let done = word::result::mov16(x, u.flags);
+        let done = wordmath::result::mov16(x, u.flags);
         return operand::write_word(u.with_flags(done.flags), image, map, log, to, place, x);
     }
     let Word::Value(y) = read_word(image, map, place, u.reg(to)) else {
         return unanswered(place);
     };
-    let b = codes::binary_at(binary_number(op));
+    let b = opcodes::binary_at(binary_number(op));
     let done = arith::binary::binary(b, x, y, u.flags);
     settle(
         u.with_flags(done.flags),
@@ -171,7 +171,7 @@ fn onto_bytes(s: State, image: &mut [u8], map: &[u8], log: &mut [u16; 32], op: u
     };
     let u = moved(s, place);
     if op / 4096 == 13 {
-        let done = word::result::mov8(x, u.flags);
+        let done = wordmath::result::mov8(x, u.flags);
         return move_byte(
             u.with_flags(done.flags),
             image,
@@ -185,7 +185,7 @@ fn onto_bytes(s: State, image: &mut [u8], map: &[u8], log: &mut [u16; 32], op: u
     let Byte::Value(y) = read_byte(image, map, place, u.reg(to)) else {
         return unanswered(place);
     };
-    let b = codes::byte_binary_at(minus(op / 4096, 12));
+    let b = opcodes::byte_binary_at(minus(op / 4096, 12));
     let done = arith::binary::byte_binary(b, x, y, u.flags);
     let w = u.with_flags(done.flags);
     settle_byte(w, image, map, log, b, to, place, done.value)

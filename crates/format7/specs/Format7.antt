@@ -4,18 +4,18 @@ use mathlib.Core.Bool.{Bool, false, cond}
 use mathlib.Core.List.{List, [], _∷_}
 use lib.Dec.{eqb, ltb}
 use lib.ListN.{getD}
-use Rattle.word.specs.declared.Flags.{Flags}
-use Rattle.word.specs.declared.Done.{Done}
-use Rattle.codes.specs.declared.Unary.{Unary}
-use Rattle.codes.specs.declared.Unary.the-variants.{Ror, Rol, Tst, Asl, Set, Clr, Asr, Swap, Com, Neg, Inc, Dec}
+use Rattle.wordmath.specs.declared.Flags.{Flags}
+use Rattle.wordmath.specs.declared.Done.{Done}
+use Rattle.opcodes.specs.declared.Unary.{Unary}
+use Rattle.opcodes.specs.declared.Unary.the-variants.{Ror, Rol, Tst, Asl, Set, Clr, Asr, Swap, Com, Neg, Inc, Dec}
 use Rattle.unary.specs.Ops.{iw2Of, sxtOf, adcOf, sbcOf}
 use Rattle.unary.specs.Unary.{unaryOf}
-use Rattle.codes.specs.Fields.{destinationMode, destinationRegister}
+use Rattle.opcodes.specs.Fields.{destinationMode, destinationRegister}
 use Rattle.board.specs.Work.{Work, give, Size, word, byte, _>>=_, _>>_}
 use Rattle.state.specs.declared.State.{State}
 use Rattle.state.specs.declared.Outside.{Outside}
 use Rattle.state.specs.State.{withFlags, withStatus, psOf}
-use Rattle.word.specs.Address.{plus, minus}
+use Rattle.wordmath.specs.Address.{plus, minus}
 use Rattle.state.specs.Stack.{push, tabled}
 use Rattle.operand.specs.declared.Place.{Place}
 use Rattle.operand.specs.Operand.{writeTo}

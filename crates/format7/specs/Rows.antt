@@ -2,12 +2,12 @@
 use Prim.Native.Nat.{ℕ}
 use mathlib.Core.Bool.{Bool, cond}
 use lib.Dec.{eqb, ltb}
-use Rattle.word.specs.declared.Flags.{Flags}
-use Rattle.word.specs.declared.Done.{Done}
+use Rattle.wordmath.specs.declared.Flags.{Flags}
+use Rattle.wordmath.specs.declared.Done.{Done}
 use Rattle.unary.specs.Ops.{iw2Of, sxtOf, adcOf, sbcOf}
 use Rattle.unary.specs.Unary.{unaryOf}
-use Rattle.codes.specs.Codes.{unaryAt}
-use Rattle.codes.specs.Fields.{destinationRegister}
+use Rattle.opcodes.specs.Codes.{unaryAt}
+use Rattle.opcodes.specs.Fields.{destinationRegister}
 use Rattle.board.specs.Work.{Work, give, Size, word, byte, _>>=_}
 use Rattle.state.specs.declared.State.{State}
 use Rattle.state.specs.declared.Outside.{Outside}

@@ -16,10 +16,10 @@ use operand::unfound;
 use state::Outside;
 use state::State;
 use state::Went;
-use word::Done;
-use word::Flags;
-use word::address::minus;
-use word::address::plus;
+use wordmath::Done;
+use wordmath::Flags;
+use wordmath::address::minus;
+use wordmath::address::plus;
 ghost use mathlib.Core.Path.{_≡_};
 ghost use Rattle.board.specs.Work.{word, byte};
 ghost use Rattle.board.specs.Exec.{beside, Lent, Board, Saw};
@@ -57,7 +57,7 @@ fn word_result(op: u16, row: u16, d: u16, f: Flags) -> Done
     ensures { λ r. ⌜ r ≡ Rows.resultAt word op row d f ⌝ }
 {
     if row < 12 {
-        return unary::by_code::unary16(codes::unary_at(row), op / 8 % 8 == 0, d, f);
+        return unary::by_code::unary16(opcodes::unary_at(row), op / 8 % 8 == 0, d, f);
     }
     further_word(op, row, d, f)
 }
@@ -65,7 +65,7 @@ fn word_result(op: u16, row: u16, d: u16, f: Flags) -> Done
 fn byte_result(op: u16, row: u16, d: u8, f: Flags) -> Done
     ensures { λ r. ⌜ r ≡ Rows.resultAt byte op row d f ⌝ }
 {
-    unary::by_code::unary8(codes::unary_at(row), op / 8 % 8 == 0, d, f)
+    unary::by_code::unary8(opcodes::unary_at(row), op / 8 % 8 == 0, d, f)
 }
 
 fn stored_word(

@@ -5,8 +5,8 @@ use mathlib.Core.List.{List, [], _∷_}
 use lib.Dec.{eqb}
 use lib.ListN.{getD}
 use Rattle.board.specs.Work.{Work, give, readAt, write, Size, word, byte, _>>=_, _>>_}
-use Rattle.codes.specs.Fields.{format8Code, blockSource, blockDestination}
-use Rattle.word.specs.Address.{plus, minus}
+use Rattle.opcodes.specs.Fields.{format8Code, blockSource, blockDestination}
+use Rattle.wordmath.specs.Address.{plus, minus}
 use Rattle.state.specs.declared.State.{State}
 use Rattle.state.specs.State.{reg, withReg, withPc}
 use Rattle.format8.specs.declared.Row.{Row}

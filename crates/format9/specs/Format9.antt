@@ -5,14 +5,14 @@ use mathlib.Core.List.{List, [], _∷_}
 use mathlib.Core.Path.{_≡_}
 use lib.Dec.{eqb}
 use lib.ListN.{getD}
-use Rattle.codes.specs.Fields.{destinationMode, destinationRegister, register, format9Code, offset}
+use Rattle.opcodes.specs.Fields.{destinationMode, destinationRegister, register, format9Code, offset}
 use Rattle.shift.specs.Shifted.{ashOf, ashcOf, preset}
 use Rattle.arith.specs.Wide.{mulOf, divOf}
 use Rattle.board.specs.Work.{Work, give, word, byte, _>>=_, _>>_}
 use Rattle.state.specs.declared.State.{State}
 use Rattle.state.specs.declared.Outside.{Outside}
 use Rattle.state.specs.State.{reg, withReg, withPc, withFlags, next}
-use Rattle.word.specs.Address.{minus}
+use Rattle.wordmath.specs.Address.{minus}
 use Rattle.state.specs.Stack.{pushReg, trapNow}
 use Rattle.operand.specs.declared.Place.{Place}
 use Rattle.operand.specs.declared.Place.the-variants.{Reg, Mem}

@@ -11,7 +11,7 @@ use operand::unfound;
 use state::Outside;
 use state::State;
 use state::Went;
-use word::address::minus;
+use wordmath::address::minus;
 ghost use mathlib.Core.Path.{_≡_};
 ghost use Rattle.board.specs.Work.{word, byte};
 ghost use Rattle.board.specs.Exec.{beside, Lent, Board, Saw};

@@ -1,14 +1,14 @@
 // Every function for C in one library, each over that of its own crate and with its contract: who calls several has the processor once. c/hitchbriar.h has their layout.
 ghost use mathlib.Core.Path.{_≡_};
 ghost use Rattle.refusal.specs.Page.{told};
-ghost use Rattle.firmware.specs.Calls as Firmware;
-ghost use Rattle.firmware.specs.Runs as Runs;
-ghost use Rattle.lentrecorder.specs.Calls as Recorder;
-ghost use Rattle.textc.specs.Calls as Text;
+ghost use Rattle.machine_c.specs.Calls as Firmware;
+ghost use Rattle.machine_c.specs.Runs as Runs;
+ghost use Rattle.recorder_c.specs.Calls as Recorder;
+ghost use Rattle.optext_c.specs.Calls as Text;
 ghost use Rattle.assembler_c.specs.Call as Assembler;
 ghost use Rattle.listing_c.specs.Calls as Listing;
 ghost use Rattle.job_c.specs.Calls as Job;
-ghost use Rattle.tracecall.specs.Calls as Trace;
+ghost use Rattle.trace_c.specs.Calls as Trace;
 
 // The state after power-up; or 21, 1, 2, 3 or 35.
 #[no_mangle]
@@ -20,7 +20,7 @@ pub extern "C" fn wd16_power_up(
 ) -> u8
     ensures { λ r. ⌜ told r (now (state .exit), now (image .exit)) ≡ Firmware.powerUpCall (now (state .entry)) (now (image .entry)) (now (map .entry)) (now (settings .entry)) ⌝ }
 {
-    firmware::wd16_power_up(state, image, map, settings)
+    machine_c::wd16_power_up(state, image, map, settings)
 }
 
 // One step over a line word; or 21, 1, 2, 3, 35 or 5.
@@ -34,7 +34,7 @@ pub extern "C" fn wd16_step(
 ) -> u8
     ensures { λ r. ⌜ told r (now (state .exit), now (image .exit)) ≡ Firmware.stepCall (now (state .entry)) (now (image .entry)) (now (map .entry)) (now (settings .entry)) line ⌝ }
 {
-    firmware::wd16_step(state, image, map, settings, line)
+    machine_c::wd16_step(state, image, map, settings, line)
 }
 
 // A run over line words; or 21, 1, 2, 3, 35, 4 or 5.
@@ -49,7 +49,7 @@ pub extern "C" fn wd16_run(
 ) -> u8
     ensures { λ r. ⌜ told r (now (state .exit), now (tally .exit), now (image .exit)) ≡ Firmware.runCall (now (state .entry)) (now (tally .entry)) (now (image .entry)) (now (map .entry)) (now (settings .entry)) (now (lines .entry)) ⌝ }
 {
-    firmware::wd16_run(state, tally, image, map, settings, lines)
+    machine_c::wd16_run(state, tally, image, map, settings, lines)
 }
 
 // So many steps over one line word; or 21, 1, 2, 3, 35 or 5.
@@ -65,7 +65,7 @@ pub extern "C" fn wd16_run_same(
 ) -> u8
     ensures { λ r. ⌜ told r (now (state .exit), now (tally .exit), now (image .exit)) ≡ Runs.runSameCall (now (state .entry)) (now (tally .entry)) (now (image .entry)) (now (map .entry)) (now (settings .entry)) line steps ⌝ }
 {
-    firmware::runs::wd16_run_same(state, tally, image, map, settings, line, steps)
+    machine_c::runs::wd16_run_same(state, tally, image, map, settings, line, steps)
 }
 
 // A run over line words that ends after the first step whose cause is asked for, or after which the processor waits or is halted; or 21,
@@ -82,7 +82,7 @@ pub extern "C" fn wd16_run_until(
 ) -> u8
     ensures { λ r. ⌜ told r (now (state .exit), now (tally .exit), now (image .exit)) ≡ Runs.runUntilCall (now (state .entry)) (now (tally .entry)) (now (image .entry)) (now (map .entry)) (now (settings .entry)) (now (lines .entry)) until ⌝ }
 {
-    firmware::runs::wd16_run_until(state, tally, image, map, settings, lines, until)
+    machine_c::runs::wd16_run_until(state, tally, image, map, settings, lines, until)
 }
 
 // One scan; or 21, 1, 2, 3, 35, 4, 5, 33 or 37.
@@ -101,7 +101,7 @@ pub extern "C" fn wd16_scan(
     ensures { λ r. ⌜ told r (now (state .exit), now (tally .exit), now (image .exit), now (recorder .exit))
         ≡ Recorder.scanCall (now (state .entry)) (now (tally .entry)) (now (image .entry)) (now (map .entry)) (now (settings .entry)) (now (lines .entry)) (now (cards .entry)) (now (readings .entry)) (now (recorder .entry)) ⌝ }
 {
-    lentrecorder::wd16_scan(
+    recorder_c::wd16_scan(
         state,
         tally,
         image,
@@ -119,7 +119,7 @@ pub extern "C" fn wd16_scan(
 pub extern "C" fn wd16_report(recorder: &[u8], channel: &[u8], report: &mut [u8]) -> u8
     ensures { λ r. ⌜ told r (now (report .exit)) ≡ Recorder.reportCall (now (recorder .entry)) (now (channel .entry)) (now (report .entry)) ⌝ }
 {
-    lentrecorder::wd16_report(recorder, channel, report)
+    recorder_c::wd16_report(recorder, channel, report)
 }
 
 // Writes the text of the op code that begins the words into the text buffer; the answer is the line's length, the words taken,
@@ -128,7 +128,7 @@ pub extern "C" fn wd16_report(recorder: &[u8], channel: &[u8], report: &mut [u8]
 pub extern "C" fn wd16_write_text(words: &[u8], text: &mut [u8], answer: &mut [u8]) -> u8
     ensures { λ r. ⌜ told r (now (text .exit), now (answer .exit)) ≡ Text.writeCall (now (words .entry)) (now (text .entry)) (now (answer .entry)) ⌝ }
 {
-    textc::wd16_write_text(words, text, answer)
+    optext_c::wd16_write_text(words, text, answer)
 }
 
 // Reads a whole lent text into the words' bytes; the answer is the number of words, 0 and 0, or for 9, 30, 31 and 32 it is 0, 0
@@ -137,7 +137,7 @@ pub extern "C" fn wd16_write_text(words: &[u8], text: &mut [u8], answer: &mut [u
 pub extern "C" fn wd16_read_text(text: &[u8], words: &mut [u8], answer: &mut [u8]) -> u8
     ensures { λ r. ⌜ Text.ReadCall (now (text .entry)) (now (words .entry)) (now (answer .entry)) (told r (now (words .exit), now (answer .exit))) ⌝ }
 {
-    textc::wd16_read_text(text, words, answer)
+    optext_c::wd16_read_text(text, words, answer)
 }
 
 // Assembles a source into the front of the section; or 21, 10, 36, 24, 25, 26, 28 or 27.
@@ -190,5 +190,5 @@ pub extern "C" fn wd16_read_job(
 pub extern "C" fn wd16_check_trace(job: &[u8], trace: &[u8], verdict: &mut [u8]) -> u8
     ensures { λ r. ⌜ told r (now (verdict .exit)) ≡ Trace.checkCall (now (job .entry)) (now (trace .entry)) (now (verdict .entry)) ⌝ }
 {
-    tracecall::wd16_check_trace(job, trace, verdict)
+    trace_c::wd16_check_trace(job, trace, verdict)
 }

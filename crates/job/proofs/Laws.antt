@@ -17,7 +17,7 @@ use borrow.Author.Tests.{le-leb, lt-leb, leb-true, eqb-true}
 use lib.Dec.{leb, eqb}
 use borrow.Author.Fill.{fill-more}
 use lib.Seq.{drop-cons, drop-length}
-use Rattle.words.specs.Words.{byteAt, wordAt}
+use Rattle.wordbytes.specs.Words.{byteAt, wordAt}
 use Rattle.refusal.specs.Numbers.{imageLength, mapLength, linesLength, jobEnds}
 use Rattle.refusal.specs.Page.{Page, refused, refusedAt, answered, left, first}
 use Rattle.refusal.proofs.Laws.Page.{first-both, call-refused, one, one-call}

@@ -5,7 +5,7 @@ use mathlib.Core.List.{List, [], _∷_}
 use mathlib.Core.Path.{_≡_}
 use lib.ListN.{length, getD, set, take, replicate}
 use lib.Dec.{eqb, leb}
-use Rattle.words.specs.Words.{byteAt, wordAt}
+use Rattle.wordbytes.specs.Words.{byteAt, wordAt}
 use Rattle.refusal.specs.Numbers.{imageLength, mapLength, linesLength, jobEnds, manyPages, pageNotRising, manyWords, addressOdd, addressNotRising, addressUnfitted, manyLines, jobLineBit, bytesLeft, readOnlyPage}
 use Rattle.refusal.specs.Page.{Page, refused, answered, Left, left, call, first}
 use Rattle.refusal.specs.Refusal.{plain}

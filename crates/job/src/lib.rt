@@ -1,7 +1,7 @@
 // Reads a job: three sections, each after its count, and perhaps a fourth. First the whole input is checked, then the lent buffers are filled.
 use refusal::number;
-use words::byte_at;
-use words::word_at;
+use wordbytes::byte_at;
+use wordbytes::word_at;
 ghost use mathlib.Core.Path.{_≡_};
 ghost use Prim.Native.Nat.{_+_, _≤_, _<_};
 ghost use lib.ListN.{length, getD, set, replicate};

@@ -6,21 +6,21 @@ use mathlib.Core.Bool.{Bool, true, false, not, _||_, cond}
 use mathlib.Core.List.{List, [], _∷_}
 use mathlib.Core.Path.{_≡_}
 use lib.Dec.{eqb}
-use Rattle.word.specs.declared.Flags.{Flags}
-use Rattle.word.specs.Address.{plus}
+use Rattle.wordmath.specs.declared.Flags.{Flags}
+use Rattle.wordmath.specs.Address.{plus}
 use Rattle.arith.specs.Branch.{_xor_}
 use Rattle.board.specs.Work.{wordAt}
 use Rattle.plate.specs.Plate.{formatOf}
-use Rattle.codes.specs.Fields.{highByte}
-use Rattle.format6.specs.Format5.{displacement}
+use Rattle.opcodes.specs.Fields.{highByte}
+use Rattle.formats5to6.specs.Format5.{displacement}
 use Rattle.state.specs.declared.State.{State}
 use Rattle.state.specs.declared.Settings.{Settings}
 use Rattle.state.specs.declared.Mode.the-variants.{Running}
 use Rattle.state.specs.State.{withPc, withMark}
 use Rattle.step.specs.declared.Turn.{Turn}
 use Rattle.step.specs.declared.Cause.the-variants as Cause
-use Rattle.words.specs.Words.{byteAt}
-use Rattle.firmware.specs.Layout.{stateFrom}
+use Rattle.wordbytes.specs.Words.{byteAt}
+use Rattle.machine_c.specs.Layout.{stateFrom}
 use Rattle.laws.specs.Mark.{Steps, LentSteps}
 
 -- a printed line: its name, the high byte, and when "PC ← PC + (DISP * 2)"

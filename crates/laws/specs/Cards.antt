@@ -26,12 +26,12 @@ use Rattle.refusal.specs.Page.{left, told}
 use Rattle.machine.specs.Entry.{powerWhy, finishedPage, runPage, steppedPage, stepPage}
 use Rattle.step.specs.declared.Turn.{Turn}
 use Rattle.step.specs.Step.{isBlank}
-use Rattle.words.specs.Words.{byteAt}
-use Rattle.words.specs.Words as Words
+use Rattle.wordbytes.specs.Words.{byteAt}
+use Rattle.wordbytes.specs.Words as Words
 use Rattle.machine.specs.declared.Stepped.{Stepped}
 use Rattle.machine.specs.declared.Stepped.the-variants as Stepped
-use Rattle.firmware.specs.Layout.{settingsFrom}
-use Rattle.firmware.specs.Calls.{stepCall, runCall}
+use Rattle.machine_c.specs.Layout.{settingsFrom}
+use Rattle.machine_c.specs.Calls.{stepCall, runCall}
 
 -- ---- FURTHER CARDS
 

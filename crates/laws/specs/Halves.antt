@@ -7,7 +7,7 @@ use Prim.Native.Nat.{ℕ, _+_, _≤_, _<_}
 use mathlib.Core.List.{List, [], _∷_, _++_}
 use mathlib.Core.Path.{_≡_}
 use Rattle.state.specs.declared.State.{State}
-use Rattle.words.specs.Words.{byteAt, wordAt}
+use Rattle.wordbytes.specs.Words.{byteAt, wordAt}
 use Rattle.machine.specs.declared.Ran.{Ran}
 use Rattle.machine.specs.declared.Finished.{Finished}
 use Rattle.machine.specs.declared.Finished.the-variants as Finished
@@ -21,9 +21,9 @@ use Rattle.refusal.specs.Page.{left, told}
 use Rattle.refusal.specs.Refusal.{allOf, plain}
 use Rattle.machine.specs.declared.Stepped.{Stepped}
 use Rattle.machine.specs.Entry.{powerWhy, steppedPage, finishedPage, stepPage, runPage}
-use Rattle.firmware.specs.Layout.{tallyBytes, settingsFrom, refusedStep}
+use Rattle.machine_c.specs.Layout.{tallyBytes, settingsFrom, refusedStep}
 use Rattle.machine.specs.Numbers.{none}
-use Rattle.firmware.specs.Calls.{stepCall, runCall}
+use Rattle.machine_c.specs.Calls.{stepCall, runCall}
 use Rattle.laws.specs.One.{asRun, uncaused, OneCall}
 use lib.Dec.{eqb}
 

@@ -8,8 +8,8 @@ use mathlib.Core.List.{List}
 use mathlib.Core.Path.{_≡_}
 use lib.Dec.{eqb}
 use Rattle.board.specs.Work.{Size, value, run, wordAt}
-use Rattle.word.specs.Address.{plus, minus}
-use Rattle.codes.specs.Fields.{highByte, register}
+use Rattle.wordmath.specs.Address.{plus, minus}
+use Rattle.opcodes.specs.Fields.{highByte, register}
 use Rattle.plate.specs.Plate.{formatOf}
 use Rattle.state.specs.declared.State.{State}
 use Rattle.state.specs.declared.Settings.{Settings}

@@ -6,7 +6,7 @@ use mathlib.Core.List.{List, [], _∷_}
 use mathlib.Core.Path.{_≡_}
 use lib.Dec.{eqb}
 use Rattle.board.specs.Work.{wordAt}
-use Rattle.word.specs.Number.{bit}
+use Rattle.wordmath.specs.Number.{bit}
 use Rattle.state.specs.declared.State.{State}
 use Rattle.state.specs.declared.Settings.{Settings}
 use Rattle.state.specs.declared.Mode.{Mode}
@@ -19,9 +19,9 @@ use Rattle.step.specs.Step.{causeNumber}
 use Rattle.machine.specs.declared.Powered.the-variants as Powered
 use Rattle.machine.specs.declared.Stepped.the-variants as Stepped
 use Rattle.refusal.specs.Page.{left, told}
-use Rattle.words.specs.Words.{byteAt}
-use Rattle.firmware.specs.Layout.{stateFrom}
-use Rattle.firmware.specs.Calls.{powerUpCall, stepCall}
+use Rattle.wordbytes.specs.Words.{byteAt}
+use Rattle.machine_c.specs.Layout.{stateFrom}
+use Rattle.machine_c.specs.Calls.{powerUpCall, stepCall}
 use Rattle.machine.specs.Entry.{poweredPage, steppedPage, powerUpPage, stepPage}
 
 -- IEN is 0002, SAVS 000B

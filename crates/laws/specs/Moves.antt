@@ -7,15 +7,15 @@ use mathlib.Core.List.{List, [], _++_}
 use mathlib.Core.Path.{_≡_}
 use lib.ListN.{length}
 use Rattle.board.specs.Work.{value, run, wordAt, withWord}
-use Rattle.word.specs.Number.{bit}
-use Rattle.word.specs.Address.{plus, minus}
-use Rattle.word.specs.Status.{flagsOf}
+use Rattle.wordmath.specs.Number.{bit}
+use Rattle.wordmath.specs.Address.{plus, minus}
+use Rattle.wordmath.specs.Status.{flagsOf}
 use Rattle.state.specs.declared.State.{State}
 use Rattle.state.specs.declared.Settings.{Settings}
 use Rattle.state.specs.declared.Mode.the-variants.{Running}
 use Rattle.state.specs.State.{reg, heard, psOf, withSp, withPc, withFlags, withMark}
 use Rattle.format8.specs.Format8.{rowOf, element}
-use Rattle.codes.specs.Fields.{blockSource, blockDestination}
+use Rattle.opcodes.specs.Fields.{blockSource, blockDestination}
 use Rattle.format8.specs.Page.{Plain, countOf}
 use Rattle.step.specs.declared.Turn.{Turn}
 use Rattle.step.specs.declared.Cause.the-variants as Cause
@@ -28,9 +28,9 @@ use Rattle.machine.specs.declared.Finished.the-variants as Finished
 use Rattle.machine.specs.Run.{noBlanks}
 use Rattle.machine.specs.Block.{blockMove}
 use Rattle.machine.specs.Entry.{finishedPage, runPage}
-use Rattle.firmware.specs.Layout.{stateFrom, settingsFrom}
-use Rattle.firmware.specs.Calls.{runCall}
-use Rattle.words.specs.Words.{byteAt}
+use Rattle.machine_c.specs.Layout.{stateFrom, settingsFrom}
+use Rattle.machine_c.specs.Calls.{runCall}
+use Rattle.wordbytes.specs.Words.{byteAt}
 use Rattle.laws.specs.Mark.{Steps, LentSteps}
 
 -- ---- runs one after another, each from where the last ended: `lines` are the line words of all, `blanks` the blanks of all

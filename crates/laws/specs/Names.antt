@@ -8,18 +8,18 @@ use mathlib.Core.List.{List, [], _∷_, _++_, map}
 use mathlib.Core.Path.{_≡_}
 use lib.Dec.{eqb, leb, ltb}
 use lib.ListN.{take, drop, getD}
-use Rattle.letters.specs.Digits.{letters}
-use Rattle.word.specs.declared.Flags.{Flags}
-use Rattle.word.specs.declared.Done.{Done}
-use Rattle.word.specs.Address.{plus}
-use Rattle.codes.specs.Fields.{highByte, onlyRegister, argument, register, count, destinationMode, destinationRegister, blockSource, blockDestination}
-use Rattle.codes.specs.declared.Immediate.{Immediate}
-use Rattle.codes.specs.declared.Immediate.the-variants.{Addi, Subi, Bici, Movi}
-use Rattle.codes.specs.declared.Way.{Way}
-use Rattle.codes.specs.declared.Way.the-variants.{RightRotate, LeftRotate, RightArith, LeftArith}
-use Rattle.codes.specs.declared.Unary.the-variants.{Ror, Rol, Tst, Asl, Set, Clr, Asr, Swap, Com, Neg, Inc, Dec}
-use Rattle.codes.specs.declared.Binary.the-variants.{Add, Sub, And, Bic, Bis, Xor, Cmp, Bit, Mov}
-use Rattle.codes.specs.declared.ByteBinary.the-variants.{Cmpb, Movb, Bisb}
+use Rattle.hexdigits.specs.Digits.{letters}
+use Rattle.wordmath.specs.declared.Flags.{Flags}
+use Rattle.wordmath.specs.declared.Done.{Done}
+use Rattle.wordmath.specs.Address.{plus}
+use Rattle.opcodes.specs.Fields.{highByte, onlyRegister, argument, register, count, destinationMode, destinationRegister, blockSource, blockDestination}
+use Rattle.opcodes.specs.declared.Immediate.{Immediate}
+use Rattle.opcodes.specs.declared.Immediate.the-variants.{Addi, Subi, Bici, Movi}
+use Rattle.opcodes.specs.declared.Way.{Way}
+use Rattle.opcodes.specs.declared.Way.the-variants.{RightRotate, LeftRotate, RightArith, LeftArith}
+use Rattle.opcodes.specs.declared.Unary.the-variants.{Ror, Rol, Tst, Asl, Set, Clr, Asr, Swap, Com, Neg, Inc, Dec}
+use Rattle.opcodes.specs.declared.Binary.the-variants.{Add, Sub, And, Bic, Bis, Xor, Cmp, Bit, Mov}
+use Rattle.opcodes.specs.declared.ByteBinary.the-variants.{Cmpb, Movb, Bisb}
 use Rattle.arith.specs.Immediate.{immediateOf}
 use Rattle.shift.specs.Shifted.{singleOf, doubleOf, preset}
 use Rattle.unary.specs.Ops.{iw2Of, sxtOf, adcOf, sbcOf}
@@ -32,9 +32,9 @@ use Rattle.state.specs.State.{reg, next, withPc, withFlags, withDone, withPair}
 use Rattle.operand.specs.Operand.{writeTo}
 use Rattle.operand.specs.Destination.{destination}
 use Rattle.format1.specs.Format1.{nop, ien, ids, halt, bpt, wfi, rsvc, rrtt, save, savs, rest, rrtn, rsts, rtt}
-use Rattle.control.specs.Format2.{iak, rtn, msko, prtn, lcc}
-use Rattle.control.specs.Format4.{svca, svc}
-use Rattle.format6.specs.Format5.{displacement}
+use Rattle.formats2to4.specs.Format2.{iak, rtn, msko, prtn, lcc}
+use Rattle.formats2to4.specs.Format4.{svca, svc}
+use Rattle.formats5to6.specs.Format5.{displacement}
 use Rattle.format7.specs.Format7.{tcall, tjmp, lsts, ssts}
 use Rattle.format8.specs.Format8.{down, rowFrom, element}
 use Rattle.format9.specs.Format9.{jsr, lea, ash, sob, xch, ashc, mul, div}

@@ -12,10 +12,10 @@ use Rattle.machine.specs.declared.Stepped.{Stepped}
 use Rattle.machine.specs.declared.Stepped.the-variants as Stepped
 use Rattle.machine.specs.declared.Finished.{Finished}
 use Rattle.machine.specs.declared.Finished.the-variants as Finished
-use Rattle.words.specs.Words.{byteAt, wordAt}
+use Rattle.wordbytes.specs.Words.{byteAt, wordAt}
 use Rattle.machine.specs.Numbers.{place, none}
 use Rattle.machine.specs.Run.{noted, noBlanks}
-use Rattle.firmware.specs.Layout.{tallyBytes}
+use Rattle.machine_c.specs.Layout.{tallyBytes}
 
 -- a step's turn as a run: its state, with its cause tallied at place 0
 abbrev pub ranOnce : Turn → Ran

@@ -22,8 +22,8 @@ use Rattle.recorder.specs.declared.Answer.the-variants as Answer
 use Rattle.recorder.specs.declared.Reported.{Reported}
 use Rattle.recorder.specs.declared.Reported.the-variants as Reported
 use Rattle.recorder.specs.Scan.{begun, answerPage, plugPage, reportedPage, scanOf, reportPage}
-use Rattle.lentrecorder.specs.Layout.{channelsFrom, reportBytes}
-use Rattle.lentrecorder.specs.Calls.{scanCall, reportCall}
+use Rattle.recorder_c.specs.Layout.{channelsFrom, reportBytes}
+use Rattle.recorder_c.specs.Calls.{scanCall, reportCall}
 
 -- ---- calls of `scan`, one after another
 

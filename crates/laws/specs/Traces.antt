@@ -6,12 +6,12 @@ use Prim.Native.Nat.{ℕ, _<_}
 use mathlib.Core.List.{List}
 use mathlib.Core.Path.{_≡_}
 use lib.ListN.{length}
-use Rattle.words.specs.Words.{byteAt, wordAt}
+use Rattle.wordbytes.specs.Words.{byteAt, wordAt}
 use Rattle.job.specs.Job.{whyJob}
 use Rattle.trace.specs.Trace.{rightTrace, traceBytes, toldIn}
 use Rattle.trace.specs.First.{AtStep, EndsAt}
 use Rattle.refusal.specs.Page.{told}
-use Rattle.tracecall.specs.Calls.{checkCall}
+use Rattle.trace_c.specs.Calls.{checkCall}
 
 -- ---- accepted exactly when it is the manual's trace: the answer is 0 and the verdict's first word is 0
 

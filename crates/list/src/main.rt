@@ -1,9 +1,9 @@
 // Reads two addresses and a job on standard input, and prints the listing of the stretch of the job's image from the first to the
 // last; a refusal is printed as bench's. Where the answer could not be written standard error says so.
+use benchline::Printed;
 use libc::STDERR_FILENO;
 use libc::STDIN_FILENO;
 use libc::STDOUT_FILENO;
-use line::Printed;
 ghost use mathlib.Core.Path.{_≡_};
 ghost use lib.ListN.{length};
 
@@ -25,7 +25,7 @@ fn print_end(text: &[u8], n: usize) -> bool {
 
 fn print_refused(why: u8) -> bool {
     let mut text = [0u8; 16];
-    match line::write_refused(&mut text, why) {
+    match benchline::write_refused(&mut text, why) {
         Printed::Line(n) => print_end(&text, n),
         Printed::Refused(_) => false,
     }

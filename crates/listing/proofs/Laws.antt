@@ -11,14 +11,14 @@ use borrow.Author.Tests.{le-ltb, lt-ltb, ltb-false, not-true, not-false}
 use lib.Dec.{ltb}
 use lib.ListN.{length, take, getD}
 use lib.Seq.{length-take-le}
-use Rattle.letters.specs.Digits.{hex4}
-use Rattle.letters.specs.Over.{over, Wrote}
+use Rattle.hexdigits.specs.Digits.{hex4}
+use Rattle.hexdigits.specs.Over.{over, Wrote}
 use Rattle.refusal.specs.Numbers.{noStretch, textShort}
 use Rattle.refusal.specs.Page.{refused, answered, left}
 use Rattle.refusal.proofs.Laws.Page.{first-some, first-both}
 use Rattle.refusal.proofs.Laws.Page as PageLaws
 use Rattle.refusal.specs.Refusal.{boardRefusal}
-use Rattle.words.specs.Words.{wordAt}
+use Rattle.wordbytes.specs.Words.{wordAt}
 use Rattle.board.specs.Work.{fitted}
 use Rattle.optext.specs.declared.Written.{Written}
 use Rattle.optext.specs.declared.Written.the-variants.{Line}

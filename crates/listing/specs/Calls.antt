@@ -4,7 +4,7 @@ use mathlib.Core.Bool.{Bool, _||_, cond}
 use mathlib.Core.List.{List}
 use lib.ListN.{length}
 use lib.Dec.{eqb, ltb}
-use Rattle.letters.specs.Over.{over}
+use Rattle.hexdigits.specs.Over.{over}
 use Rattle.refusal.specs.Numbers.{noStretch, textShort}
 use Rattle.refusal.specs.Page.{Page, refused, answered, Left, left, call, first}
 use Rattle.refusal.specs.Refusal.{boardRefusal}

@@ -6,9 +6,9 @@ use mathlib.Core.List.{List, [], _∷_, _++_}
 use mathlib.Core.Path.{_≡_}
 use lib.ListN.{take, getD}
 use lib.Dec.{leb, ltb}
-use Rattle.words.specs.Words.{wordAt}
+use Rattle.wordbytes.specs.Words.{wordAt}
 use Rattle.board.specs.Work.{fitted}
-use Rattle.line.specs.Line.{dashes, fields}
+use Rattle.benchline.specs.Line.{dashes, fields}
 use Rattle.optext.specs.Line.{wordText, taken, textOf}
 use Rattle.listing.specs.declared.Found.{Found}
 use Rattle.listing.specs.declared.Found.the-variants.{Nothing, Cut, Whole}

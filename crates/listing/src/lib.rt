@@ -1,19 +1,19 @@
 // A listing of a stretch of an image, a line at a time.
-use letters::hex;
+use hexdigits::hex;
 use optext::Written;
 use refusal::board_refusal;
 use refusal::number::NO_STRETCH;
 use refusal::number::TEXT_SHORT;
-use words::byte_at;
-use words::word_at;
+use wordbytes::byte_at;
+use wordbytes::word_at;
 ghost use mathlib.Core.Path.{_≡_};
 ghost use mathlib.Core.List.{[], _∷_};
 ghost use Prim.Native.Nat.{_+_, _*_, _≤_, _<_};
 ghost use lib.ListN.{length, take, getD};
-ghost use Rattle.letters.specs.Over.{Wrote, WroteAt};
-ghost use Rattle.words.specs.Words.{wordAt};
+ghost use Rattle.hexdigits.specs.Over.{Wrote, WroteAt};
+ghost use Rattle.wordbytes.specs.Words.{wordAt};
 ghost use Rattle.board.specs.Work as Work;
-ghost use Rattle.line.specs.Line.{dashes, field, fields};
+ghost use Rattle.benchline.specs.Line.{dashes, field, fields};
 ghost use Rattle.optext.specs.Line.{taken, textOf, wordText};
 ghost use Rattle.listing.specs.Listing as Spec;
 ghost use Rattle.refusal.specs.Page.{answered, left};

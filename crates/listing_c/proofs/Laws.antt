@@ -5,12 +5,12 @@ use mathlib.Core.Bool.{Bool, true, false, cond}
 use mathlib.Core.List.{List, [], _∷_}
 use mathlib.Core.Path.{_≡_, refl, ap}
 use lib.ListN.{length, take, getD, length-append}
-use Rattle.words.specs.Words.{wordAt}
+use Rattle.wordbytes.specs.Words.{wordAt}
 use Rattle.refusal.specs.Page.{Page, refused, refusedAt, answered, left, call, told}
-use Rattle.letters.specs.Over.{over}
+use Rattle.hexdigits.specs.Over.{over}
 use Rattle.board.specs.Work.{fitted}
-use Rattle.line.specs.Line.{dashes, fields}
-use Rattle.line.proofs.Laws.Lengths.{fields-length}
+use Rattle.benchline.specs.Line.{dashes, fields}
+use Rattle.benchline.proofs.Laws.Lengths.{fields-length}
 use Rattle.optext.specs.Line.{wordText, taken, textOf}
 use Rattle.optext.proofs.Laws.Longest.{text-le}
 use Rattle.optext.proofs.Laws.Meets.{taken-le}

@@ -8,19 +8,19 @@ use native.Mathlib.Omega.{arith}
 use borrow.Author.Tests.{le-ltb, lt-ltb, le-leb, lt-leb, leb-true, ltb-false}
 use lib.Dec.{ltb, leb}
 use lib.ListN.{length, length-append, take, drop, getD}
-use Rattle.letters.specs.Over.{over, Wrote, WroteAt}
-use Rattle.letters.proofs.Laws.Laid.{then, wrote-none, part-room}
+use Rattle.hexdigits.specs.Over.{over, Wrote, WroteAt}
+use Rattle.hexdigits.proofs.Laws.Laid.{then, wrote-none, part-room}
 use borrow.Rule.Slice.PartMut.{midOf}
 use Rattle.refusal.specs.Numbers.{jobEnds, noStretch, textShort}
 use Rattle.refusal.specs.Page.{refused, answered, left, call, first}
 use Rattle.refusal.proofs.Laws.Page.{first-some, first-both, answered-one, refused-one, apart, call-right, call-refused}
-use Rattle.words.specs.Words.{wordAt}
+use Rattle.wordbytes.specs.Words.{wordAt}
 use Rattle.board.specs.Work.{fitted}
 use Rattle.refusal.specs.Refusal.{boardRefusal, powerRefusal, runRefusal}
 use Rattle.job.proofs.Laws.Sound.{job-taken}
 use Rattle.job.specs.Job.{imageOf, mapOf, linesOf, Filled, whyRead}
-use Rattle.line.specs.Line.{fields, dashes, printWhy}
-use Rattle.line.proofs.Laws.Lengths.{fields-length}
+use Rattle.benchline.specs.Line.{fields, dashes, printWhy}
+use Rattle.benchline.proofs.Laws.Lengths.{fields-length}
 use Rattle.optext.specs.Line.{wordText, taken, textOf}
 use Rattle.optext.proofs.Laws.Meets.{taken-le}
 use Rattle.optext.proofs.Laws.Longest.{text-le}

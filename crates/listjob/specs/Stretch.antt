@@ -5,12 +5,12 @@ use mathlib.Core.List.{List, [], _∷_, _++_}
 use mathlib.Core.Path.{_≡_}
 use lib.Dec.{ltb}
 use lib.ListN.{length, drop}
-use Rattle.words.specs.Words.{wordAt}
-use Rattle.letters.specs.Over.{over}
+use Rattle.wordbytes.specs.Words.{wordAt}
+use Rattle.hexdigits.specs.Over.{over}
 use Rattle.refusal.specs.Numbers.{jobEnds, noStretch}
 use Rattle.refusal.specs.Page.{Page, refused, answered, Left, left, call, first}
 use Rattle.job.specs.Job.{imageOf, mapOf, linesOf, whyRead}
-use Rattle.line.specs.Line.{printWhy}
+use Rattle.benchline.specs.Line.{printWhy}
 use Rattle.listing.specs.Listing.{lineAt, nextAt, listingOf}
 use Rattle.listing.specs.declared.Listed.{Listed}
 use Rattle.listing.specs.declared.Listed.the-variants.{Line, Last, Refused}

@@ -1,16 +1,16 @@
 // A listing from end to end: the bytes of two addresses and a job in, the stretch's lines out.
-use line::Printed;
+use benchline::Printed;
 use listing::Listed;
 use refusal::number::JOB_ENDS;
 use refusal::number::NO_STRETCH;
 use refusal::number::TEXT_SHORT;
-use words::word_at;
+use wordbytes::word_at;
 ghost use mathlib.Core.Path.{_≡_};
 ghost use Prim.Native.Nat.{_+_, _≤_};
 ghost use lib.ListN.{length};
-ghost use Rattle.letters.specs.Over.{Wrote, WroteAt};
+ghost use Rattle.hexdigits.specs.Over.{Wrote, WroteAt};
 ghost use Rattle.refusal.specs.Page.{left};
-ghost use Rattle.line.specs.Line.{printedPage};
+ghost use Rattle.benchline.specs.Line.{printedPage};
 ghost use Rattle.listing.specs.Calls.{lineWhy};
 ghost use Rattle.listjob.specs.Stretch as Spec;
 

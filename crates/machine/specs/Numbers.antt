@@ -1,8 +1,8 @@
 -- The answers of the public calls in the page's numbers.
 use Prim.Native.Nat.{ℕ, _+_, _*_}
 use mathlib.Core.List.{List, [], _∷_}
-use Rattle.word.specs.declared.Flags.{Flags}
-use Rattle.word.specs.Number.{digit}
+use Rattle.wordmath.specs.declared.Flags.{Flags}
+use Rattle.wordmath.specs.Number.{digit}
 use Rattle.state.specs.declared.State.{State}
 use Rattle.state.specs.State.{modeNumber}
 use Rattle.step.specs.declared.Turn.{Turn}

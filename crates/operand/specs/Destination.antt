@@ -1,6 +1,6 @@
 -- A decoded operand and its value, for the op codes that read one.
 use Prim.Native.Nat.{ℕ}
-use Rattle.codes.specs.Fields.{destinationMode, destinationRegister}
+use Rattle.opcodes.specs.Fields.{destinationMode, destinationRegister}
 use Rattle.board.specs.Work.{Work, give, Size, _>>=_, _>>_}
 use Rattle.board.specs.Exec.{Store, Now, good, gone}
 use Rattle.state.specs.declared.State.{State}

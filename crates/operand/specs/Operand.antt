@@ -12,7 +12,7 @@ use Rattle.state.specs.declared.State.{State}
 use Rattle.state.specs.declared.Went.{Went}
 use Rattle.state.specs.declared.Went.the-variants as Went
 use Rattle.state.specs.State.{reg, withReg}
-use Rattle.word.specs.Address.{plus, minus}
+use Rattle.wordmath.specs.Address.{plus, minus}
 use Rattle.operand.specs.declared.Place.{Place}
 use Rattle.operand.specs.declared.Place.the-variants.{Reg, Mem}
 use Rattle.operand.specs.declared.Found.{Found}

@@ -8,7 +8,7 @@ use lib.ListN.{getD}
 use Rattle.optext.specs.declared.rows.Kind.{Kind}
 use Rattle.optext.specs.declared.rows.Kind.the-variants.{None, Mask, Disp, Reg, Arg4, Arg6, Count, High, Mid, Dst, Addr, Src, Word}
 use Rattle.optext.specs.First.{firstFrom}
-use Rattle.letters.specs.Digits.{letters, hexOf, hex4, hex2}
+use Rattle.hexdigits.specs.Digits.{letters, hexOf, hex4, hex2}
 use Rattle.optext.specs.Rows.{wordRow, baseOf, firstOf, secondOf, nameOf}
 
 -- a register's name, R0 to R5, SP, PC

@@ -8,7 +8,7 @@ use lib.Dec.{eqb}
 use lib.ListN.{getD}
 use Rattle.optext.specs.declared.rows.Kind.{Kind}
 use Rattle.optext.specs.declared.rows.Kind.the-variants.{None, Mask, Disp, Reg, Arg4, Arg6, Count, High, Mid, Dst, Addr, Src, Word}
-use Rattle.letters.specs.Digits.{letters, hex4}
+use Rattle.hexdigits.specs.Digits.{letters, hex4}
 
 -- the operands are in the order of the manual's FORMAT
 pub record Row : Type 0 where

@@ -11,8 +11,8 @@ use borrow.Author.Tests.{eq-eqb, ne-eqb, lt-ltb, le-ltb}
 use lib.Dec.{eqb}
 use lib.ListN.{length, take, drop, getD, length-append, length-take, length-drop, List·getD-eq-default}
 use lib.Seq.{take-all}
-use Rattle.letters.specs.Digits.{letters, hex4}
-use Rattle.letters.specs.Over.{over, Left, left, written}
+use Rattle.hexdigits.specs.Digits.{letters, hex4}
+use Rattle.hexdigits.specs.Over.{over, Left, left, written}
 use Rattle.optext.specs.declared.Op.{Op}
 use Rattle.optext.specs.Digits.{unHex4}
 use Rattle.optext.specs.Read.{same}

@@ -8,7 +8,7 @@ use Prim.Native.Nat.{ℕ, suc, _+_, _-_, _≤_, _<_}
 use native.Mathlib.Omega.{arith}
 use lib.ListN.{length, drop, length-append, length-take, length-drop}
 use lib.Seq.{length-take-le}
-use Rattle.letters.specs.Digits.{letters}
+use Rattle.hexdigits.specs.Digits.{letters}
 use Rattle.optext.specs.Line.{lineText}
 use Rattle.optext.specs.Guess.{guessOf}
 use Rattle.optext.specs.Words.{wordsOf}

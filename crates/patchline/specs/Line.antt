@@ -4,11 +4,11 @@ use mathlib.Core.List.{List, [], _∷_, _++_}
 use Prim.Native.Nat.{ℕ, _+_, _/_, _%_}
 use lib.Dec.{ltb, leb, eqb}
 use lib.ListN.{length, drop, getD}
-use Rattle.letters.specs.Digits.{letters, hex4}
+use Rattle.hexdigits.specs.Digits.{letters, hex4}
 use Rattle.optext.specs.declared.Op.{Op}
 use Rattle.optext.specs.Digits.{unHex4}
 use Rattle.optext.specs.Read.{same, readOf, opOf}
-use Rattle.word.specs.Address.{plus, minus}
+use Rattle.wordmath.specs.Address.{plus, minus}
 use Rattle.patchline.specs.Text.{partOf, placeOf, isName}
 use Rattle.patchline.specs.declared.oneline.How.{How}
 use Rattle.patchline.specs.declared.oneline.How.the-variants.{Unknown, Origin, Plain, Branch, Sob, Relative}

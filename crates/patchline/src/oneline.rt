@@ -3,7 +3,7 @@ ghost use mathlib.Core.Path.{_≡_};
 ghost use mathlib.Core.Bool.{_&&_};
 ghost use Prim.Native.Nat.{_+_, _≤_, _<_};
 ghost use lib.ListN.{length, take, drop, getD};
-ghost use Rattle.letters.specs.Over.{Wrote, WroteAt};
+ghost use Rattle.hexdigits.specs.Over.{Wrote, WroteAt};
 ghost use Rattle.patchline.specs.Line.{operandsAt, commaAt, firstIn, secondIn, atOf, labelIn, filledIn, aliasOf, tailOf, filled, isNumber, isDirective, isBranch, isSob, op, opIn, saidOf, saidWith, reaches, withLabel, withOffset};
 ghost use Rattle.patchline.specs.Line as Spec;
 use crate::text::is_name;
@@ -13,9 +13,9 @@ use crate::text::same;
 use optext::Op;
 use optext::reading::after;
 use optext::reading::un_hex4;
-use word::address::minus;
-use word::address::plus;
-use words::byte_at;
+use wordbytes::byte_at;
+use wordmath::address::minus;
+use wordmath::address::plus;
 
 // How a line is taken.
 pub enum How {
@@ -197,7 +197,7 @@ fn is_number(t: &[u8]) -> bool
     ensures { λ r. ⌜ r ≡ isNumber (now (t .entry)) ⌝ }
 {
     let mut digits = [0u8; 4];
-    letters::put_hex4(&mut digits, un_hex4(t));
+    hexdigits::put_hex4(&mut digits, un_hex4(t));
     same(t, &digits)
 }
 

@@ -8,7 +8,7 @@ ghost use Rattle.optext.specs.Read as Read;
 ghost use Rattle.patchline.specs.Text.{partOf, isAt, placeOf, isPast, pastOf, isRegister, isName, endFrom, shown, restFrom, labelOf, restOf};
 ghost use Rattle.patchline.specs.Text as Spec;
 use optext::reading::after;
-use words::byte_at;
+use wordbytes::byte_at;
 
 // Do two texts have the same bytes?
 pub(crate) fn same(a: &[u8], b: &[u8]) -> bool

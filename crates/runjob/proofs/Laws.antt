@@ -5,7 +5,7 @@ use mathlib.Core.Path.{_≡_, refl, sym, ap, _∙_}
 use native.Mathlib.Omega.{arith}
 use borrow.Author.Tests.{le-leb, lt-leb}
 use lib.ListN.{length, take}
-use Rattle.words.specs.Words.{wordAt}
+use Rattle.wordbytes.specs.Words.{wordAt}
 use Rattle.refusal.specs.Numbers.{textShort}
 use Rattle.refusal.specs.Page.{refused, answered, left}
 use Rattle.refusal.proofs.Laws.Page.{answered-one, call-refused, call-right, call-told}
@@ -19,12 +19,12 @@ use Rattle.machine.specs.Entry.{finishedPage}
 use Rattle.machine.proofs.Laws.Back.{ran-one}
 use Rattle.job.specs.Job.{linesAt, imageOf, mapOf, linesOf, lineWords, Filled, whyRead}
 use Rattle.job.proofs.Laws.Sound.{job-taken}
-use Rattle.letters.specs.Over.{over}
-use Rattle.line.specs.declared.Printed.{Printed}
-use Rattle.line.specs.Line.{printedPage, printOf}
-use Rattle.line.proofs.Laws.{line-length}
-use Rattle.line.proofs.Laws.Printed.{printed-fits}
-use Rattle.report.specs.Report.{endOn, benchBoard, endText}
+use Rattle.hexdigits.specs.Over.{over}
+use Rattle.benchline.specs.declared.Printed.{Printed}
+use Rattle.benchline.specs.Line.{printedPage, printOf}
+use Rattle.benchline.proofs.Laws.{line-length}
+use Rattle.benchline.proofs.Laws.Printed.{printed-fits}
+use Rattle.endline.specs.Report.{endOn, benchBoard, endText}
 use Rattle.runjob.specs.declared.Begun.{Begun}
 use Rattle.runjob.specs.Bench.{upOf, Accepted, Begins, runIn, ranAt, jobRun, lineAt, benchOf}
 

@@ -3,16 +3,16 @@ use Prim.Native.Nat.{ℕ, _≤_}
 use mathlib.Core.List.{List}
 use mathlib.Core.Path.{_≡_}
 use lib.ListN.{length, take}
-use Rattle.words.specs.Words.{wordAt}
+use Rattle.wordbytes.specs.Words.{wordAt}
 use Rattle.step.specs.Step.{Up, up, powerUpOf}
 use Rattle.refusal.specs.Page.{answered, Left, left, call, first}
 use Rattle.machine.specs.Numbers.{RanPage, ranPage}
 use Rattle.machine.specs.Run.{End, end, runOf}
 use Rattle.machine.specs.Door.{Good}
 use Rattle.job.specs.Job.{linesAt, imageOf, mapOf, linesOf, lineWords, whyRead}
-use Rattle.letters.specs.Over.{over}
-use Rattle.line.specs.Line.{printWhy}
-use Rattle.report.specs.Report.{benchBoard, endText}
+use Rattle.hexdigits.specs.Over.{over}
+use Rattle.benchline.specs.Line.{printWhy}
+use Rattle.endline.specs.Report.{benchBoard, endText}
 use Rattle.runjob.specs.declared.Begun.{Begun}
 
 -- ---- a job's beginning: its board after power-up

@@ -1,19 +1,19 @@
 // A job from end to end: its bytes in, bench's line out.
-use line::Printed;
+use benchline::Printed;
+use endline::bench_board;
 use machine::Finished;
 use machine::Ran;
 use machine::door;
 use refusal::number::TEXT_SHORT;
-use report::bench_board;
 use state::State;
 ghost use mathlib.Core.Path.{_≡_};
 ghost use Prim.Native.Nat.{_≤_};
 ghost use lib.ListN.{length, take};
 ghost use Rattle.refusal.specs.Page.{left};
-ghost use Rattle.line.specs.Line.{printedPage};
+ghost use Rattle.benchline.specs.Line.{printedPage};
 ghost use Rattle.machine.specs.Entry.{finishedPage};
 ghost use Rattle.machine.specs.Door.{Good, Runs};
-ghost use Rattle.report.specs.Report.{benchBoard};
+ghost use Rattle.endline.specs.Report.{benchBoard};
 ghost use Rattle.runjob.specs.Bench as Spec;
 
 // Where a job begins: the state after power-up, and the number of its line words.
@@ -72,7 +72,7 @@ pub fn run_job(
         return Printed::Refused(TEXT_SHORT);
     }
     match run(input, image, map, lines) {
-        Finished::Done(ran) => report::write_end(text, ran),
+        Finished::Done(ran) => endline::write_end(text, ran),
         Finished::Refused(why) => Printed::Refused(why),
     }
 }

@@ -3,8 +3,8 @@ use Prim.Native.Nat.{ℕ, _+_}
 use mathlib.Core.Path.{_≡_, refl}
 use native.Mathlib.Numerals.{add-one}
 use Rattle.shift.specs.declared.Turn.{Turn}
-use Rattle.codes.specs.declared.Way.{Way}
-use Rattle.codes.specs.declared.Way.the-variants.{RightRotate, LeftRotate, RightArith, LeftArith}
+use Rattle.opcodes.specs.declared.Way.{Way}
+use Rattle.opcodes.specs.declared.Way.the-variants.{RightRotate, LeftRotate, RightArith, LeftArith}
 use Rattle.shift.specs.Shift.{turn, turns}
 use Rattle.shift.specs.Shifted.{nBit}
 

@@ -3,9 +3,9 @@ use Prim.Native.Nat.{ℕ, zero, suc, _+_, _-_, _*_, _/_, _%_, _^_}
 use mathlib.Core.Bool.{Bool, false}
 use lib.Dec.{eqb}
 use Rattle.shift.specs.declared.Turn.{Turn}
-use Rattle.codes.specs.declared.Way.{Way}
-use Rattle.codes.specs.declared.Way.the-variants.{RightRotate, LeftRotate, RightArith, LeftArith}
-use Rattle.word.specs.Number.{sign, digit}
+use Rattle.opcodes.specs.declared.Way.{Way}
+use Rattle.opcodes.specs.declared.Way.the-variants.{RightRotate, LeftRotate, RightArith, LeftArith}
+use Rattle.wordmath.specs.Number.{sign, digit}
 
 -- x one bit to the right, with the bit b coming in at the top; bit 0 goes to C
 abbrev pub right : ℕ → Bool → ℕ → Turn

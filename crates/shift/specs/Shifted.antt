@@ -2,13 +2,13 @@
 use Prim.Native.Nat.{ℕ, _+_, _-_, _*_, _/_, _%_, _^_}
 use mathlib.Core.Bool.{true, false, cond}
 use lib.Dec.{ltb, eqb}
-use Rattle.word.specs.declared.Flags.{Flags}
-use Rattle.word.specs.declared.Done.{Done}
-use Rattle.word.specs.declared.Pair.{Pair}
+use Rattle.wordmath.specs.declared.Flags.{Flags}
+use Rattle.wordmath.specs.declared.Done.{Done}
+use Rattle.wordmath.specs.declared.Pair.{Pair}
 use Rattle.shift.specs.declared.Turn.{Turn}
-use Rattle.codes.specs.declared.Way.{Way}
-use Rattle.codes.specs.declared.Way.the-variants.{RightRotate, LeftRotate, RightArith, LeftArith}
-use Rattle.word.specs.Number.{bit, differ}
+use Rattle.opcodes.specs.declared.Way.{Way}
+use Rattle.opcodes.specs.declared.Way.the-variants.{RightRotate, LeftRotate, RightArith, LeftArith}
+use Rattle.wordmath.specs.Number.{bit, differ}
 use Rattle.shift.specs.Shift.{turn, turns}
 
 -- N is bit 7 after a right shift, the sign after a left one

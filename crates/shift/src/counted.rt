@@ -7,10 +7,10 @@ use super::shifted::leave_pair;
 use super::shifted::look;
 use super::shifted::n_bit;
 use super::turning::shift;
-use codes::Way;
-use word::Done;
-use word::Flags;
-use word::Pair;
+use opcodes::Way;
+use wordmath::Done;
+use wordmath::Flags;
+use wordmath::Pair;
 
 // SSRR, SSLR, SSRA, SSLA
 pub fn single(way: Way, count: u16, x: u16, f: Flags) -> Done

@@ -5,9 +5,9 @@ use super::Turn;
 use super::shifted::leave;
 use super::shifted::n_bit;
 use super::turning::turn;
-use codes::Way;
-use word::Done;
-use word::Flags;
+use opcodes::Way;
+use wordmath::Done;
+use wordmath::Flags;
 
 // ROR, ROL, ASR, ASL
 pub fn one_bit16(way: Way, d: u16, f: Flags) -> Done

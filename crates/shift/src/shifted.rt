@@ -3,10 +3,10 @@ ghost use mathlib.Core.Path.{_≡_};
 ghost use Prim.Native.Nat.{_<_, _^_};
 ghost use Rattle.shift.specs.Shifted.{nBit, leaves, leavesPair, looked, leavesLong};
 use super::Turn;
-use codes::Way;
-use word::Done;
-use word::Flags;
-use word::Pair;
+use opcodes::Way;
+use wordmath::Done;
+use wordmath::Flags;
+use wordmath::Pair;
 
 pub(crate) fn n_bit(way: Way) -> u16
     ensures { λ r. ⌜ (r ≡ nBit 16 way) × (r < 16) ⌝ }

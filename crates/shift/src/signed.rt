@@ -5,10 +5,10 @@ use super::Turn;
 use super::shifted::leave;
 use super::shifted::leave_long;
 use super::turning::shift;
-use codes::Way;
-use word::Done;
-use word::Flags;
-use word::Pair;
+use opcodes::Way;
+use wordmath::Done;
+use wordmath::Flags;
+use wordmath::Pair;
 
 // The indicators that every op code of format 9 but SOB begins with.
 pub fn preset() -> Flags

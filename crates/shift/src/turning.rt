@@ -3,7 +3,7 @@ ghost use mathlib.Core.Path.{_≡_};
 ghost use Prim.Native.Nat.{_-_, _<_, _≤_, _^_};
 ghost use Rattle.shift.specs.Shift.{right, left, turn, turns};
 use super::Turn;
-use codes::Way;
+use opcodes::Way;
 
 // What the highest of w bits counts.
 fn weight(w: u32) -> u32

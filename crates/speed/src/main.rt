@@ -68,7 +68,7 @@ fn sum(image: &[u8]) -> u32 {
 // Bench's line of a run.
 fn print_line(ran: Ran) {
     let mut text = [0u8; 61];
-    report::write_end(&mut text, ran);
+    endline::write_end(&mut text, ran);
     io::write_all(STDOUT_FILENO, &text);
 }
 
@@ -133,7 +133,13 @@ fn repeat(
     let mut i: u16 = 0;
     while i < runs {
         let state = last.state;
-        if let Finished::Done(ran) = machine::run(state, image, map, report::bench_board(), lines) {
+        if let Finished::Done(ran) = machine::run(
+            state,
+            image,
+            map,
+            endline::bench_board(),
+            lines,
+        ) {
             let tally = ran.tally;
             blanks = std::num::wrapping_add_u32(blanks, tally.blanks as u32);
             last = ran;
@@ -144,7 +150,7 @@ fn repeat(
 }
 
 fn powered(image: &mut [u8; 65536], map: &[u8; 256]) -> Powered {
-    machine::power_up(image, map, report::bench_board())
+    machine::power_up(image, map, endline::bench_board())
 }
 
 // A program is powered up once.

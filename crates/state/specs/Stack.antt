@@ -7,7 +7,7 @@ use Rattle.state.specs.declared.State.{State}
 use Rattle.state.specs.declared.Outside.{Outside}
 use Rattle.state.specs.declared.Mode.the-variants.{Running}
 use Rattle.state.specs.State.{reg, withReg, withSp, withPc, withI2, withMode, withMark, withStatus, psOf}
-use Rattle.word.specs.Address.{plus, minus}
+use Rattle.wordmath.specs.Address.{plus, minus}
 use Rattle.state.specs.Answer.{Taken, taken}
 
 -- ↓ SP, @SP ← v

@@ -1,13 +1,13 @@
 -- The state: R0 to R5, SP, PC, the indicators, I2, the mode and the mark of a late IEN. Only this file builds a state record; everyone else uses its named updates.
 use Prim.Native.Nat.{ℕ, _+_, _*_, _/_, _%_}
 use mathlib.Core.Bool.{Bool, false}
-use Rattle.word.specs.declared.Flags.{Flags}
+use Rattle.wordmath.specs.declared.Flags.{Flags}
 use Rattle.state.specs.Registers.{regOf, setReg}
-use Rattle.word.specs.declared.Done.{Done}
-use Rattle.word.specs.declared.Pair.{Pair}
-use Rattle.word.specs.Number.{bit}
-use Rattle.word.specs.Address.{plus}
-use Rattle.word.specs.Status.{formed, flagsOf, enableOf}
+use Rattle.wordmath.specs.declared.Done.{Done}
+use Rattle.wordmath.specs.declared.Pair.{Pair}
+use Rattle.wordmath.specs.Number.{bit}
+use Rattle.wordmath.specs.Address.{plus}
+use Rattle.wordmath.specs.Status.{formed, flagsOf, enableOf}
 use Rattle.state.specs.declared.State.{State}
 use Rattle.state.specs.declared.Outside.{Outside}
 use Rattle.state.specs.declared.Settings.{Settings}

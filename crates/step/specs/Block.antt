@@ -10,7 +10,7 @@ use Rattle.state.specs.declared.Outside.{Outside}
 use Rattle.state.specs.declared.Mode.the-variants.{Running}
 use Rattle.state.specs.State.{reg}
 use Rattle.format8.specs.Format8.{rowOf}
-use Rattle.codes.specs.Fields.{blockSource, blockDestination}
+use Rattle.opcodes.specs.Fields.{blockSource, blockDestination}
 use Rattle.format8.specs.Page.{sourceBy, destinationBy, along}
 use Rattle.step.specs.declared.Kind.the-variants.{OpCode}
 use Rattle.step.specs.Xct.{code}

@@ -7,7 +7,7 @@ use Rattle.state.specs.declared.State.{State}
 use Rattle.state.specs.declared.Outside.{Outside}
 use Rattle.state.specs.declared.Mode.the-variants.{Running, Saved}
 use Rattle.state.specs.State.{reg, withReg, withMode, withStatus, psOf}
-use Rattle.word.specs.Address.{twice}
+use Rattle.wordmath.specs.Address.{twice}
 
 -- register k has place k; the ninth is that of PS
 abbrev pub placeOf : ℕ → ℕ

@@ -14,7 +14,7 @@ use Rattle.state.specs.declared.Went.{Went}
 use Rattle.state.specs.declared.Went.the-variants as Went
 use Rattle.state.specs.declared.Mode.the-variants.{Running, Waiting, PowerHalt, SwitchHalt, Locked, Saved}
 use Rattle.state.specs.State.{withPc, withMode, psOf, cleared, heard}
-use Rattle.word.specs.Address.{plus, twice}
+use Rattle.wordmath.specs.Address.{plus, twice}
 use Rattle.state.specs.Stack.{fromLoc, tabled, trap, trapNow}
 use Rattle.step.specs.Xct.{opWork}
 use Rattle.step.specs.Places.{save, restore}

@@ -6,7 +6,7 @@ use state::Outside;
 use state::Settings;
 use state::State;
 use state::Went;
-use word::address::plus;
+use wordmath::address::plus;
 use xct::op_work;
 ghost use mathlib.Core.Bool.{cond, false};
 ghost use mathlib.Core.Path.{_≡_};

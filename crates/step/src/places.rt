@@ -6,7 +6,7 @@ use state::Outside;
 use state::State;
 use state::Went;
 use state::unwritten;
-use word::address::plus;
+use wordmath::address::plus;
 ghost use mathlib.Core.Path.{_≡_};
 ghost use Rattle.board.specs.Exec.{beside, Lent, Board, Saw, Did, keptAs};
 ghost use Rattle.state.specs.Answer.{Works, wentAs};

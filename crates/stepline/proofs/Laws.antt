@@ -8,17 +8,17 @@ use native.Mathlib.Omega.{arith}
 use borrow.Author.Tests.{le-ltb, lt-ltb, ltb-false, not-true, not-false}
 use lib.Dec.{ltb}
 use lib.ListN.{length, getD, take, length-append}
-use Rattle.letters.specs.Over.{Wrote, WroteAt}
-use Rattle.letters.proofs.Laws.Laid.{wrote-none, then}
-use Rattle.words.specs.Words.{wordAt}
+use Rattle.hexdigits.specs.Over.{Wrote, WroteAt}
+use Rattle.hexdigits.proofs.Laws.Laid.{wrote-none, then}
+use Rattle.wordbytes.specs.Words.{wordAt}
 use Rattle.board.specs.Work.{fitted}
 use Rattle.refusal.specs.Numbers.{textShort}
 use Rattle.refusal.specs.Page.{refused, answered, Left, left, call}
 use Rattle.refusal.specs.Refusal.{boardRefusal, powerRefusal, stepRefusal}
 use Rattle.refusal.proofs.Laws.Page.{first-some, first-both, apart, answered-one, call-refused, call-answered}
 use Rattle.refusal.proofs.Laws.Refusal.{Sound, step-sound}
-use Rattle.line.specs.Line.{fields, dashes}
-use Rattle.line.proofs.Laws.Lengths.{fields-length}
+use Rattle.benchline.specs.Line.{fields, dashes}
+use Rattle.benchline.proofs.Laws.Lengths.{fields-length}
 use Rattle.optext.specs.Line.{taken, textOf, wordText}
 use Rattle.optext.proofs.Laws.Longest.{text-le}
 use Rattle.optext.proofs.Laws.Meets.{taken-le}

@@ -6,9 +6,9 @@ use mathlib.Core.Bool.{Bool, false, cond}
 use mathlib.Core.List.{List, [], _∷_, _++_}
 use lib.ListN.{length, getD}
 use lib.Dec.{eqb, ltb}
-use Rattle.letters.specs.Digits.{hexOf}
-use Rattle.letters.specs.Over.{over}
-use Rattle.words.specs.Words.{byteAt, wordAt}
+use Rattle.hexdigits.specs.Digits.{hexOf}
+use Rattle.hexdigits.specs.Over.{over}
+use Rattle.wordbytes.specs.Words.{byteAt, wordAt}
 use Rattle.state.specs.declared.State.{State}
 use Rattle.state.specs.declared.Settings.{Settings}
 use Rattle.state.specs.State.{modeNumber, psOf, heard}

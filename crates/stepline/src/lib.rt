@@ -1,5 +1,5 @@
 // A step and its line: what stood at PC, what the step changed, why, and the words that it wrote.
-use letters::hex;
+use hexdigits::hex;
 use listing::Listed;
 use listing::list_line;
 use refusal::number::TEXT_SHORT;
@@ -11,12 +11,12 @@ use step::Turn;
 use step::is_code;
 use step::kind_of;
 use step::logged;
-use words::byte_at;
-use words::word_at;
+use wordbytes::byte_at;
+use wordbytes::word_at;
 ghost use mathlib.Core.Path.{_≡_};
 ghost use Prim.Native.Nat.{_+_, _*_, _≤_};
 ghost use lib.ListN.{length};
-ghost use Rattle.letters.specs.Over.{Wrote, WroteAt};
+ghost use Rattle.hexdigits.specs.Over.{Wrote, WroteAt};
 ghost use Rattle.board.specs.Exec.{Board, Lent, beside, count};
 ghost use Rattle.state.specs.State.{heard};
 ghost use Rattle.step.specs.Step.{causeNumber, stepOf};

@@ -1,10 +1,10 @@
 // Reads a board and a job on standard input, powers up, and steps over the job's line words: a line for each step; a refused job is its
 // line alone. The board is its four settings as for C, a byte each. Where the answer could not be written standard error says so.
+use benchline::Printed;
 use job::Answer;
 use libc::STDERR_FILENO;
 use libc::STDIN_FILENO;
 use libc::STDOUT_FILENO;
-use line::Printed;
 use machine::Powered;
 use refusal::number::LINES_LENGTH;
 use state::Settings;
@@ -24,7 +24,7 @@ fn put_line(text: &[u8], n: usize) -> bool {
 
 fn put_refused(why: u8) -> bool {
     let mut text = [0u8; 16];
-    match line::write_refused(&mut text, why) {
+    match benchline::write_refused(&mut text, why) {
         Printed::Line(n) => put_line(&text, n),
         Printed::Refused(_) => false,
     }

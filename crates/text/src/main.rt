@@ -1,7 +1,7 @@
 // Reads the text of an op code, a line of standard input, and prints its words; a line of the op code's words in hex is written as text. A line that is refused is printed with a mark under its column and the reason in words. An input of over 65,536 bytes is not answered: standard error says so, and where the answer could not be written. Each function that prints answers whether all was written.
 ghost use Prim.Native.Nat.{_≤_, _<_};
 ghost use lib.ListN.{length};
-use letters::put_hex4;
+use hexdigits::put_hex4;
 use libc::STDERR_FILENO;
 use libc::STDIN_FILENO;
 use libc::STDOUT_FILENO;

@@ -7,15 +7,15 @@ use native.Mathlib.Omega.{arith}
 use lib.ListN.{length, take}
 use lib.Seq.{sets, sets-eq, length-take-le}
 use borrow.Author.Tests.{le-leb, lt-leb}
-use Rattle.words.specs.Words.{wordAt, bytesIn}
-use Rattle.letters.specs.Over.{over}
+use Rattle.wordbytes.specs.Words.{wordAt, bytesIn}
+use Rattle.hexdigits.specs.Over.{over}
 use Rattle.step.specs.Step.{After}
 use Rattle.refusal.specs.Numbers.{outputShort}
 use Rattle.refusal.specs.Page.{refused, answered, left}
 use Rattle.machine.proofs.Laws.Counted.{trail-length}
 use Rattle.job.specs.Job.{linesAt, mapOf, linesOf, lineWords, whyRead}
 use Rattle.job.proofs.Laws.Sound.{lines-length}
-use Rattle.report.specs.Report.{benchBoard}
+use Rattle.endline.specs.Report.{benchBoard}
 use Rattle.runjob.specs.declared.Begun.{Begun}
 use Rattle.runjob.specs.Bench.{upOf, Begins}
 use Rattle.trace.specs.declared.Verdict.{Verdict}

@@ -4,18 +4,18 @@ use mathlib.Core.Bool.{false, cond}
 use mathlib.Core.List.{List, [], _∷_, _++_}
 use lib.ListN.{length}
 use lib.Dec.{eqb, leb}
-use Rattle.words.specs.Words.{wordAt, bytesIn}
+use Rattle.wordbytes.specs.Words.{wordAt, bytesIn}
 use Rattle.state.specs.declared.State.{State}
 use Rattle.state.specs.State.{modeNumber, psOf, heard}
 use Rattle.step.specs.declared.Cause.the-variants as Cause
 use Rattle.step.specs.Step.{After, after}
-use Rattle.letters.specs.Over.{over}
+use Rattle.hexdigits.specs.Over.{over}
 use Rattle.refusal.specs.Numbers.{outputShort, traceCut}
 use Rattle.refusal.specs.Page.{Page, refused, answered, Left, left, call, first}
 use Rattle.machine.specs.Numbers.{registers}
 use Rattle.machine.specs.Trail.{trailOf, lastOf}
 use Rattle.job.specs.Job.{mapOf, linesOf, lineWords, whyRead}
-use Rattle.report.specs.Report.{benchBoard}
+use Rattle.endline.specs.Report.{benchBoard}
 use Rattle.runjob.specs.Bench.{upOf}
 use Rattle.trace.specs.declared.Verdict.{Verdict}
 use Rattle.trace.specs.declared.Verdict.the-variants.{Accepted, Wrong, Missing, Extra}

@@ -1,13 +1,13 @@
 -- The same step by step, as the code goes along.
 use Prim.Native.Nat.{ℕ, _+_, _*_, _-_}
 use mathlib.Core.List.{List, [], _∷_}
-use Rattle.words.specs.Words.{wordAt}
+use Rattle.wordbytes.specs.Words.{wordAt}
 use Rattle.state.specs.declared.State.{State}
 use Rattle.state.specs.State.{heard}
 use Rattle.step.specs.declared.Cause.the-variants as Cause
 use Rattle.step.specs.Step.{After, after, stepOf, Up, up}
 use Rattle.machine.specs.Trail.{trailOf, lastOf}
-use Rattle.report.specs.Report.{benchBoard}
+use Rattle.endline.specs.Report.{benchBoard}
 use Rattle.trace.specs.declared.Verdict.{Verdict}
 use Rattle.trace.specs.declared.Verdict.the-variants.{Missing}
 use Rattle.trace.specs.Trace.{entriesFrom, differ}

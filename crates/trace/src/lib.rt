@@ -1,18 +1,18 @@
 // Checks another shop's trace of a job, and makes the trace of a job: after each step from power-up R0 to R5, SP, PC, PS and the mode.
+use endline::bench_board;
 use machine::door;
 use refusal::number;
-use report::bench_board;
 use runjob::begin;
 use state::State;
-use words::high;
-use words::low;
-use words::word_at;
+use wordbytes::high;
+use wordbytes::low;
+use wordbytes::word_at;
 ghost use mathlib.Core.Path.{_≡_};
 ghost use mathlib.Core.List.{[], _∷_};
 ghost use Prim.Native.Nat.{_+_, _≤_, _<_};
 ghost use lib.ListN.{length, set, take};
 ghost use lib.Seq.{sets};
-ghost use Rattle.words.specs.Words.{low, high, bytesIn};
+ghost use Rattle.wordbytes.specs.Words.{low, high, bytesIn};
 ghost use Rattle.board.specs.Exec.{Board, beside};
 ghost use Rattle.step.specs.Step.{up};
 ghost use Rattle.refusal.specs.Page.{left};

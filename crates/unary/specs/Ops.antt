@@ -2,9 +2,9 @@
 use Prim.Native.Nat.{ℕ, _+_, _-_, _*_, _/_, _%_, _^_}
 use mathlib.Core.Bool.{Bool, true, false, not, _||_}
 use lib.Dec.{leb, ltb, eqb}
-use Rattle.word.specs.declared.Flags.{Flags}
-use Rattle.word.specs.declared.Done.{Done}
-use Rattle.word.specs.Number.{bit, sign, differ, digit, complement, done, movOf}
+use Rattle.wordmath.specs.declared.Flags.{Flags}
+use Rattle.wordmath.specs.declared.Done.{Done}
+use Rattle.wordmath.specs.Number.{bit, sign, differ, digit, complement, done, movOf}
 
 -- SET, SETB
 abbrev pub setOf : ℕ → Flags → Done

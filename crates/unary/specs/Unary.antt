@@ -2,12 +2,12 @@
 use Prim.Native.Nat.{ℕ}
 use mathlib.Core.Bool.{Bool, _&&_, cond}
 use lib.Dec.{eqb}
-use Rattle.word.specs.declared.Flags.{Flags}
-use Rattle.word.specs.declared.Done.{Done}
-use Rattle.codes.specs.declared.Way.the-variants.{RightRotate, LeftRotate, RightArith, LeftArith}
-use Rattle.codes.specs.declared.Unary.{Unary}
-use Rattle.codes.specs.declared.Unary.the-variants.{Ror, Rol, Tst, Asl, Set, Clr, Asr, Swap, Com, Neg, Inc, Dec}
-use Rattle.word.specs.Number.{movOf}
+use Rattle.wordmath.specs.declared.Flags.{Flags}
+use Rattle.wordmath.specs.declared.Done.{Done}
+use Rattle.opcodes.specs.declared.Way.the-variants.{RightRotate, LeftRotate, RightArith, LeftArith}
+use Rattle.opcodes.specs.declared.Unary.{Unary}
+use Rattle.opcodes.specs.declared.Unary.the-variants.{Ror, Rol, Tst, Asl, Set, Clr, Asr, Swap, Com, Neg, Inc, Dec}
+use Rattle.wordmath.specs.Number.{movOf}
 use Rattle.unary.specs.Ops.{setOf, clrOf, swabOf, swadOf, comOf, negOf, incOf, decOf}
 use Rattle.shift.specs.Shifted.{oneBitOf}
 

@@ -3,14 +3,14 @@ ghost use mathlib.Core.Path.{_≡_};
 ghost use Rattle.unary.specs.Unary.{unaryOf};
 use super::on_bytes;
 use super::on_words;
-use codes::Unary;
-use codes::Way;
+use opcodes::Unary;
+use opcodes::Way;
 use shift::one_bit::one_bit8;
 use shift::one_bit::one_bit16;
-use word::Done;
-use word::Flags;
-use word::result::mov8;
-use word::result::mov16;
+use wordmath::Done;
+use wordmath::Flags;
+use wordmath::result::mov8;
+use wordmath::result::mov16;
 
 pub fn unary16(op: Unary, in_register: bool, d: u16, f: Flags) -> Done
     ensures { λ r. ⌜ r ≡ unaryOf 16 op in_register d f ⌝ }

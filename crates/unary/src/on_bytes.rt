@@ -1,8 +1,8 @@
 // Op codes on a byte: each is the definition over the width, at 8.
 ghost use mathlib.Core.Path.{_≡_};
 ghost use Rattle.unary.specs.Ops.{comOf, negOf, incOf, decOf, swadOf};
-use word::Done;
-use word::result::done8;
+use wordmath::Done;
+use wordmath::result::done8;
 
 pub(crate) fn inc(d: u8) -> Done
     ensures { λ r. ⌜ r ≡ incOf 8 d ⌝ }

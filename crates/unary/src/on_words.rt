@@ -1,9 +1,9 @@
 // Op codes on a word: each is the definition over the width, at 16. IW2, SXT, ADC and SBC are on words alone.
 ghost use mathlib.Core.Path.{_≡_};
 ghost use Rattle.unary.specs.Ops.{clrOf, comOf, negOf, incOf, decOf, iw2Of, sxtOf, adcOf, sbcOf, swabOf};
-use word::Done;
-use word::Flags;
-use word::result::done16;
+use wordmath::Done;
+use wordmath::Flags;
+use wordmath::result::done16;
 
 pub(crate) fn com(d: u16) -> Done
     ensures { λ r. ⌜ r ≡ comOf 16 d ⌝ }

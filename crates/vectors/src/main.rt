@@ -9,7 +9,7 @@ use libc::STDOUT_FILENO;
 use std::num::wrapping_add_u64;
 use text::find;
 use vector::tried;
-use words::byte_at;
+use wordbytes::byte_at;
 
 mod place;
 mod text;

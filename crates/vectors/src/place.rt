@@ -2,9 +2,9 @@
 use super::text::NO_NUMBER;
 use super::text::hex;
 use libc::STDOUT_FILENO;
-use words::byte_at;
-use words::high;
-use words::low;
+use wordbytes::byte_at;
+use wordbytes::high;
+use wordbytes::low;
 
 pub enum Place {
     // A word of the image.

@@ -56,7 +56,7 @@ fn read(p: Progress, text: &[u8]) -> Deed {
 fn step(state: &mut [u8], image: &mut [u8], line: u16) -> bool {
     let map = [1u8; 256];
     let settings = [1u8, 3, 3, 0];
-    firmware::wd16_step(state, image, &map, &settings, line) == 0
+    machine_c::wd16_step(state, image, &map, &settings, line) == 0
 }
 
 // Puts a value in its place, or compares it where it is wanted. Says whether that can be done and is right.

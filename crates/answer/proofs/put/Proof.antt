@@ -1,6 +1,6 @@
 use mathlib.Core.Path.{sym, ap, _∙_}
 use lib.ListN.{length}
-use Rattle.words.proofs.Laws.{copied}
+use Rattle.wordbytes.proofs.Laws.{copied}
 use borrow.Author.Needs.{needs}
 use Rattle.answer.proofs.put.Statement.{statement}
 use Rattle.answer.proofs.put.Tie as tie

@@ -3,7 +3,7 @@ use mathlib.Core.Bool.{Bool, true, false, not, _||_}
 use mathlib.Core.List.{List, [], _∷_, map}
 use mathlib.Core.Path.{_≡_, refl}
 use Prim.Native.Nat.{ℕ}
-use Rattle.word.specs.declared.Flags.{Flags}
+use Rattle.wordmath.specs.declared.Flags.{Flags}
 use Rattle.arith.specs.Branch.{_xor_, taken}
 
 -- the high bytes 00 to 07 and 80 to 87, counted through; 00 is no branch and stands beside BR

@@ -2,9 +2,9 @@
 use Prim.Native.Nat.{ℕ, _<_}
 use native.Mathlib.Omega.{arith}
 use lib.Bits.{or-lt}
-use Rattle.word.specs.declared.Flags.{Flags}
-use Rattle.codes.specs.declared.ByteBinary.{ByteBinary}
-use Rattle.codes.specs.declared.ByteBinary.the-variants.{Cmpb, Movb, Bisb}
+use Rattle.wordmath.specs.declared.Flags.{Flags}
+use Rattle.opcodes.specs.declared.ByteBinary.{ByteBinary}
+use Rattle.opcodes.specs.declared.ByteBinary.the-variants.{Cmpb, Movb, Bisb}
 use Rattle.arith.specs.Binary.{byteBinaryOf}
 
 -- the byte op codes of format 10 give a byte

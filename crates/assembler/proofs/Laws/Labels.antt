@@ -5,7 +5,7 @@ use Prim.Native.Nat.{ℕ, zero, suc, _+_, _*_}
 use native.Mathlib.Omega.{arith}
 use native.Mathlib.Numerals.{add-one}
 use lib.ListN.{length, length-append}
-use Rattle.letters.specs.Over.{Wrote, WroteAt}
+use Rattle.hexdigits.specs.Over.{Wrote, WroteAt}
 use Rattle.patchline.specs.Text.{labelOf}
 use Rattle.patchline.proofs.Laws.Joined.{then-at, none-at}
 use Rattle.refusal.specs.Page.{refused, Left, left}

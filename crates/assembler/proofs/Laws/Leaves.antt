@@ -6,7 +6,7 @@ use Prim.Native.Nat.{ℕ, zero, suc}
 use native.Mathlib.Omega.{arith}
 use lib.Dec.{ltb}
 use lib.ListN.{length}
-use Rattle.letters.specs.Over.{over}
+use Rattle.hexdigits.specs.Over.{over}
 use Rattle.refusal.specs.Page.{Page, refused, refusedAt, answered, Left, left, call}
 use Rattle.assembler.specs.Source.{countOf, lowest}
 use Rattle.assembler.specs.declared.source.Fault.{Fault}

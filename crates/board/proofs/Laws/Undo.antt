@@ -9,7 +9,7 @@ use mathlib.Core.Logic.{_≢_}
 use mathlib.Core.Path.{_≡_, refl, sym, ap, _∙_}
 use lib.ListN.{getD, set, length, length-set}
 use lib.Seq.{getD-set-same, getD-set-other, set-getD, set-set, set-comm}
-use Rattle.words.proofs.Laws.{low-of}
+use Rattle.wordbytes.proofs.Laws.{low-of}
 use Rattle.board.specs.Work.{Work, give, readAt, writeAt, Size, word, byte, fitted, writable, even, wordAt, withWord, withByte, get, put}
 use Rattle.board.specs.Exec.{Store, beside, Now, count, room, note, noted, allowed, exec, Lent, Board, back, undone}
 use Rattle.board.proofs.Laws.Exec.{stateOf}

@@ -11,7 +11,7 @@ use Rattle.step.proofs.Laws.Locks.{cant-fetch}
 use Rattle.machine.specs.Numbers.{statePage, toldOf}
 use Rattle.machine.specs.Entry.{turned}
 use Rattle.machine.specs.Trail.{trailOf, causeAt}
-use Rattle.firmware.specs.Layout.{bytesOf, stateFrom, settingsFrom}
+use Rattle.machine_c.specs.Layout.{bytesOf, stateFrom, settingsFrom}
 use Rattle.demands.proofs.Laws.Blanks.{cause-is, told-is, state-is, image-is}
 use Rattle.demands.proofs.Laws.Demand2.{step-is, wd16-step-is}
 use Rattle.demands.specs.Cause7.{StepLocks, Wd16StepLocks, StepNot7, RunNot7}

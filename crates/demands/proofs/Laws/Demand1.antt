@@ -13,7 +13,7 @@ use Rattle.step.specs.declared.Cause.{Cause}
 use Rattle.step.specs.declared.Cause.the-variants as Cause
 use Rattle.step.specs.Step.{stepOf, powerUpOf}
 use Rattle.refusal.specs.Numbers.{noState}
-use Rattle.words.specs.Words.{wordAt, bytesIn}
+use Rattle.wordbytes.specs.Words.{wordAt, bytesIn}
 use Rattle.refusal.specs.Page.{Page, refused, refusedAt, answered, Left, left, call, nothing, first, Told, tells, readingAt, reading}
 use Rattle.refusal.proofs.Laws.Page.{call-first}
 use Rattle.machine.specs.declared.Until.{Until}
@@ -21,34 +21,34 @@ use Rattle.machine.specs.Run.{End, end, runOf, lastCause}
 use Rattle.machine.specs.Same.{runSamePage}
 use Rattle.machine.specs.Until.{stepsTo, stopped, untilOf, runUntilPage}
 use Rattle.machine.specs.Entry.{powerWhy, stepWhy, runWhy, powered, powerUpPage, turned, stepPage, ended, runPage}
-use Rattle.firmware.specs.Layout.{stateFrom, settingsFrom, refusedUp, refusedStep, refusedRun}
-use Rattle.firmware.specs.Calls.{upIn, stepIn, runIn, powerUpCall, stepCall, runCall}
-use Rattle.firmware.specs.Runs.{untilFrom, refusedUntil, stopIn, runSameCall, runUntilCall}
+use Rattle.machine_c.specs.Layout.{stateFrom, settingsFrom, refusedUp, refusedStep, refusedRun}
+use Rattle.machine_c.specs.Calls.{upIn, stepIn, runIn, powerUpCall, stepCall, runCall}
+use Rattle.machine_c.specs.Runs.{untilFrom, refusedUntil, stopIn, runSameCall, runUntilCall}
 use Rattle.answer.specs.Answer.{threeWords, answerWhy, placeWords, answering}
 use Rattle.job.specs.Job.{linesAt, buffersOf, whyJob, whyRead, jobOf}
 use Rattle.job_c.specs.Calls.{readIn, readCall}
-use Rattle.letters.specs.Over.{over}
+use Rattle.hexdigits.specs.Over.{over}
 use Rattle.optext.specs.Line.{wordText, taken, textOf}
 use Rattle.optext.specs.Answer.{roomWhy, writeWhy, inFront, writeOf, writeWordOf}
 use Rattle.optext.specs.Column.{Column}
 use Rattle.optext.specs.Words.{Reads}
-use Rattle.line.specs.Line.{printWhy, printOf}
+use Rattle.benchline.specs.Line.{printWhy, printOf}
 use Rattle.runjob.specs.Bench.{ranAt, jobRun, lineAt, benchWhy, benchOf}
 use Rattle.runjob.specs.Bench as Bench
 use Rattle.listing.specs.Calls.{lineWhy, lineIn, lineCall}
 use Rattle.listjob.specs.Stretch.{listWhy, listedIn, listOf}
 use Rattle.listing_c.specs.Calls.{listCall}
 use Rattle.stepline.specs.Shown.{stepText, showWhy, shownAs, showOf}
-use Rattle.textc.specs.Calls.{wordsIn, writeCall, lentWhy, lineWords}
+use Rattle.optext_c.specs.Calls.{wordsIn, writeCall, lentWhy, lineWords}
 use Rattle.listing_c.specs.Calls as Listed
-use Rattle.textc.specs.Calls as Textc
+use Rattle.optext_c.specs.Calls as Textc
 use Rattle.assembler.specs.Answer.{asmOf}
 use Rattle.assembler.specs.Labels.{labelsPage}
 use Rattle.assembler.specs.Ends.{assembleWhy, labelsWhy, tellsLine, FaultLine}
 use Rattle.assembler.proofs.Laws.Ends.{Ends, assemble-ends, labels-ends}
 use Rattle.assembler_c.specs.Call.{sizeWords, assembleCall, labelsCall}
 use Rattle.trace.specs.Trace.{whyTrace, verdictOf, verdictPage, whyCheck, buffersAfter, checkOf, whyMake, madeOf, makeOf}
-use Rattle.tracecall.specs.Calls.{verdictIn, checkCall}
+use Rattle.trace_c.specs.Calls.{verdictIn, checkCall}
 use Rattle.demands.specs.Terms.{OrPlace, numberAlone, placeToo, wordsWhy, OwnWhy, tellsColumn}
 use Rattle.demands.proofs.Laws.Texts.{reads-kept, lent-alone}
 use Rattle.demands.proofs.Laws.Sources.{ends-kept}

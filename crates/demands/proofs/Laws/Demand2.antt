@@ -12,10 +12,10 @@ use Rattle.machine.specs.Trail.{trailOf, lastOf, tallyIn}
 use Rattle.machine.specs.Entry.{powerWhy, stepWhy, runWhy, powerUpPage, stepPage, ended, runPage}
 use Rattle.machine.proofs.Laws.Counted.{run-trail, trail-length, trail-at}
 use Rattle.machine.proofs.Laws.Answered.{power-answer, step-answer, run-answer}
-use Rattle.firmware.specs.Layout.{stateFrom, settingsFrom, refusedUp, refusedStep, refusedRun}
-use Rattle.firmware.specs.Calls.{upIn, stepIn, runIn, powerUpCall, stepCall, runCall}
+use Rattle.machine_c.specs.Layout.{stateFrom, settingsFrom, refusedUp, refusedStep, refusedRun}
+use Rattle.machine_c.specs.Calls.{upIn, stepIn, runIn, powerUpCall, stepCall, runCall}
 use Rattle.optext.proofs.Laws.Calls as Calls
-use Rattle.textc.proofs.Laws.Trip as Trip
+use Rattle.optext_c.proofs.Laws.Trip as Trip
 use Rattle.demands.proofs.Laws.Took.{took}
 use Rattle.demands.specs.Demand2.{PowerUpIs, StepIs, RunIs, TrailIs, Wd16PowerUpIs, Wd16StepIs, Wd16RunIs, TextAgain, Wd16TextAgain, TextMade, Wd16TextMade, TextIgnores, Wd16TextIgnores}
 

@@ -11,7 +11,7 @@ use Rattle.state.specs.declared.Settings.{Settings}
 use Rattle.state.specs.State.{heard}
 use Rattle.step.specs.Step.{After, stepOf}
 use Rattle.refusal.specs.Numbers.{noState}
-use Rattle.words.specs.Words.{wordAt}
+use Rattle.wordbytes.specs.Words.{wordAt}
 use Rattle.refusal.specs.Page.{answered, Left, left, call, Told, reading}
 use Rattle.answer.specs.Answer.{answerWhy, answering}
 use Rattle.refusal.proofs.Laws.Page.{answered-one}
@@ -21,9 +21,9 @@ use Rattle.machine.specs.Same.{runSamePage}
 use Rattle.machine.specs.Until.{stoppedPage, runUntilPage}
 use Rattle.machine.proofs.Laws.Back.{powered-one, stepped-one, finished-one}
 use Rattle.machine.proofs.Laws.Blind.{blind, power-same, power-kept, step-same, step-kept, run-same, run-kept}
-use Rattle.firmware.specs.Layout.{stateFrom, settingsFrom, refusedUp, refusedStep, refusedRun}
-use Rattle.firmware.specs.Calls.{upIn, stepIn, runIn, powerUpCall, stepCall, runCall}
-use Rattle.firmware.specs.Runs.{untilFrom, refusedUntil, stopIn, runSameCall, runUntilCall}
+use Rattle.machine_c.specs.Layout.{stateFrom, settingsFrom, refusedUp, refusedStep, refusedRun}
+use Rattle.machine_c.specs.Calls.{upIn, stepIn, runIn, powerUpCall, stepCall, runCall}
+use Rattle.machine_c.specs.Runs.{untilFrom, refusedUntil, stopIn, runSameCall, runUntilCall}
 use Rattle.job.specs.Job.{linesAt, buffersOf, whyRead, jobOf}
 use Rattle.job.proofs.Laws.{one-answer}
 use Rattle.job_c.specs.Calls.{Buffers, readIn, readCall}

@@ -9,7 +9,7 @@ use lib.ListN.{length, take, drop, length-drop}
 use lib.Seq.{take-all, getD-take}
 use Rattle.refusal.specs.Page.{answered, Left, left, call, first}
 use Rattle.refusal.proofs.Laws.Page.{first-both}
-use Rattle.line.specs.Line.{printWhy}
+use Rattle.benchline.specs.Line.{printWhy}
 use Rattle.job.specs.Job.{whyRead}
 use Rattle.job.proofs.Laws.Longest.{job-front, read-front, read-long}
 use Rattle.runjob.specs.Bench.{lineAt, runIn, benchWhy, benchOf}

@@ -9,7 +9,7 @@ use Rattle.board.specs.Work.{Agree, Untouched}
 use Rattle.state.specs.declared.State.{State}
 use Rattle.state.specs.declared.Settings.{Settings}
 use Rattle.step.specs.declared.Cause.the-variants as Cause
-use Rattle.words.specs.Words.{byteAt}
+use Rattle.wordbytes.specs.Words.{byteAt}
 use Rattle.state.specs.State.{cleared}
 use Rattle.refusal.specs.Numbers.{noState}
 use Rattle.refusal.specs.Page.{Page, refused, refusedAt, answered, Left, left, call, nothing, Told, told, tells, reading}
@@ -18,16 +18,16 @@ use Rattle.machine.specs.Run.{End, end, runOf}
 use Rattle.machine.specs.Trail.{trailOf, tallyIn}
 use Rattle.machine.proofs.Laws.Counted.{run-trail}
 use Rattle.machine.specs.Blind.{Blind}
-use Rattle.firmware.specs.Layout.{tallyBytes, stateFrom, settingsFrom}
+use Rattle.machine_c.specs.Layout.{tallyBytes, stateFrom, settingsFrom}
 use Rattle.plugs.specs.declared.Channel.{Channel}
 use Rattle.plugs.specs.Plugs.{newPlug}
 use Rattle.recorder.specs.declared.Recorder.{Recorder}
 use Rattle.recorder.specs.Scan.{TallyPage, tallyPage, plugPage, scanWhy, scanMap, scanImage, ended, scanRun, scanDone, scanOf, reportWhy, reportPage}
 use Rattle.recorder.proofs.Laws.Blind.{SameScan, scan-same, scan-kept}
 use Rattle.recorder.proofs.Laws.Blind as Scan
-use Rattle.lentrecorder.specs.Layout.{channelsFrom, recorderFrom, refusedScan, refusedReport}
-use Rattle.lentrecorder.proofs.Laws.Sound.{sixteen}
-use Rattle.lentrecorder.specs.Calls.{Buffers, scanIn, scanCall, reportIn, reportCall}
+use Rattle.recorder_c.specs.Layout.{channelsFrom, recorderFrom, refusedScan, refusedReport}
+use Rattle.recorder_c.proofs.Laws.Sound.{sixteen}
+use Rattle.recorder_c.specs.Calls.{Buffers, scanIn, scanCall, reportIn, reportCall}
 use Rattle.demands.specs.Demand1.{IsAnswer, isAnswer}
 use Rattle.demands.proofs.Laws.Demand1.{call-keeps, twice-keeps}
 use Rattle.demands.proofs.Laws.Blanks.{counted}

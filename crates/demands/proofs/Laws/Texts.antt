@@ -12,7 +12,7 @@ use Rattle.refusal.specs.Page.{Page, refused, refusedAt, answered, left, first}
 use Rattle.answer.specs.Answer.{answerWhy}
 use Rattle.optext.specs.Column.{Column, Why, early, after, name, operand}
 use Rattle.optext.specs.Words.{Reads}
-use Rattle.textc.specs.Calls.{odd, lentWhy}
+use Rattle.optext_c.specs.Calls.{odd, lentWhy}
 use Rattle.demands.specs.Terms.{numberAlone, placeToo, wordsWhy, isText, noText, OwnWhy, tellsColumn}
 use Rattle.demands.specs.Demand1.{isAnswer, KeptAt}
 

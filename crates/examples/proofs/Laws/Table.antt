@@ -7,13 +7,13 @@ use Rattle.state.specs.Registers.{regOf, setReg}
 use Rattle.state.specs.State.{reg, withReg, withFlags, withI2, withMode, withMark, withStatus, cleared, psOf, withDone, withPair}
 use Rattle.state.specs.Stack.{push, pushReg, pop, popReg, popStatus, fetch, fromLoc, pushBoth, trap}
 use Rattle.operand.specs.Operand.{deferred, incrementDeferred, decrementDeferred, indexed, indexedDeferred, locate, moved, decode, readOf, writeTo}
-use Rattle.format6.specs.Format5.{branch}
-use Rattle.format6.specs.Format6.{immediate, single, double, format6}
+use Rattle.formats5to6.specs.Format5.{branch}
+use Rattle.formats5to6.specs.Format6.{immediate, single, double, format6}
 use Rattle.operand.specs.Destination.{operandOf}
 use Rattle.format7.specs.Format7.{modify, test, format7}
 use Rattle.format9.specs.Format9.{ash, sob, div, format9}
 use Rattle.format10.specs.Format10.{settle, moveByte, settleByte, onOperands, format10}
-use Rattle.letters.specs.Digits.{digits, hexOf, hex4, hex2}
+use Rattle.hexdigits.specs.Digits.{digits, hexOf, hex4, hex2}
 use Rattle.optext.specs.Rows.{theRow, rows}
 use Rattle.optext.specs.Line.{registers, regA, regB, regText, upText, literalText, downText, offsetText, plainText, modeText, modeTakes, addressed, rowOf, sepText, lineText, taken, textOf}
 use Rattle.step.specs.Execute.{further, byFormat}

@@ -1,7 +1,7 @@
 -- The last op code of format 1.
 use Prim.Native.Nat.{ℕ, _≤_}
 use mathlib.Core.Path.{_≡_, refl}
-use Rattle.codes.proofs.Laws.Past.{from-last}
+use Rattle.opcodes.proofs.Laws.Past.{from-last}
 use Rattle.state.specs.declared.State.{State}
 use Rattle.state.specs.declared.Outside.{Outside}
 use Rattle.format1.specs.Format1.{rtt, codes1, format1}

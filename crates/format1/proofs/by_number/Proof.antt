@@ -1,6 +1,6 @@
 use mathlib.Core.Path.{refl, sym, _∙_}
 use Rattle.board.proofs.Laws.{got-give, did}
-use Rattle.codes.proofs.Laws.Past.{at-least}
+use Rattle.opcodes.proofs.Laws.Past.{at-least}
 use Rattle.format1.specs.Format1.{format1}
 use Rattle.format1.proofs.Laws.Format1.{format1-last}
 use borrow.Author.Needs.{needs}

@@ -6,12 +6,12 @@ use mathlib.Core.List.{List}
 use mathlib.Core.Path.{_≡_, refl, sym, ap, _∙_}
 use lib.Dec.{ltb}
 use borrow.Author.Tests.{le-ltb}
-use Rattle.codes.specs.declared.Binary.{Binary}
-use Rattle.codes.specs.declared.Binary.the-variants.{Mov}
-use Rattle.codes.specs.declared.ByteBinary.{ByteBinary}
-use Rattle.codes.specs.declared.ByteBinary.the-variants.{Movb}
-use Rattle.codes.specs.Codes.{binaryAt, byteBinaryAt}
-use Rattle.word.specs.Address.{minus}
+use Rattle.opcodes.specs.declared.Binary.{Binary}
+use Rattle.opcodes.specs.declared.Binary.the-variants.{Mov}
+use Rattle.opcodes.specs.declared.ByteBinary.{ByteBinary}
+use Rattle.opcodes.specs.declared.ByteBinary.the-variants.{Movb}
+use Rattle.opcodes.specs.Codes.{binaryAt, byteBinaryAt}
+use Rattle.wordmath.specs.Address.{minus}
 use Rattle.board.specs.Work.{Work, give, Size, word, byte, fitted, writable, get, _>>=_, _>>_}
 use Rattle.board.specs.Exec.{Store, Now, good, gone, and, exec, Got}
 use Rattle.board.proofs.Laws.{got-then, got-gone, got-as, got-give, got-read, got-unread, got-lost}

@@ -2,7 +2,7 @@
 use Prim.Native.Nat.{ℕ}
 use mathlib.Core.Bool.{true, false}
 use mathlib.Core.Path.{_≡_}
-use Rattle.codes.specs.declared.Binary.{Binary}
+use Rattle.opcodes.specs.declared.Binary.{Binary}
 use Rattle.board.specs.Work.{give, word}
 use Rattle.state.specs.declared.State.{State}
 use Rattle.state.proofs.Laws.State.{cond-yes, cond-no}

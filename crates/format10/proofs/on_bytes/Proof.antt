@@ -5,7 +5,7 @@ use Rattle.state.proofs.Laws.Answer.{went-none, went-store}
 use Rattle.operand.specs.Operand.{writeTo}
 use Rattle.operand.proofs.Laws.Operand.{located, decoded, found-lost}
 use Rattle.operand.proofs.Laws.Destination.{never-found, never-read, held}
-use Rattle.codes.specs.declared.Binary.the-variants.{Mov}
+use Rattle.opcodes.specs.declared.Binary.the-variants.{Mov}
 use Rattle.format10.specs.Format10.{onOperands, onto, settleByte}
 use Rattle.format10.proofs.Laws.Format10.{settle-yes}
 use borrow.Author.Needs.{needs}

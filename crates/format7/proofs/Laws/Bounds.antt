@@ -3,9 +3,9 @@ use Prim.Native.Nat.{ℕ}
 use native.Mathlib.Omega.{arith}
 use mathlib.Core.List.{List, [], _∷_}
 use lib.Dec.{ltb}
-use Rattle.word.specs.declared.Flags.{Flags}
-use Rattle.word.specs.declared.Done.{Done}
-use Rattle.codes.specs.declared.Unary.the-variants.{Ror, Rol, Asl, Set, Clr, Asr, Swap, Com, Neg, Inc, Dec}
+use Rattle.wordmath.specs.declared.Flags.{Flags}
+use Rattle.wordmath.specs.declared.Done.{Done}
+use Rattle.opcodes.specs.declared.Unary.the-variants.{Ror, Rol, Asl, Set, Clr, Asr, Swap, Com, Neg, Inc, Dec}
 use Rattle.board.specs.Work.{Work, Size, word, byte}
 use Rattle.board.proofs.Laws.Bounded.{Bounded, gives}
 use Rattle.board.proofs.Laws.Bounded.{bounded-then, bounded-getD, AllBounded, none, also}

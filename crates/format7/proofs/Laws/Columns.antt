@@ -8,7 +8,7 @@ use lib.Dec.{eqb, ltb}
 use lib.ListN.{getD}
 use borrow.Author.Tests.{lt-ltb, le-ltb, ne-eqb}
 use Rattle.unary.specs.Ops.{sbcOf}
-use Rattle.codes.proofs.Laws.Past.{from-last, Below, below}
+use Rattle.opcodes.proofs.Laws.Past.{from-last, Below, below}
 use Rattle.board.specs.Work.{Work, word, byte, _>>=_}
 use Rattle.state.specs.declared.State.{State}
 use Rattle.state.specs.declared.Outside.{Outside}

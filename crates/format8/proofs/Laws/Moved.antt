@@ -6,7 +6,7 @@ use mathlib.Core.Bool.{Bool, true, false, cond}
 use mathlib.Core.Path.{_≡_, refl, sym, ap, _∙_}
 use lib.Dec.{eqb}
 use borrow.Author.Tests.{eq-eqb, ne-eqb}
-use Rattle.word.specs.Address.{plus}
+use Rattle.wordmath.specs.Address.{plus}
 use Rattle.state.specs.declared.State.{State}
 use Rattle.state.specs.State.{reg, withReg, withPc}
 use Rattle.state.proofs.Laws.State.{withRegs, reg-with, same-state}

@@ -1,5 +1,5 @@
 use mathlib.Core.Path.{refl, _∙_}
-use Rattle.codes.proofs.Laws.Past.{last}
+use Rattle.opcodes.proofs.Laws.Past.{last}
 use Rattle.format8.specs.Format8.{rows, rowAt}
 use borrow.Author.Needs.{needs}
 use Rattle.format8.proofs.row_at.Statement.{statement}

@@ -1,7 +1,7 @@
 -- How often each op code of format 9 writes, at most.
 use Prim.Native.Nat.{ℕ}
 use native.Mathlib.Omega.{arith}
-use Rattle.codes.specs.Fields.{format9Code}
+use Rattle.opcodes.specs.Fields.{format9Code}
 use Rattle.shift.specs.Shifted.{preset}
 use Rattle.board.specs.Work.{word, byte}
 use Rattle.board.proofs.Laws.Bounded.{Bounded, gives}

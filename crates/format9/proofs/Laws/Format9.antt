@@ -1,8 +1,8 @@
 -- The op codes of format 9 in the order in which the code tells them apart.
 use Prim.Native.Nat.{ℕ, _≤_}
 use mathlib.Core.Path.{_≡_, refl}
-use Rattle.codes.specs.Fields.{format9Code}
-use Rattle.codes.proofs.Laws.Past.{from-last}
+use Rattle.opcodes.specs.Fields.{format9Code}
+use Rattle.opcodes.proofs.Laws.Past.{from-last}
 use Rattle.shift.specs.Shifted.{preset}
 use Rattle.state.specs.declared.State.{State}
 use Rattle.state.specs.declared.Outside.{Outside}

@@ -1,6 +1,6 @@
 use mathlib.Core.Path.{sym, _∙_}
 use Prim.Native.Nat.{_/_, _%_}
-use Rattle.codes.proofs.Laws.Past.{at-least}
+use Rattle.opcodes.proofs.Laws.Past.{at-least}
 use Rattle.format9.specs.Format9.{format9}
 use Rattle.format9.proofs.Laws.Format9.{format9-last}
 use borrow.Author.Needs.{needs}

@@ -10,7 +10,7 @@ use lib.Dec.{leb, eqb}
 use lib.ListN.{length, take, replicate}
 use lib.Seq.{take-all, length-take-le, getD-take}
 use borrow.Author.Tests.{le-leb, leb-true, eqb-true, ne-eqb}
-use Rattle.words.specs.Words.{byteAt, wordAt}
+use Rattle.wordbytes.specs.Words.{byteAt, wordAt}
 use Rattle.refusal.specs.Numbers.{imageLength, mapLength, linesLength}
 use Rattle.refusal.specs.Page.{first}
 use Rattle.refusal.proofs.Laws.Page.{first-both}

@@ -8,7 +8,7 @@ use lib.Dec.{eqb, leb}
 use lib.ListN.{length, set, take, replicate, length-set, length-replicate}
 use lib.Seq.{length-take-le}
 use borrow.Author.Tests.{eq-eqb, le-leb, leb-true}
-use Rattle.words.specs.Words.{byteAt, wordAt}
+use Rattle.wordbytes.specs.Words.{byteAt, wordAt}
 use Rattle.refusal.specs.Numbers.{imageLength, mapLength, linesLength, manyLines, jobLineBit}
 use Rattle.refusal.proofs.Laws.Page.{first-both}
 use Rattle.refusal.specs.Refusal.{allOf, flat, plain, boardRefusal, setUp, powerRefusal, linesRefusal, runRefusal}

@@ -1,6 +1,6 @@
 -- The filling pass: each buffer is cleared, then its section is written, and the sections start where the definition says.
 use Prim.Native.Nat.{ℕ, _+_}
-use Rattle.words.specs.Words.{wordAt}
+use Rattle.wordbytes.specs.Words.{wordAt}
 use Rattle.job.proofs.Laws.{map-filled, image-filled, lines-filled, words-at, lines-at, read-only-at}
 use mathlib.Core.Path.{ap, _∙_}
 use borrow.Author.Needs.{needs}

@@ -8,14 +8,14 @@ use mathlib.Core.Path.{_≡_, refl, sym, ap, _∙_, subst}
 use lib.Dec.{eqb, leb}
 use lib.ListN.{getD}
 use borrow.Author.Tests.{leb-true, ne-eqb}
-use Rattle.word.specs.declared.Flags.{Flags}
-use Rattle.word.specs.Address.{plus}
+use Rattle.wordmath.specs.declared.Flags.{Flags}
+use Rattle.wordmath.specs.Address.{plus}
 use Rattle.arith.specs.Branch.{taken}
 use Rattle.arith.proofs.Laws.Printed.{numbers, printed, as-printed}
 use Rattle.board.specs.Work.{value, wordAt, run}
 use Rattle.plate.specs.Plate.{formatOf}
-use Rattle.codes.specs.Fields.{highByte}
-use Rattle.format6.specs.Format5.{displacement, branchNumber, branch}
+use Rattle.opcodes.specs.Fields.{highByte}
+use Rattle.formats5to6.specs.Format5.{displacement, branchNumber, branch}
 use Rattle.state.specs.declared.State.{State}
 use Rattle.state.specs.declared.Outside.{Outside}
 use Rattle.state.specs.State.{heard, withReg, withPc, withMark}
@@ -23,11 +23,11 @@ use Rattle.state.specs.Registers.{setReg}
 use Rattle.step.specs.Execute.{execute, byFormat}
 use Rattle.step.specs.Xct.{opWork}
 use Rattle.laws.specs.Branches.{lines, whenIn, branched, BranchesAsPrinted, Wd16BranchesAsPrinted}
-use Rattle.codes.proofs.Laws.Past.{Below, below}
+use Rattle.opcodes.proofs.Laws.Past.{Below, below}
 use Rattle.laws.proofs.Laws.Marked.{code-work, plain-run}
 use Rattle.step.proofs.Laws.Late.{begins}
 use Rattle.laws.proofs.Laws.Mark.{turn-is}
-use Rattle.firmware.specs.Layout.{stateFrom, settingsFrom}
+use Rattle.machine_c.specs.Layout.{stateFrom, settingsFrom}
 use Rattle.laws.proofs.Laws.Calls.{step-done, cause-0}
 
 -- ---- the high bytes of format 5

@@ -15,8 +15,8 @@ use Rattle.step.specs.Step.{After, stepOf, powerUpOf, causeNumber, isBlank}
 use Rattle.refusal.specs.Numbers.{noState}
 use Rattle.refusal.specs.Page.{left, Told, told, reading}
 use Rattle.refusal.proofs.Laws.Page.{first-both}
-use Rattle.words.specs.Words.{byteAt, wordAt}
-use Rattle.words.proofs.Laws.{word-again}
+use Rattle.wordbytes.specs.Words.{byteAt, wordAt}
+use Rattle.wordbytes.proofs.Laws.{word-again}
 use Rattle.machine.specs.declared.Ran.{Ran}
 use Rattle.machine.specs.declared.First.{First}
 use Rattle.machine.specs.declared.First.the-variants.{At, Never}
@@ -28,13 +28,13 @@ use Rattle.machine.specs.Counted.{orFirst}
 use Rattle.machine.proofs.Laws.Counted.{run-trail, first-least, trail-length}
 use Rattle.machine.specs.declared.Stepped.the-variants as Stepped
 use Rattle.step.specs.declared.Turn.{Turn}
-use Rattle.firmware.proofs.Laws.Again.{state-again}
+use Rattle.machine_c.proofs.Laws.Again.{state-again}
 use Rattle.machine.specs.Entry.{runWhy, finishedPage, runPage, stepWhy, steppedPage, stepPage, powerWhy, poweredPage, powerUpPage}
 use Rattle.machine.specs.declared.Powered.the-variants as Powered
 use Rattle.machine.proofs.Laws.Entry.{run-answered}
 use Rattle.machine.specs.Entry as Entry
-use Rattle.firmware.specs.Layout.{bytesOf, tallyBytes, placeNumber, placeTold, stateFrom, settingsFrom, refusedState, refusedSettings, refusedUp, refusedStep, refusedRun, notTally}
-use Rattle.firmware.specs.Calls.{upIn, powerUpCall, runIn, runCall, stepIn, stepCall}
+use Rattle.machine_c.specs.Layout.{bytesOf, tallyBytes, placeNumber, placeTold, stateFrom, settingsFrom, refusedState, refusedSettings, refusedUp, refusedStep, refusedRun, notTally}
+use Rattle.machine_c.specs.Calls.{upIn, powerUpCall, runIn, runCall, stepIn, stepCall}
 use Rattle.demands.proofs.Laws.Demand1.{wd16-power-up-answers, wd16-step-answers, wd16-run-answers}
 use Rattle.refusal.proofs.Laws.Refusal.{neither}
 use Rattle.laws.specs.Halves.{firstPlace, firstTold}

@@ -16,8 +16,8 @@ use Rattle.step.specs.declared.Cause.the-variants as Cause
 use Rattle.step.specs.Step.{After, after, stepOf, errorOf, kindIn, haltOption, workOf, vectored, busError, causeNumber, addressOf, isBlank}
 use Rattle.refusal.proofs.Laws.Page.{answered-one}
 use Rattle.refusal.specs.Refusal.{allOf, plain, boardRefusal, powerRefusal}
-use Rattle.words.specs.Words.{byteAt}
-use Rattle.words.specs.Words as Words
+use Rattle.wordbytes.specs.Words.{byteAt}
+use Rattle.wordbytes.specs.Words as Words
 use Rattle.machine.specs.declared.Ran.{Ran}
 use Rattle.machine.specs.declared.Stepped.{Stepped}
 use Rattle.machine.specs.declared.Stepped.the-variants as Stepped
@@ -32,7 +32,7 @@ use Rattle.refusal.specs.Page.{left, told}
 use Rattle.machine.specs.Entry.{powerWhy, turned, finishedPage, runPage}
 use Rattle.machine.proofs.Laws.Entry.{run-answered}
 use Rattle.machine.proofs.Laws.Answered.{step-answer, run-done}
-use Rattle.firmware.specs.Layout.{bytesOf, stateFrom, settingsFrom}
+use Rattle.machine_c.specs.Layout.{bytesOf, stateFrom, settingsFrom}
 use Rattle.laws.proofs.Laws.Taken.{taken-run, run-taken, run-answer-of, step-page-is, step-taken, ran-is}
 use Rattle.laws.proofs.Laws.Calls.{bytesFor, call-answered, run-not-refused, step-not-refused, tally-taken, stepped, step-call-is, blanks-word, mode-byte, cause-byte, number-no-blank}
 use Rattle.laws.proofs.Laws.More.{SoundStep}

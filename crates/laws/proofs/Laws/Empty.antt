@@ -8,10 +8,10 @@ use lib.Dec.{eqb, ltb}
 use lib.ListN.{length, getD}
 use lib.Seq.{ext-getD}
 use borrow.Author.Tests.{eqb-true, not-false, ltb-false}
-use Rattle.word.specs.Number.{digit}
-use Rattle.word.specs.Status.{flagsOf}
-use Rattle.words.specs.Words.{byteAt}
-use Rattle.words.proofs.Laws.{low-of, high-of}
+use Rattle.wordmath.specs.Number.{digit}
+use Rattle.wordmath.specs.Status.{flagsOf}
+use Rattle.wordbytes.specs.Words.{byteAt}
+use Rattle.wordbytes.proofs.Laws.{low-of, high-of}
 use Rattle.state.specs.State.{modeNumber, cleared, withReg, withFlags, withI2, withMode, withMark}
 use Rattle.state.specs.Registers.{setReg}
 use Rattle.refusal.specs.Refusal.{allOf}
@@ -20,8 +20,8 @@ use Rattle.machine.specs.Numbers.{indicators, statePage, nowhere}
 use Rattle.machine.specs.Back.{modeOf, fromRegisters, stateOf}
 use Rattle.machine.specs.declared.Ran.{Ran}
 use Rattle.machine.specs.declared.Finished.the-variants as Finished
-use Rattle.firmware.specs.Layout.{bytesOf, pageFrom, stateFrom, settingsFrom, refusedState, notState, over}
-use Rattle.codes.proofs.Laws.Past.{Below, below}
+use Rattle.machine_c.specs.Layout.{bytesOf, pageFrom, stateFrom, settingsFrom, refusedState, notState, over}
+use Rattle.opcodes.proofs.Laws.Past.{Below, below}
 use Rattle.laws.proofs.Laws.Calls.{bytesFor, settings-taken, step-taken, buffers-taken, call-answered}
 use Rattle.laws.proofs.Laws.Taken.{taken-run}
 use Rattle.laws.proofs.Laws.Halves.{run-none}

@@ -8,7 +8,7 @@ use lib.ListN.{length, length-append}
 use Rattle.state.specs.declared.State.{State}
 use Rattle.state.specs.declared.Settings.{Settings}
 use Rattle.refusal.specs.Refusal.{allOf, plain, powerRefusal}
-use Rattle.words.specs.Words.{wordAt}
+use Rattle.wordbytes.specs.Words.{wordAt}
 use Rattle.machine.specs.declared.Ran.{Ran}
 use Rattle.machine.specs.declared.Finished.{Finished}
 use Rattle.machine.specs.declared.Finished.the-variants as Finished
@@ -20,8 +20,8 @@ use Rattle.machine.proofs.Laws.Back.{one-run}
 use Rattle.refusal.specs.Page.{left}
 use Rattle.machine.specs.Entry.{powerWhy, finishedPage, runPage}
 use Rattle.machine.proofs.Laws.Answered.{run-done}
-use Rattle.firmware.specs.Layout.{bytesOf, placeNumber, placeTold, stateFrom, settingsFrom, refusedState, refusedStep}
-use Rattle.firmware.proofs.Laws.Again.{state-again, state-taken}
+use Rattle.machine_c.specs.Layout.{bytesOf, placeNumber, placeTold, stateFrom, settingsFrom, refusedState, refusedStep}
+use Rattle.machine_c.proofs.Laws.Again.{state-again, state-taken}
 use Rattle.laws.proofs.Laws.Taken.{taken-run, all-append, run-answer-of, run-size, ran-is}
 use Rattle.laws.proofs.Laws.Append.{followed, joined-ends}
 use Rattle.laws.specs.One.{asRun}

@@ -7,10 +7,10 @@ use mathlib.Core.List.{List}
 use mathlib.Core.Path.{_≡_, refl, sym, ap, _∙_, subst}
 use lib.Dec.{eqb, ltb, leb}
 use borrow.Author.Tests.{eqb-true, ne-eqb, ltb-true, lt-ltb, le-ltb, leb-true}
-use Rattle.word.specs.Address.{plus, minus}
+use Rattle.wordmath.specs.Address.{plus, minus}
 use Rattle.board.specs.Work.{value, wordAt, fitted, writable, run, _>>=_}
 use Rattle.board.proofs.Laws.Alike.{found-value}
-use Rattle.codes.specs.Fields.{highByte, register, format9Code, offset}
+use Rattle.opcodes.specs.Fields.{highByte, register, format9Code, offset}
 use Rattle.plate.specs.Plate.{formatOf}
 use Rattle.state.specs.declared.State.{State}
 use Rattle.state.specs.declared.Outside.{Outside}
@@ -19,8 +19,8 @@ use Rattle.state.specs.State.{reg, heard, withReg, withFlags, withMark}
 use Rattle.state.specs.Stack.{pushReg}
 use Rattle.operand.specs.declared.Place.the-variants.{Mem}
 use Rattle.operand.specs.Operand.{Seen, locate, indexed, indexedDeferred, deferred, moved, decode}
-use Rattle.format6.specs.Format5.{displacement}
-use Rattle.format6.proofs.Laws.Format5 as Twice
+use Rattle.formats5to6.specs.Format5.{displacement}
+use Rattle.formats5to6.proofs.Laws.Format5 as Twice
 use Rattle.format9.specs.Format9.{call, jsrTo, jsr, leaTo, lea, sob, format9}
 use Rattle.step.specs.Execute.{execute, byFormat, further}
 use Rattle.step.specs.Step.{stepOf}
@@ -28,7 +28,7 @@ use Rattle.step.proofs.Laws.Late.{begins}
 use Rattle.patchline.specs.Line.{isBranch, ahead, behind}
 use Rattle.laws.specs.Branches.{lines, whenIn}
 use Rattle.laws.proofs.Laws.Branches.{plate-five, branches-as-printed}
-use Rattle.codes.proofs.Laws.Past.{Below, below}
+use Rattle.opcodes.proofs.Laws.Past.{Below, below}
 use Rattle.laws.proofs.Laws.Marked.{code-work, plain-run}
 use Rattle.laws.proofs.Laws.Mark.{turn-is}
 use Rattle.laws.specs.Labels.{BranchComes, SobComes, JumpComes, OperandStands, BranchesArePlates}

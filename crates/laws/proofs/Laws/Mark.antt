@@ -3,7 +3,7 @@ use Prim.Native.Nat.{ℕ}
 use mathlib.Core.Bool.{Bool, true, false, not, _&&_, cond}
 use mathlib.Core.List.{List, [], _∷_}
 use mathlib.Core.Path.{_≡_, refl, sym, ap, _∙_, subst}
-use Rattle.word.specs.Number.{bit}
+use Rattle.wordmath.specs.Number.{bit}
 use Rattle.state.specs.declared.State.{State}
 use Rattle.state.specs.declared.Settings.{Settings}
 use Rattle.state.specs.declared.Mode.the-variants.{Running}
@@ -14,7 +14,7 @@ use Rattle.step.specs.declared.Kind.the-variants.{OpCode, NonVectored, Vectored
 use Rattle.step.specs.declared.Cause.{Cause}
 use Rattle.step.specs.declared.Cause.the-variants as Cause
 use Rattle.step.specs.Step.{stepOf, kindOf, causeNumber, causeOf, errorCauseOf}
-use Rattle.firmware.specs.Layout.{stateFrom, settingsFrom}
+use Rattle.machine_c.specs.Layout.{stateFrom, settingsFrom}
 use Rattle.laws.proofs.Laws.Calls.{step-done, power-done, cause-0}
 use Rattle.step.proofs.Laws.Late.{held, unmarked-hears}
 use Rattle.refusal.proofs.Laws.Page.{answered-one}

@@ -1,7 +1,7 @@
 -- The mark of a late IEN, over the definitions: what every op code, every trap, every step and every power-up leaves of it, and what a marked state hears.
 use Prim.Native.Nat.{ℕ, zero, suc, _/_, _<_}
 use native.Mathlib.Omega.{arith}
-use Rattle.codes.proofs.Laws.Past.{Below, below}
+use Rattle.opcodes.proofs.Laws.Past.{Below, below}
 use mathlib.Core.Bool.{Bool, true, false, not, _&&_, cond}
 use mathlib.Core.List.{List, [], _∷_}
 use mathlib.Core.Path.{_≡_, refl, sym, ap, _∙_, subst}
@@ -11,15 +11,15 @@ use borrow.Author.Tests.{not-true, eqb-true, ne-eqb, ltb-true, ltb-false}
 use Rattle.board.specs.Work.{Work, give, Came, value, blank, Size, word, byte, wordAt, fitted, run, _>>=_, _>>_}
 use Rattle.board.proofs.Laws.Alike.{found-value}
 use Rattle.step.proofs.Laws.Late.{begins}
-use Rattle.codes.specs.Fields.{highByte, onlyRegister, format2Code, format4Code, argument, register, format9Code, sourceMode, sourceRegister, destinationMode, destinationRegister, blockSource, blockDestination}
+use Rattle.opcodes.specs.Fields.{highByte, onlyRegister, format2Code, format4Code, argument, register, format9Code, sourceMode, sourceRegister, destinationMode, destinationRegister, blockSource, blockDestination}
 use Rattle.arith.specs.Branch.{taken}
-use Rattle.word.specs.Address.{plus, minus}
-use Rattle.codes.specs.declared.Binary.{Binary}
-use Rattle.codes.specs.declared.ByteBinary.{ByteBinary}
-use Rattle.codes.specs.declared.ByteBinary.the-variants.{Cmpb, Movb, Bisb}
+use Rattle.wordmath.specs.Address.{plus, minus}
+use Rattle.opcodes.specs.declared.Binary.{Binary}
+use Rattle.opcodes.specs.declared.ByteBinary.{ByteBinary}
+use Rattle.opcodes.specs.declared.ByteBinary.the-variants.{Cmpb, Movb, Bisb}
 use Rattle.plate.specs.Plate.{formatOf}
-use Rattle.word.specs.declared.Flags.{Flags}
-use Rattle.word.specs.declared.Done.{Done}
+use Rattle.wordmath.specs.declared.Flags.{Flags}
+use Rattle.wordmath.specs.declared.Done.{Done}
 use Rattle.state.specs.declared.State.{State}
 use Rattle.state.specs.declared.Outside.{Outside}
 use Rattle.state.specs.Registers.{setReg}
@@ -30,11 +30,11 @@ use Rattle.operand.specs.declared.Place.the-variants.{Reg, Mem}
 use Rattle.operand.specs.Operand.{Seen, moved, decode, writeTo}
 use Rattle.operand.specs.Destination.{Holding, operandOf, destination}
 use Rattle.format1.specs.Format1.{xctError, bpt, save, savs, rest, rtt, rrtn, rrtt, rsts, rsvc, format1}
-use Rattle.control.specs.Low.{formats2to4, lowCodes}
-use Rattle.control.specs.Format2.{rtn, msko, prtn, lcc, format2}
-use Rattle.control.specs.Format4.{svca, svc, format4}
-use Rattle.format6.specs.Format5.{branchNumber, branch}
-use Rattle.format6.specs.Format6.{immediate, single, double, format6}
+use Rattle.formats2to4.specs.Low.{formats2to4, lowCodes}
+use Rattle.formats2to4.specs.Format2.{rtn, msko, prtn, lcc, format2}
+use Rattle.formats2to4.specs.Format4.{svca, svc, format4}
+use Rattle.formats5to6.specs.Format5.{branchNumber, branch}
+use Rattle.formats5to6.specs.Format6.{immediate, single, double, format6}
 use Rattle.format7.specs.Format7.{tcall, tjmp, lsts, ssts, format7}
 use Rattle.format7.specs.Format7 as Seven
 use Rattle.format7.specs.Rows.{onWordAt, storedAt, modifyAt, statusAt, noResultAt}

@@ -8,9 +8,9 @@ use mathlib.Core.Path.{_≡_, refl, sym, ap, _∙_, subst}
 use lib.Dec.{eqb}
 use lib.ListN.{length}
 use borrow.Author.Tests.{not-true, eq-eqb, ne-eqb}
-use Rattle.word.specs.Number.{bit}
-use Rattle.word.specs.Address.{plus, minus}
-use Rattle.word.specs.Status.{flagsOf}
+use Rattle.wordmath.specs.Number.{bit}
+use Rattle.wordmath.specs.Address.{plus, minus}
+use Rattle.wordmath.specs.Status.{flagsOf}
 use Rattle.board.specs.Work.{Came, value, blank, fitted, wordAt, withWord, run, _>>=_}
 use Rattle.board.proofs.Laws.Alike.{found-value}
 use Rattle.state.specs.declared.State.{State}
@@ -21,7 +21,7 @@ use Rattle.state.specs.Registers.{regOf, setReg}
 use Rattle.state.specs.State.{reg, heard, psOf, withReg, withSp, withPc, withFlags, withI2, withMode, withMark}
 use Rattle.state.specs.Stack.{push, pop, popReg, fetch, fromLoc, pushBoth, trap}
 use Rattle.plate.specs.Plate.{formatOf}
-use Rattle.codes.specs.Fields.{highByte}
+use Rattle.opcodes.specs.Fields.{highByte}
 use Rattle.format8.specs.Format8.{format8}
 use Rattle.step.specs.declared.Kind.{Kind}
 use Rattle.step.specs.declared.Kind.the-variants.{OpCode, HaltEnd, Boots, Saves, LocksUp, Restarts, Restores, NonVectored, Vectored, Waits, Stuck}
@@ -42,14 +42,14 @@ use Rattle.machine.specs.Block.{AllUnheard, none, also, blockMove}
 use Rattle.machine.proofs.Laws.Counted.{run-trail}
 use Rattle.machine.proofs.Laws.Block.{block-move}
 use Rattle.machine.proofs.Laws.Answered.{run-done}
-use Rattle.firmware.specs.Layout.{stateFrom, settingsFrom}
-use Rattle.firmware.proofs.Laws.Again.{state-again}
+use Rattle.machine_c.specs.Layout.{stateFrom, settingsFrom}
+use Rattle.machine_c.proofs.Laws.Again.{state-again}
 use Rattle.machine.specs.Numbers.{nowhere}
 use Rattle.laws.proofs.Laws.Append.{behind, goOn, run-append}
 use Rattle.laws.proofs.Laws.Taken.{ran-is}
 use Rattle.laws.proofs.Laws.Calls.{call-answered, run-not-refused, step-done, cause-0, cause-5}
 use Rattle.laws.proofs.Laws.Always.{Always, always-value, run-split}
-use Rattle.codes.proofs.Laws.Past.{Below, below}
+use Rattle.opcodes.proofs.Laws.Past.{Below, below}
 use Rattle.laws.proofs.Laws.Marked.{code-work}
 use Rattle.laws.proofs.Laws.Mark.{turn-is}
 use Rattle.laws.specs.Moves.{Runs, LentRuns, quiet, Moves, RunMoves, RunsMove, Wd16RunsMove, ElementDropped, opened, OneElement, XctElement, Wd16ElementDropped, Wd16XctElement}

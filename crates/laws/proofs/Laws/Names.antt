@@ -8,19 +8,19 @@ use borrow.Author.Tests.{ltb-true, ltb-false}
 use lib.Dec.{ltb}
 use lib.ListN.{length, take, drop, getD, List·getD-append}
 use lib.Seq.{getD-append-add, getD-take, getD-drop}
-use Rattle.word.specs.Address.{plus}
-use Rattle.codes.specs.Fields.{highByte}
+use Rattle.wordmath.specs.Address.{plus}
+use Rattle.opcodes.specs.Fields.{highByte}
 use Rattle.plate.specs.Plate.{formatOf}
 use Rattle.board.specs.Work.{give}
 use Rattle.state.specs.declared.State.{State}
 use Rattle.state.specs.declared.Outside.{Outside}
 use Rattle.state.specs.State.{withPc}
 use Rattle.format1.specs.Format1.{format1}
-use Rattle.control.specs.Low.{formats2to4, lowCodes}
-use Rattle.control.specs.Format2.{format2}
-use Rattle.control.specs.Format4.{format4}
-use Rattle.format6.specs.Format5.{displacement, branch}
-use Rattle.format6.specs.Format6.{immediate, single, double, format6}
+use Rattle.formats2to4.specs.Low.{formats2to4, lowCodes}
+use Rattle.formats2to4.specs.Format2.{format2}
+use Rattle.formats2to4.specs.Format4.{format4}
+use Rattle.formats5to6.specs.Format5.{displacement, branch}
+use Rattle.formats5to6.specs.Format6.{immediate, single, double, format6}
 use Rattle.format7.specs.Format7.{modify, test}
 use Rattle.format9.specs.Format9.{format9}
 use Rattle.format10.specs.Format10.{format10}

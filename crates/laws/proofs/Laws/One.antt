@@ -18,15 +18,15 @@ use Rattle.refusal.proofs.Laws.Page.{apart, answered-one, refused-one}
 use Rattle.refusal.specs.Refusal.{allOf, plain, linesRefusal, stepRefusal, runRefusal}
 use Rattle.machine.specs.declared.Stepped.{Stepped}
 use Rattle.machine.specs.declared.Stepped.the-variants as Stepped
-use Rattle.words.specs.Words.{wordAt}
-use Rattle.words.proofs.Laws.{word-again}
+use Rattle.wordbytes.specs.Words.{wordAt}
+use Rattle.wordbytes.proofs.Laws.{word-again}
 use Rattle.machine.specs.Numbers.{statePage, nowhere, toldOf, placeOf}
 use Rattle.machine.specs.Run.{end, rest, noted, noBlanks}
 use Rattle.machine.proofs.Laws.Back.{turn-one}
 use Rattle.machine.specs.Entry.{stepWhy, powerWhy, runWhy, turned, steppedPage, finishedPage, stepPage, runPage}
 use Rattle.machine.specs.Entry as Entry
-use Rattle.firmware.specs.Layout.{wordTold, bytesOf, tallyBytes, stateFrom, settingsFrom, refusedStep, refusedRun}
-use Rattle.firmware.specs.Calls.{stepIn, stepCall, runIn, runCall}
+use Rattle.machine_c.specs.Layout.{wordTold, bytesOf, tallyBytes, stateFrom, settingsFrom, refusedStep, refusedRun}
+use Rattle.machine_c.specs.Calls.{stepIn, stepCall, runIn, runCall}
 use Rattle.laws.proofs.Laws.Calls.{cause-byte}
 use Rattle.laws.specs.One.{asRun, uncaused, tallied, OneCall}
 

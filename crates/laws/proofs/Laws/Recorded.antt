@@ -7,7 +7,7 @@ use mathlib.Core.Path.{_≡_, refl, sym, ap, _∙_, subst}
 use lib.Dec.{ltb}
 use lib.ListN.{length, getD, replicate, length-append}
 use borrow.Author.Tests.{ltb-true}
-use Rattle.words.specs.Words.{wordAt}
+use Rattle.wordbytes.specs.Words.{wordAt}
 use Rattle.state.specs.declared.State.{State}
 use Rattle.state.specs.declared.Settings.{Settings}
 use Rattle.refusal.specs.Page.{refused, answered, left, call, nothing, told, reading}
@@ -29,12 +29,12 @@ use Rattle.recorder.specs.Scan.{tallyPage, plugPage, ended, scanWhy, scanRun, s
 use Rattle.recorder.proofs.Laws.Blind.{plug-one}
 use Rattle.recorder.proofs.Laws.Record.{at-range}
 use Rattle.recorder.proofs.Laws.Sound.{scan-sound}
-use Rattle.lentrecorder.specs.Layout.{channelsFrom, reportBytes, recorderBytes, recorderFrom, plugsAt, plugFrom, plugsFrom, seenFrom, reportsBytes, scansBytes, refusedScan, refusedReport}
-use Rattle.lentrecorder.specs.Calls.{Buffers, scanIn, scanCall, reportCall}
-use Rattle.lentrecorder.proofs.Laws.Again.{Told, AllTold, no, one, report-told, report-length, recorder-again}
+use Rattle.recorder_c.specs.Layout.{channelsFrom, reportBytes, recorderBytes, recorderFrom, plugsAt, plugFrom, plugsFrom, seenFrom, reportsBytes, scansBytes, refusedScan, refusedReport}
+use Rattle.recorder_c.specs.Calls.{Buffers, scanIn, scanCall, reportCall}
+use Rattle.recorder_c.proofs.Laws.Again.{Told, AllTold, no, one, report-told, report-length, recorder-again}
 use Rattle.laws.specs.Recorded.{inState, Recorded, fresh, Reads, Reports, ScansReported, ScansCounted, Lent, zeros, Wd16ScansReported}
-use Rattle.lentrecorder.proofs.Laws.Sound.{sixteen}
-use Rattle.firmware.specs.Layout.{stateFrom, settingsFrom}
+use Rattle.recorder_c.proofs.Laws.Sound.{sixteen}
+use Rattle.machine_c.specs.Layout.{stateFrom, settingsFrom}
 use Rattle.refusal.specs.Numbers.{noState}
 use Rattle.laws.specs.Recorded as Spec
 

@@ -7,9 +7,9 @@ use native.Mathlib.Decide.{ℕ-discrete}
 use lib.Dec.{eqb, ltb}
 use lib.ListN.{getD}
 use borrow.Author.Tests.{lt-ltb, le-ltb, eqb-true, ltb-true, ltb-false}
-use Rattle.word.specs.Address.{plus, minus}
-use Rattle.codes.specs.Codes.{immediateAt, wayAt, binaryAt, byteBinaryAt}
-use Rattle.codes.specs.Fields.{highByte, onlyRegister, argument, register, count, blockSource, blockDestination}
+use Rattle.wordmath.specs.Address.{plus, minus}
+use Rattle.opcodes.specs.Codes.{immediateAt, wayAt, binaryAt, byteBinaryAt}
+use Rattle.opcodes.specs.Fields.{highByte, onlyRegister, argument, register, count, blockSource, blockDestination}
 use Rattle.plate.specs.Plate.{formatOf}
 use Rattle.arith.specs.Immediate.{immediateOf}
 use Rattle.shift.specs.Shifted.{singleOf, doubleOf, preset}
@@ -18,11 +18,11 @@ use Rattle.board.specs.Work.{Work, give, word}
 use Rattle.state.specs.declared.State.{State}
 use Rattle.state.specs.declared.Outside.{Outside}
 use Rattle.state.specs.State.{reg, next, withPc, withFlags, withDone, withPair}
-use Rattle.control.specs.Low.{formats2to4, lowCodes}
-use Rattle.control.specs.Format2.{iak, rtn, msko, prtn, lcc, format2}
-use Rattle.control.specs.Format4.{svca, svc, format4}
-use Rattle.format6.specs.Format5.{displacement, branch}
-use Rattle.format6.specs.Format6.{immediate, single, double, format6}
+use Rattle.formats2to4.specs.Low.{formats2to4, lowCodes}
+use Rattle.formats2to4.specs.Format2.{iak, rtn, msko, prtn, lcc, format2}
+use Rattle.formats2to4.specs.Format4.{svca, svc, format4}
+use Rattle.formats5to6.specs.Format5.{displacement, branch}
+use Rattle.formats5to6.specs.Format6.{immediate, single, double, format6}
 use Rattle.format7.specs.Format7.{modify, tjmp, column0A, column8A, rowOf, format7}
 use Rattle.format7.proofs.Laws.Columns.{row-is}
 use Rattle.format8.specs.Format8.{rowAt, element}

@@ -6,8 +6,8 @@ use mathlib.Core.List.{List}
 use mathlib.Core.Path.{_≡_, refl, sym, ap, _∙_, subst}
 use lib.Dec.{eqb}
 use lib.ListN.{length}
-use Rattle.words.specs.Words.{wordAt}
-use Rattle.words.proofs.Laws.{word-again}
+use Rattle.wordbytes.specs.Words.{wordAt}
+use Rattle.wordbytes.proofs.Laws.{word-again}
 use Rattle.refusal.specs.Numbers.{noState}
 use Rattle.refusal.specs.Page.{answered, left, call, first, told, reading, nothing}
 use Rattle.refusal.proofs.Laws.Page.{first-both}
@@ -20,7 +20,7 @@ use Rattle.trace.proofs.Laws.Bytes.{told-again, taken-again, bytes-back}
 use Rattle.trace.proofs.Laws.Right.{compared-self}
 use Rattle.trace.proofs.Laws.First.{verdict-says}
 use Rattle.answer.specs.Answer.{answerWhy}
-use Rattle.tracecall.specs.Calls.{verdictWords, checkLeft, verdictIn, checkCall}
+use Rattle.trace_c.specs.Calls.{verdictWords, checkLeft, verdictIn, checkCall}
 use Rattle.laws.specs.Traces.{accepts, Wd16Accepts, Tells, accepted, wrong, missing, extra, Wd16Tells}
 
 -- ---- the words of a verdict

@@ -7,11 +7,11 @@ use native.Mathlib.Omega.{arith}
 use borrow.Author.Tests.{le-ltb}
 use lib.Dec.{eqb, leb, ltb}
 use lib.ListN.{length, getD}
-use Rattle.letters.specs.Over.{over}
+use Rattle.hexdigits.specs.Over.{over}
 use Rattle.refusal.specs.Page.{call}
-use Rattle.words.specs.Words.{wordAt}
+use Rattle.wordbytes.specs.Words.{wordAt}
 use Rattle.board.specs.Work.{fitted, Agree}
-use Rattle.line.specs.Line.{fields}
+use Rattle.benchline.specs.Line.{fields}
 use Rattle.optext.specs.Line.{taken}
 use Rattle.listing.specs.declared.Found.{Found}
 use Rattle.listing.specs.declared.Found.the-variants.{Nothing, Cut, Whole}

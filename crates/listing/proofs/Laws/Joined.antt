@@ -7,14 +7,14 @@ use native.Mathlib.Omega.{arith}
 use borrow.Author.Tests.{le-leb, lt-leb, ltb-true, ltb-false, eqb-false}
 use lib.Dec.{leb, ltb, eqb}
 use lib.ListN.{length, take}
-use Rattle.letters.specs.Over.{over}
-use Rattle.letters.proofs.Laws.Laid.{wrote-take}
+use Rattle.hexdigits.specs.Over.{over}
+use Rattle.hexdigits.proofs.Laws.Laid.{wrote-take}
 use Rattle.refusal.specs.Numbers.{noStretch}
 use Rattle.refusal.specs.Page.{answered, left}
 use Rattle.refusal.proofs.Laws.Page.{answered-one, call-right, first-both}
 use Rattle.refusal.specs.Refusal.{boardRefusal}
 use Rattle.refusal.proofs.Laws.Refusal.{neither}
-use Rattle.words.specs.Words.{wordAt}
+use Rattle.wordbytes.specs.Words.{wordAt}
 use Rattle.board.specs.Work.{fitted}
 use Rattle.optext.specs.Line.{taken}
 use Rattle.listing.specs.declared.Found.the-variants.{Nothing, Cut, Whole}

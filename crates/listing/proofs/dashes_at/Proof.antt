@@ -1,5 +1,5 @@
 use native.Mathlib.Omega.{arith}
-use Rattle.letters.proofs.Laws.Laid.{at-part}
+use Rattle.hexdigits.proofs.Laws.Laid.{at-part}
 use borrow.Author.Needs.{needs}
 use Rattle.listing.proofs.dashes_at.Statement.{statement}
 use Rattle.listing.proofs.dashes_at.Tie as tie

@@ -1,6 +1,6 @@
 use native.Mathlib.Omega.{arith}
-use Rattle.letters.proofs.Laws.Laid.{at-part}
-use Rattle.line.proofs.Laws.Lengths.{field-length}
+use Rattle.hexdigits.proofs.Laws.Laid.{at-part}
+use Rattle.benchline.proofs.Laws.Lengths.{field-length}
 use borrow.Author.Needs.{needs}
 use Rattle.listing.proofs.field_at.Statement.{statement}
 use Rattle.listing.proofs.field_at.Tie as tie

@@ -1,4 +1,4 @@
-use Rattle.words.specs.Words.{wordAt}
+use Rattle.wordbytes.specs.Words.{wordAt}
 use mathlib.Core.Path.{sym, _∙_}
 use native.Mathlib.Omega.{arith}
 use Rattle.listing.proofs.Laws.{fits-word, moves-few, room-there, call-refused, call-line}

@@ -1,7 +1,7 @@
 use native.Mathlib.Omega.{arith}
 use mathlib.Core.List.{[], _∷_}
 use lib.ListN.{length-set}
-use Rattle.letters.proofs.Laws.Laid.{wrote-sets}
+use Rattle.hexdigits.proofs.Laws.Laid.{wrote-sets}
 use borrow.Author.Needs.{needs}
 use Rattle.listing.proofs.put_dashes.Statement.{statement}
 use Rattle.listing.proofs.put_dashes.Tie as tie

@@ -1,8 +1,8 @@
 use native.Mathlib.Omega.{arith}
 use lib.ListN.{length-set}
-use Rattle.letters.specs.Digits.{hex4}
-use Rattle.letters.proofs.Laws.Laid.{wrote-sets}
-use Rattle.line.specs.Line.{field}
+use Rattle.hexdigits.specs.Digits.{hex4}
+use Rattle.hexdigits.proofs.Laws.Laid.{wrote-sets}
+use Rattle.benchline.specs.Line.{field}
 use borrow.Author.Needs.{needs}
 use Rattle.listing.proofs.put_field.Statement.{statement}
 use Rattle.listing.proofs.put_field.Tie as tie

@@ -2,10 +2,10 @@ use mathlib.Core.Path.{_≡_, refl, _∙_}
 use Prim.Native.Nat.{_-_, _*_, _≤_}
 use native.Mathlib.Omega.{arith}
 use lib.ListN.{length, getD}
-use Rattle.letters.specs.Over.{Wrote}
-use Rattle.letters.proofs.Laws.Laid.{then, wrote-none}
-use Rattle.line.specs.Line.{fields}
-use Rattle.line.proofs.Laws.Lengths.{field-length, fields-more}
+use Rattle.hexdigits.specs.Over.{Wrote}
+use Rattle.hexdigits.proofs.Laws.Laid.{then, wrote-none}
+use Rattle.benchline.specs.Line.{fields}
+use Rattle.benchline.proofs.Laws.Lengths.{field-length, fields-more}
 use borrow.Author.Needs.{needs}
 use Rattle.listing.proofs.put_fields.Statement.{statement}
 use Rattle.listing.proofs.put_fields.Tie as tie

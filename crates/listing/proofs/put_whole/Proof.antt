@@ -3,8 +3,8 @@ use mathlib.Core.List.{[], _∷_}
 use Prim.Native.Nat.{_+_}
 use native.Mathlib.Omega.{arith}
 use lib.Seq.{length-take-le}
-use Rattle.letters.proofs.Laws.Laid.{then}
-use Rattle.line.proofs.Laws.Lengths.{fields-length}
+use Rattle.hexdigits.proofs.Laws.Laid.{then}
+use Rattle.benchline.proofs.Laws.Lengths.{fields-length}
 use Rattle.listing.proofs.Laws.{whole-count}
 use borrow.Author.Needs.{needs}
 use Rattle.listing.proofs.put_whole.Statement.{statement}

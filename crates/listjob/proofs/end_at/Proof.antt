@@ -1,4 +1,4 @@
-use Rattle.letters.proofs.Laws.Laid.{at-part}
+use Rattle.hexdigits.proofs.Laws.Laid.{at-part}
 use native.Mathlib.Omega.{arith}
 use borrow.Author.Needs.{needs}
 use Rattle.listjob.proofs.end_at.Statement.{statement}

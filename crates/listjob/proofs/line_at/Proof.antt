@@ -1,5 +1,5 @@
 use native.Mathlib.Omega.{arith}
-use Rattle.letters.proofs.Laws.Laid.{at-part}
+use Rattle.hexdigits.proofs.Laws.Laid.{at-part}
 use Rattle.listjob.proofs.Laws.{part-taken, ended-short, moved-end, moved-goes}
 use borrow.Author.Needs.{needs}
 use Rattle.listjob.proofs.line_at.Statement.{statement}

@@ -1,6 +1,6 @@
 use mathlib.Core.Path.{sym, _∙_}
 use native.Mathlib.Omega.{arith}
-use Rattle.letters.proofs.Laws.Laid.{part-is-drop}
+use Rattle.hexdigits.proofs.Laws.Laid.{part-is-drop}
 use Rattle.job.proofs.Laws.{read-lengths}
 use Rattle.listjob.specs.Stretch.{jobIn}
 use Rattle.listjob.proofs.Laws.{list-refused, taken-is, lists-is, list-done}

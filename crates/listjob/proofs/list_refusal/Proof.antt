@@ -1,5 +1,5 @@
 use mathlib.Core.Path.{refl, _∙_}
-use Rattle.letters.proofs.Laws.Laid.{part-is-drop}
+use Rattle.hexdigits.proofs.Laws.Laid.{part-is-drop}
 use Rattle.listjob.proofs.Laws.{why-short, why-cut, why-job, why-stretch, why-none}
 use borrow.Author.Needs.{needs}
 use Rattle.listjob.proofs.list_refusal.Statement.{statement}

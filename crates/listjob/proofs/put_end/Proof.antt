@@ -1,4 +1,4 @@
-use Rattle.letters.proofs.Laws.Laid.{wrote-sets}
+use Rattle.hexdigits.proofs.Laws.Laid.{wrote-sets}
 use Rattle.listjob.specs.Stretch.{lineEnd}
 use native.Mathlib.Omega.{arith}
 use borrow.Author.Needs.{needs}

@@ -11,7 +11,7 @@ use Rattle.operand.specs.Operand.{direct, indirect, increment, increment
 use Rattle.operand.specs.Modes.{defers, stride, pointer, beyond, through, pointed}
 use lib.Dec.{ltb}
 use Rattle.board.specs.Work.{Work, load, _>>=_}
-use Rattle.word.specs.Address.{plus}
+use Rattle.wordmath.specs.Address.{plus}
 use Rattle.operand.specs.declared.Place.{Place}
 
 -- modes 6 and 7 in one: the sum with the next word is the operand's address, or the address of its address

@@ -7,7 +7,7 @@ use native.Mathlib.Omega.{arith}
 use lib.Dec.{eqb}
 use borrow.Author.Tests.{eq-eqb, eqb-true}
 use lib.ListN.{length, getD, length-append}
-use Rattle.letters.specs.Over.{over, Wrote}
+use Rattle.hexdigits.specs.Over.{over, Wrote}
 use Rattle.optext.specs.declared.reading.Guess.{Guess}
 use Rattle.optext.specs.First.{agree}
 use Rattle.optext.specs.Rows.{firstOf, secondOf}

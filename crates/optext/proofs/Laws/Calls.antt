@@ -9,7 +9,7 @@ use lib.Dec.{ltb}
 use lib.ListN.{length, take, drop, getD, length-take, List·getD-eq-default}
 use lib.Seq.{take-append-seam, length-take-le, getD-take}
 use borrow.Author.Tests.{ltb-false, le-ltb}
-use Rattle.letters.specs.Over.{over}
+use Rattle.hexdigits.specs.Over.{over}
 use Rattle.optext.specs.declared.rows.Kind.{Kind}
 use Rattle.optext.specs.declared.Written.{Written}
 use Rattle.optext.specs.declared.Written.the-variants.{Line}

@@ -10,7 +10,7 @@ use borrow.Author.Tests.{ne-eqb}
 use lib.ListN.{length}
 use Rattle.optext.specs.declared.rows.Kind.{Kind}
 use Rattle.optext.specs.declared.rows.Kind.the-variants.{None, Mask, Disp, Reg, Arg4, Arg6, Count, High, Mid, Dst, Addr, Src, Word}
-use Rattle.letters.specs.Digits.{hex4, hex2}
+use Rattle.hexdigits.specs.Digits.{hex4, hex2}
 use Rattle.optext.specs.Line.{regText, upText, literalText, downText, offsetText, plainText, modeText, modeTakes, operandText, takes, isShown, sepText}
 
 pub plain-reg : (p r x : ℕ) → p ≡ 0 → plainText p r x ≡ regText r

@@ -5,7 +5,7 @@ use mathlib.Core.List.{List, [], _∷_}
 use Prim.Native.Nat.{ℕ, _≤_}
 use native.Mathlib.Omega.{arith}
 use lib.ListN.{length, length-append}
-use Rattle.letters.specs.Digits.{digits, hexOf, hex4}
+use Rattle.hexdigits.specs.Digits.{digits, hexOf, hex4}
 use Rattle.optext.specs.Rows.{rows, theRow, firstOf, secondOf}
 use Rattle.optext.specs.Line.{registers, regA, regB, offsetText, plainText, modeText, modeTakes, addressed, rowOf, isShown, sepText, lineText, textOf}
 use Rattle.optext.proofs.Laws.Choose.{bool-cases}

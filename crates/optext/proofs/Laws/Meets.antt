@@ -9,7 +9,7 @@ use Rattle.optext.specs.declared.reading.Operand.{Operand}
 use Rattle.optext.specs.declared.rows.Kind.{Kind}
 use Rattle.optext.specs.declared.Written.{Written}
 use Rattle.optext.specs.declared.Written.the-variants.{Line, TextShort, NoWords, WordMissing}
-use Rattle.letters.specs.Over.{Wrote}
+use Rattle.hexdigits.specs.Over.{Wrote}
 use Rattle.optext.specs.Rows.{wordRow, nameOf, baseOf, firstOf, secondOf}
 use Rattle.optext.specs.Line.{rowOf, operandText, takes, sepText, rowText, wordText, lineText, taken, textOf}
 use Rattle.optext.specs.Guess.{rowAt, unOp, guess, guessA, guessB, guessOf}
@@ -17,7 +17,7 @@ use Rattle.refusal.specs.Page.{left}
 use Rattle.optext.specs.Answer.{writtenPage, writeWhy, writeOf, Writes, writeWordOf}
 use Rattle.optext.specs.Column.{Whole}
 use Rattle.optext.specs.Words.{Accepts, own, wordsOf}
-use Rattle.letters.proofs.Laws.Laid.{wrote-take, wrote-rest}
+use Rattle.hexdigits.proofs.Laws.Laid.{wrote-take, wrote-rest}
 use Rattle.optext.proofs.Laws.Forms.{takes-le}
 use Rattle.optext.proofs.Laws.Back.{op-ignores}
 use Rattle.optext.proofs.Laws.Longest.{text-le}

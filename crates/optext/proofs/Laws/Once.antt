@@ -7,7 +7,7 @@ use native.Mathlib.Decide.{decLt}
 use native.Mathlib.Omega.{arith}
 use lib.ListN.{length, take}
 use lib.Seq.{take-take}
-use Rattle.letters.specs.Over.{over}
+use Rattle.hexdigits.specs.Over.{over}
 use Rattle.optext.specs.Line.{textOf}
 use Rattle.refusal.specs.Page.{Page, refused, refusedAt, answered}
 use Rattle.optext.specs.Column.{Begins, Column, Why, early, after, name, operand}

@@ -9,7 +9,7 @@ use lib.Dec.{ltb, eqb}
 use borrow.Author.Tests.{eq-eqb, ne-eqb, lt-ltb, le-ltb}
 use lib.ListN.{length, drop, getD}
 use lib.Seq.{getD-drop}
-use Rattle.letters.specs.Digits.{hexOf, hex4}
+use Rattle.hexdigits.specs.Digits.{hexOf, hex4}
 use Rattle.optext.specs.declared.rows.Kind.{Kind}
 use Rattle.optext.specs.declared.rows.Kind.the-variants.{None, Mask, Disp, Reg, Arg4, Arg6, Count, High, Mid, Dst, Addr, Src, Word}
 use Rattle.optext.specs.declared.reading.Operand.{Operand}

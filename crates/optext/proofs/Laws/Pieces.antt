@@ -8,7 +8,7 @@ use lib.Dec.{eqb, eqb→eq}
 use borrow.Author.Tests.{eq-eqb, ne-eqb, lt-ltb, le-ltb}
 use lib.ListN.{drop, getD}
 use lib.Seq.{getD-drop}
-use Rattle.letters.specs.Digits.{digits, hexOf, hex4, hex2}
+use Rattle.hexdigits.specs.Digits.{digits, hexOf, hex4, hex2}
 use Rattle.optext.specs.Digits.{unHex, unHex4, unHex2}
 use Rattle.optext.specs.Line.{registers, regA, regB, regText}
 use Rattle.optext.specs.Guess.{unCount, unReg, notPc}

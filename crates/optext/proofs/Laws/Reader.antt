@@ -8,7 +8,7 @@ use native.Mathlib.Omega.{arith}
 use lib.Dec.{T, ltb, eqb, eqb→eq}
 use borrow.Author.Tests.{ltb-true, eqb-false}
 use lib.ListN.{length, take, drop, getD, length-append, List·getD-append}
-use Rattle.letters.specs.Digits.{letters, hex4}
+use Rattle.hexdigits.specs.Digits.{letters, hex4}
 use Rattle.optext.specs.Digits.{unHex4}
 use Rattle.optext.specs.Rows.{wordRow, rowCount, rows, theRow, nameOf, firstOf, secondOf}
 use Rattle.optext.specs.Line.{rowOf, takes, taken, sepText, lineText, textOf, wordText}

@@ -6,7 +6,7 @@ use Prim.Native.Nat.{ℕ, zero, suc, _+_, _*_, _/_, _%_, _≤_, _<_}
 use native.Mathlib.Omega.{arith}
 use lib.Dec.{T, eqb}
 use lib.ListN.{length, getD, length-append}
-use Rattle.letters.specs.Digits.{letters, digits, hexOf, hex4, hex2}
+use Rattle.hexdigits.specs.Digits.{letters, digits, hexOf, hex4, hex2}
 use Rattle.optext.specs.declared.rows.Kind.{Kind}
 use Rattle.optext.specs.declared.rows.Kind.the-variants.{None, Mask, Disp, Reg, Arg4, Arg6, Count, High, Mid, Dst, Addr, Src, Word}
 use Rattle.optext.specs.Rows.{rowCount, rows, theRow, nameOf, firstOf, secondOf}

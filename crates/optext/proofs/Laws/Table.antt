@@ -11,7 +11,7 @@ use lib.ListN.{length, getD, drop, List·getD-append, List·getD-eq-default}
 use lib.Seq.{getD-drop, drop-append-add}
 use Rattle.optext.specs.declared.rows.Kind.{Kind}
 use Rattle.optext.specs.declared.rows.Kind.the-variants.{None, Mask, Disp, Reg, Arg4, Arg6, Count, High, Mid, Dst, Addr, Src, Word}
-use Rattle.letters.specs.Digits.{hex4}
+use Rattle.hexdigits.specs.Digits.{hex4}
 use Rattle.optext.specs.Rows.{Row, rowCount, rowWidth, rows, theRow, noRow, nameOf, baseOf, firstOf, secondOf, lineOf, flat, letterOf, kindAs}
 use Rattle.optext.specs.Line.{isShown}
 use Rattle.optext.proofs.Laws.Choose.{lt-cases, at}

@@ -12,7 +12,7 @@ use Rattle.optext.specs.declared.Written.the-variants.{Line, TextShort, 
 use Rattle.optext.specs.declared.ReadBack.{ReadBack}
 use Rattle.optext.specs.declared.ReadBack.the-variants.{Words, WordsShort, EarlyEnd, AfterText, UnknownName, BadOperand}
 use lib.Seq.{take-append-seam}
-use Rattle.letters.specs.Over.{over}
+use Rattle.hexdigits.specs.Over.{over}
 use Rattle.optext.specs.First.{agree}
 use Rattle.optext.specs.Rows.{firstOf, secondOf}
 use Rattle.optext.specs.Line.{rowOf, takes, lineText, taken, textOf}

@@ -2,7 +2,7 @@ use mathlib.Core.Path.{_≡_, refl, _∙_}
 use mathlib.Core.List.{[], _∷_}
 use native.Mathlib.Omega.{arith}
 use lib.ListN.{length-set}
-use Rattle.letters.proofs.Laws.Laid.{wrote-sets}
+use Rattle.hexdigits.proofs.Laws.Laid.{wrote-sets}
 use Rattle.optext.specs.Rows.{firstOf, secondOf}
 use Rattle.optext.specs.Line.{takes, rowOf, taken}
 use Rattle.optext.proofs.Laws.Meets.{words-3, words-a, words-b, words-1}

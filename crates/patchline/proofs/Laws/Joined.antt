@@ -5,7 +5,7 @@ use Prim.Native.Nat.{ℕ, _+_, _≤_}
 use native.Mathlib.Omega.{arith}
 use lib.ListN.{length, take, drop, length-append, take-append-drop}
 use lib.Seq.{take-at, drop-at, drop-drop, length-take-le}
-use Rattle.letters.specs.Over.{over, WroteAt}
+use Rattle.hexdigits.specs.Over.{over, WroteAt}
 
 pub then-at : (at n m : ℕ) (p s b b1 e : List ℕ) → at ≤ length b → WroteAt at p b b1 n → WroteAt n s b1 e m → WroteAt at (p ++ s) b e m
 unfolding over

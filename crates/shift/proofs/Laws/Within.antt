@@ -6,9 +6,9 @@ use native.Mathlib.Nat.{mod-lt, pow-suc}
 use native.Mathlib.Omega.{arith}
 use lib.Pow.{pow-pos}
 use Rattle.shift.specs.declared.Turn.{Turn}
-use Rattle.codes.specs.declared.Way.{Way}
-use Rattle.codes.specs.declared.Way.the-variants.{RightRotate, LeftRotate, RightArith, LeftArith}
-use Rattle.word.specs.Number.{sign}
+use Rattle.opcodes.specs.declared.Way.{Way}
+use Rattle.opcodes.specs.declared.Way.the-variants.{RightRotate, LeftRotate, RightArith, LeftArith}
+use Rattle.wordmath.specs.Number.{sign}
 use Rattle.shift.specs.Shift.{right, left, turn, turns}
 
 -- 2 ^ w is twice what the highest of w bits counts

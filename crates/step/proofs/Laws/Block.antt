@@ -9,7 +9,7 @@ use mathlib.Core.Path.{_≡_, refl, sym, ap, _∙_}
 use lib.Dec.{eqb}
 use borrow.Author.Tests.{ne-eqb, eqb-true, eqb-false}
 use Rattle.plate.specs.Plate.{formatOf}
-use Rattle.word.specs.Address.{plus, minus}
+use Rattle.wordmath.specs.Address.{plus, minus}
 use Rattle.board.specs.Work.{Size, value, run, fitted, writable, wordAt, get, put, _>>=_}
 use Rattle.board.proofs.Laws.Follows.{run-then, put-apart}
 use Rattle.state.specs.declared.State.{State}
@@ -20,7 +20,7 @@ use Rattle.state.specs.Answer.{taken}
 use Rattle.state.specs.Stack.{fetch}
 use Rattle.format8.specs.declared.Row.{Row}
 use Rattle.format8.specs.Format8.{rowOf, sizeOf, transfer, onward, counted, again, element, format8}
-use Rattle.codes.specs.Fields.{blockSource, blockDestination}
+use Rattle.opcodes.specs.Fields.{blockSource, blockDestination}
 use Rattle.format8.specs.Page.{Plain, countOf, along, carried, imageAfter, stateAfter}
 use Rattle.format8.proofs.Laws.Moved.{onceMore, once-after, once-pc, once-count, once-source, once-destination, last-after, counted-count, past-source, past-destination}
 use Rattle.step.specs.declared.Kind.the-variants.{OpCode}

@@ -10,7 +10,7 @@ use Rattle.board.proofs.Laws.Bounded.{bounded-then, bounded-more, bounded-load,
 use Rattle.state.specs.declared.State.{State}
 use Rattle.state.specs.declared.Outside.{Outside}
 use Rattle.state.proofs.Laws.Bounds.{bounded-cond, bounded-popReg, bounded-pop, bounded-fetch, bounded-fromLoc, bounded-pushBoth, bounded-trap}
-use Rattle.control.proofs.Laws.Bounds.{bounded-lowCodes}
+use Rattle.formats2to4.proofs.Laws.Bounds.{bounded-lowCodes}
 use Rattle.state.proofs.Laws.Bounds.{bounded-tabled}
 use Rattle.format7.proofs.Laws.Bounds.{bounded-format7}
 use Rattle.format8.proofs.Laws.Bounds.{bounded-format8}

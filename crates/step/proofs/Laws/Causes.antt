@@ -11,7 +11,7 @@ use Rattle.state.specs.declared.Outside.{Outside}
 use Rattle.state.specs.declared.Mode.the-variants.{Locked}
 use Rattle.state.specs.State.{withReg, withMode, withI2, psOf}
 use Rattle.state.specs.Registers.{setReg}
-use Rattle.word.specs.Address.{minus}
+use Rattle.wordmath.specs.Address.{minus}
 use Rattle.state.specs.Stack.{push, pushBoth, fromLoc, trap}
 use Rattle.step.specs.declared.Kind.{Kind}
 use Rattle.step.specs.declared.Kind.the-variants.{OpCode, HaltEnd, Boots, Saves, LocksUp, Restarts, Restores, NonVectored, Vectored, Waits, Stuck}

@@ -13,9 +13,9 @@ use Rattle.state.specs.declared.Mode.the-variants.{Running}
 use Rattle.state.specs.State.{withReg, withPc, withMark, withI2}
 use Rattle.state.specs.Registers.{setReg}
 use Rattle.state.specs.Stack.{push, pushBoth, fromLoc, fetch}
-use Rattle.word.specs.Address.{plus, minus}
+use Rattle.wordmath.specs.Address.{plus, minus}
 use Rattle.plate.specs.Plate.{formatOf}
-use Rattle.control.specs.Low.{lowCodes}
+use Rattle.formats2to4.specs.Low.{lowCodes}
 use Rattle.format1.specs.Format1.{ien, format1}
 use Rattle.step.specs.declared.Kind.the-variants.{OpCode, NonVectored, Vectored}
 use Rattle.step.specs.declared.Cause.the-variants as Cause

@@ -12,9 +12,9 @@ use borrow.Author.Tests.{eqb-true}
 use Rattle.board.specs.Work.{word, value, run, fitted, writable, even, wordAt, withWord, _>>=_}
 use Rattle.board.proofs.Laws.{size-put}
 use Rattle.board.proofs.Laws.Follows.{put-apart}
-use Rattle.word.specs.Number.{digit}
-use Rattle.word.proofs.Laws.Digit.{digit-le}
-use Rattle.word.specs.Status.{flagsOf, enableOf}
+use Rattle.wordmath.specs.Number.{digit}
+use Rattle.wordmath.proofs.Laws.Digit.{digit-le}
+use Rattle.wordmath.specs.Status.{flagsOf, enableOf}
 use Rattle.state.specs.declared.State.{State}
 use Rattle.state.specs.declared.Outside.{Outside}
 use Rattle.state.specs.declared.Mode.the-variants.{Running, Saved}

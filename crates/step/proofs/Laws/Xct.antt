@@ -4,7 +4,7 @@ use mathlib.Core.Bool.{Bool, true, false, not, cond}
 use mathlib.Core.List.{List}
 use mathlib.Core.Path.{_≡_, refl, ap, _∙_}
 use Rattle.plate.specs.Plate.{formatOf}
-use Rattle.codes.specs.Fields.{highByte}
+use Rattle.opcodes.specs.Fields.{highByte}
 use Rattle.board.specs.Work.{give}
 use Rattle.board.specs.Exec.{Store, good, gone, exec, Got}
 use Rattle.state.specs.declared.State.{State}

@@ -1,5 +1,5 @@
 use native.Mathlib.Omega.{arith}
-use Rattle.letters.proofs.Laws.Laid.{at-part}
+use Rattle.hexdigits.proofs.Laws.Laid.{at-part}
 use Rattle.stepline.proofs.Laws.{columns-length}
 use borrow.Author.Needs.{needs}
 use Rattle.stepline.proofs.columns_at.Statement.{statement}

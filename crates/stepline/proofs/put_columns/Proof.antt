@@ -2,8 +2,8 @@ use Prim.Native.Nat.{_-_, _*_, _≤_}
 use mathlib.Core.Path.{_≡_, refl, _∙_}
 use native.Mathlib.Omega.{arith}
 use lib.ListN.{length, getD}
-use Rattle.letters.specs.Over.{Wrote}
-use Rattle.letters.proofs.Laws.Laid.{then, wrote-none}
+use Rattle.hexdigits.specs.Over.{Wrote}
+use Rattle.hexdigits.proofs.Laws.Laid.{then, wrote-none}
 use Rattle.stepline.specs.Shown.{columns}
 use Rattle.stepline.proofs.Laws.{column-length, columns-more}
 use borrow.Author.Needs.{needs}

@@ -1,5 +1,5 @@
 use native.Mathlib.Omega.{arith}
-use Rattle.letters.proofs.Laws.Laid.{wrote-sets}
+use Rattle.hexdigits.proofs.Laws.Laid.{wrote-sets}
 use Rattle.stepline.specs.Shown.{tab}
 use borrow.Author.Needs.{needs}
 use Rattle.stepline.proofs.put_tab.Statement.{statement}

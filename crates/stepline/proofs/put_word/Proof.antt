@@ -1,6 +1,6 @@
 use native.Mathlib.Omega.{arith}
 use Prim.Native.Nat.{_*_, _/_}
-use Rattle.letters.proofs.Laws.Laid.{then}
+use Rattle.hexdigits.proofs.Laws.Laid.{then}
 use Rattle.stepline.proofs.Laws.{column-length}
 use borrow.Author.Needs.{needs}
 use Rattle.stepline.proofs.put_word.Statement.{statement}

@@ -2,8 +2,8 @@ use Prim.Native.Nat.{_-_, _+_, _*_, _≤_}
 use mathlib.Core.Path.{_≡_, refl, _∙_}
 use native.Mathlib.Omega.{arith}
 use lib.ListN.{length, getD}
-use Rattle.letters.specs.Over.{Wrote}
-use Rattle.letters.proofs.Laws.Laid.{then}
+use Rattle.hexdigits.specs.Over.{Wrote}
+use Rattle.hexdigits.proofs.Laws.Laid.{then}
 use Rattle.board.specs.Exec.{count}
 use Rattle.step.specs.Written.{entries}
 use Rattle.stepline.specs.Shown.{writesText}

@@ -1,5 +1,5 @@
 use native.Mathlib.Omega.{arith}
-use Rattle.letters.proofs.Laws.Laid.{at-part}
+use Rattle.hexdigits.proofs.Laws.Laid.{at-part}
 use Rattle.board.specs.Exec.{count}
 use Rattle.stepline.proofs.Laws.{writes-length}
 use borrow.Author.Needs.{needs}

@@ -8,8 +8,8 @@ use lib.ListN.{length, drop, length-append}
 use lib.Dec.{leb, eqb}
 use lib.Seq.{drop-cons, drop-length, getD-append-add}
 use borrow.Author.Tests.{le-leb, eq-eqb, eqb-true}
-use Rattle.words.specs.Words.{byteAt, wordAt, low, high, bytesIn}
-use Rattle.words.proofs.Laws.{word-again, low-of, high-of}
+use Rattle.wordbytes.specs.Words.{byteAt, wordAt, low, high, bytesIn}
+use Rattle.wordbytes.proofs.Laws.{word-again, low-of, high-of}
 use Rattle.state.specs.declared.State.{State}
 use Rattle.step.specs.Step.{After}
 use Rattle.refusal.specs.Numbers.{traceCut}

@@ -9,7 +9,7 @@ use lib.Dec.{leb, eqb}
 use lib.ListN.{length, take, getD, List·getD-eq-default}
 use lib.Seq.{take-all, length-take-le, getD-take}
 use borrow.Author.Tests.{le-leb, eqb-true, ne-eqb}
-use Rattle.words.specs.Words.{wordAt}
+use Rattle.wordbytes.specs.Words.{wordAt}
 use Rattle.refusal.specs.Numbers.{traceCut}
 use Rattle.refusal.proofs.Laws.Page.{first-both}
 use Rattle.refusal.proofs.Laws.Refusal.{cond-none}

@@ -8,8 +8,8 @@ use lib.Dec.{eqb}
 use lib.ListN.{length, take}
 use lib.Seq.{take-append-seam}
 use borrow.Author.Tests.{eqb-true, eq-eqb}
-use Rattle.words.specs.Words.{byteAt}
-use Rattle.letters.specs.Over.{over}
+use Rattle.wordbytes.specs.Words.{byteAt}
+use Rattle.hexdigits.specs.Over.{over}
 use Rattle.step.specs.Step.{After}
 use Rattle.refusal.specs.Page.{Page, refused, refusedAt, answered, left}
 use Rattle.refusal.proofs.Laws.Page.{apart, answered-one, first-both, call-right, one, one-call}

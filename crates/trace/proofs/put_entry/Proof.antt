@@ -3,7 +3,7 @@ use mathlib.Core.Path.{_≡_, refl, _∙_}
 use native.Mathlib.Omega.{arith}
 use lib.ListN.{length, drop}
 use lib.Seq.{sets}
-use Rattle.words.specs.Words.{bytesIn}
+use Rattle.wordbytes.specs.Words.{bytesIn}
 use Rattle.trace.proofs.Laws.{put-more, put-none}
 use borrow.Author.Needs.{needs}
 use Rattle.trace.proofs.put_entry.Statement.{statement}

@@ -4,7 +4,7 @@ use native.Mathlib.Omega.{arith}
 use lib.ListN.{length, drop}
 use lib.Seq.{sets}
 use Rattle.board.specs.Exec.{Board, beside}
-use Rattle.words.specs.Words.{bytesIn}
+use Rattle.wordbytes.specs.Words.{bytesIn}
 use Rattle.trace.specs.Trace.{entriesOf, joined}
 use Rattle.trace.proofs.Laws.Bytes.{right-ten}
 use Rattle.trace.specs.Walk.{trail, imageOn}

@@ -2,10 +2,10 @@
 use Prim.Native.Nat.{ℕ, _-_, _<_}
 use mathlib.Core.Bool.{Bool}
 use native.Mathlib.Omega.{arith}
-use Rattle.word.specs.declared.Flags.{Flags}
-use Rattle.codes.specs.declared.Way.the-variants.{RightRotate, LeftRotate, RightArith, LeftArith}
-use Rattle.codes.specs.declared.Unary.{Unary}
-use Rattle.codes.specs.declared.Unary.the-variants.{Ror, Rol, Tst, Asl, Set, Clr, Asr, Swap, Com, Neg, Inc, Dec}
+use Rattle.wordmath.specs.declared.Flags.{Flags}
+use Rattle.opcodes.specs.declared.Way.the-variants.{RightRotate, LeftRotate, RightArith, LeftArith}
+use Rattle.opcodes.specs.declared.Unary.{Unary}
+use Rattle.opcodes.specs.declared.Unary.the-variants.{Ror, Rol, Tst, Asl, Set, Clr, Asr, Swap, Com, Neg, Inc, Dec}
 use Rattle.shift.proofs.Laws.Within.{turn-lt}
 use Rattle.unary.specs.Unary.{unaryOf}
 

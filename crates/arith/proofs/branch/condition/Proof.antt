@@ -1,6 +1,6 @@
 use mathlib.Core.Bool.{false}
 use mathlib.Core.Path.{refl}
-use Rattle.codes.proofs.Laws.Past.{past}
+use Rattle.opcodes.proofs.Laws.Past.{past}
 use Rattle.arith.specs.Branch.{conditions}
 use borrow.Author.Needs.{needs}
 use Rattle.arith.proofs.branch.condition.Statement.{statement}

@@ -2,7 +2,7 @@ use Prim.Native.Nat.{_≤_}
 use native.Mathlib.Omega.{arith}
 use borrow.Author.Needs.{needs}
 use Rattle.assembler.specs.Section.{pair}
-use Rattle.letters.proofs.Laws.Laid.{at-part}
+use Rattle.hexdigits.proofs.Laws.Laid.{at-part}
 use lib.ListN.{length}
 use Rattle.assembler.proofs.labelling.pair_at.Statement.{statement}
 use Rattle.assembler.proofs.labelling.pair_at.Tie as tie

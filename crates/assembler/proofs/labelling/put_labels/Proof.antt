@@ -3,7 +3,7 @@ use Prim.Native.Nat.{_-_, _≤_}
 use native.Mathlib.Omega.{arith}
 use borrow.Author.Needs.{needs}
 use lib.ListN.{length}
-use Rattle.letters.specs.Over.{WroteAt}
+use Rattle.hexdigits.specs.Over.{WroteAt}
 use Rattle.patchline.specs.Text.{labelOf}
 use Rattle.assembler.specs.Source.{countOf}
 use Rattle.assembler.specs.Labels.{labelsTo}

@@ -3,7 +3,7 @@ use mathlib.Core.List.{List}
 use Prim.Native.Nat.{ℕ, _≤_}
 use native.Mathlib.Omega.{arith}
 use lib.ListN.{length, drop-of-length-le}
-use Rattle.letters.proofs.Laws.Laid.{part-is-drop}
+use Rattle.hexdigits.proofs.Laws.Laid.{part-is-drop}
 use lib.Seq.{drop-length}
 use borrow.Author.Needs.{needs}
 use Rattle.optext.proofs.reading.after.Statement.{statement}

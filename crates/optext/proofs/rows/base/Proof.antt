@@ -1,6 +1,6 @@
 use mathlib.Core.Path.{refl}
 use Rattle.optext.specs.Rows.{rows}
-use Rattle.letters.specs.Digits.{digits, hexOf, hex4}
+use Rattle.hexdigits.specs.Digits.{digits, hexOf, hex4}
 use borrow.Author.Needs.{needs}
 use Rattle.optext.proofs.rows.base.Statement.{statement}
 use Rattle.optext.proofs.rows.base.Tie as tie

@@ -1,6 +1,6 @@
 use mathlib.Core.List.{[]}
 use Rattle.optext.specs.Rows.{baseOf}
-use Rattle.letters.specs.Digits.{hex4}
+use Rattle.hexdigits.specs.Digits.{hex4}
 use Rattle.optext.specs.Digits.{unHex4}
 use Rattle.optext.proofs.Laws.Back.{hex4-back}
 use Rattle.optext.proofs.Laws.Table.{base-lt}

@@ -1,5 +1,5 @@
 use Rattle.optext.specs.Rows.{rows}
-use Rattle.letters.specs.Digits.{digits, hexOf, hex4}
+use Rattle.hexdigits.specs.Digits.{digits, hexOf, hex4}
 use Rattle.optext.proofs.Laws.Table.{table-at}
 use borrow.Author.Needs.{needs}
 use Rattle.optext.proofs.rows.letter.Statement.{statement}

@@ -4,7 +4,7 @@ use native.Mathlib.Omega.{arith}
 use borrow.Author.Tests.{ne-eqb}
 use Rattle.optext.specs.Rows.{baseOf, firstOf, secondOf, kindAs}
 use Rattle.optext.specs.Line.{taken}
-use Rattle.letters.specs.Digits.{hex4}
+use Rattle.hexdigits.specs.Digits.{hex4}
 use Rattle.optext.proofs.Laws.Table.{kind-back}
 use borrow.Author.Needs.{needs}
 use Rattle.optext.proofs.rows.row_fits.Statement.{statement}

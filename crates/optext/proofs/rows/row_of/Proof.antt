@@ -6,7 +6,7 @@ use Rattle.optext.specs.Line.{fitsRow, rowOf, taken}
 use Rattle.optext.proofs.Laws.Choose.{first-found, first-next, first-end}
 use Rattle.optext.specs.First.{firstFrom}
 use Rattle.optext.specs.Rows.{wordRow, rows, flat}
-use Rattle.letters.specs.Digits.{digits, hexOf, hex4}
+use Rattle.hexdigits.specs.Digits.{digits, hexOf, hex4}
 use Rattle.optext.proofs.Laws.Table.{flat-length}
 use Rattle.optext.proofs.rows.row_of.Statement.{statement}
 use Rattle.optext.proofs.rows.row_of.Tie as tie

@@ -1,6 +1,6 @@
 use mathlib.Core.Path.{ap, _∙_}
 use Rattle.optext.specs.Rows.{secondOf, kindAs}
-use Rattle.letters.specs.Digits.{hex4}
+use Rattle.hexdigits.specs.Digits.{hex4}
 use Rattle.optext.proofs.Laws.Table.{kind-back}
 use borrow.Author.Needs.{needs}
 use Rattle.optext.proofs.rows.second.Statement.{statement}

@@ -1,7 +1,7 @@
 use Prim.Native.Nat.{_≤_}
 use native.Mathlib.Omega.{arith}
 use lib.ListN.{length}
-use Rattle.letters.proofs.Laws.Laid.{at-part}
+use Rattle.hexdigits.proofs.Laws.Laid.{at-part}
 use Rattle.optext.specs.Line.{sepText}
 use Rattle.optext.proofs.Laws.Forms.{sep-le}
 use borrow.Author.Needs.{needs}

@@ -1,7 +1,7 @@
 use mathlib.Core.List.{[], _∷_}
 use native.Mathlib.Omega.{arith}
-use Rattle.letters.proofs.Laws.Laid.{wrote-sets}
-use Rattle.letters.specs.Digits.{hexOf}
+use Rattle.hexdigits.proofs.Laws.Laid.{wrote-sets}
+use Rattle.hexdigits.specs.Digits.{hexOf}
 use borrow.Author.Needs.{needs}
 use Rattle.optext.proofs.writing.put_digit.Statement.{statement}
 use Rattle.optext.proofs.writing.put_digit.Tie as tie

@@ -1,6 +1,6 @@
 use native.Mathlib.Omega.{arith}
-use Rattle.letters.proofs.Laws.Laid.{wrote-sets}
-use Rattle.letters.specs.Digits.{hex2}
+use Rattle.hexdigits.proofs.Laws.Laid.{wrote-sets}
+use Rattle.hexdigits.specs.Digits.{hex2}
 use borrow.Author.Needs.{needs}
 use Rattle.optext.proofs.writing.put_hex2.Statement.{statement}
 use Rattle.optext.proofs.writing.put_hex2.Tie as tie

@@ -3,7 +3,7 @@ use native.Mathlib.Omega.{arith}
 use lib.ListN.{length}
 use Rattle.optext.proofs.Laws.Table.{name-le}
 use Rattle.optext.proofs.Laws.Forms.{sep-le}
-use Rattle.letters.proofs.Laws.Laid.{then}
+use Rattle.hexdigits.proofs.Laws.Laid.{then}
 use borrow.Author.Needs.{needs}
 use Rattle.optext.proofs.writing.put_line.Statement.{statement}
 use Rattle.optext.proofs.writing.put_line.Tie as tie

@@ -3,8 +3,8 @@ use mathlib.Core.Path.{_≡_, refl, _∙_}
 use Prim.Native.Nat.{_≤_, _<_, _-_}
 use native.Mathlib.Omega.{arith}
 use lib.ListN.{length, take, length-set}
-use Rattle.letters.proofs.Laws.Laid.{copy-none, copy-more}
-use Rattle.letters.specs.Over.{over}
+use Rattle.hexdigits.proofs.Laws.Laid.{copy-none, copy-more}
+use Rattle.hexdigits.specs.Over.{over}
 use Rattle.optext.specs.Rows.{nameOf}
 use Rattle.optext.proofs.Laws.Table.{name-letter}
 use lib.Seq.{take-length}

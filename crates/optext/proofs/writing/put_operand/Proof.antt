@@ -1,7 +1,7 @@
 use mathlib.Core.List.{[]}
 use native.Mathlib.Omega.{arith}
-use Rattle.letters.specs.Digits.{hex4}
-use Rattle.letters.proofs.Laws.Laid.{wrote-sets, wrote-fits}
+use Rattle.hexdigits.specs.Digits.{hex4}
+use Rattle.hexdigits.proofs.Laws.Laid.{wrote-sets, wrote-fits}
 use borrow.Author.Needs.{needs}
 use Rattle.optext.proofs.writing.put_operand.Statement.{statement}
 use Rattle.optext.proofs.writing.put_operand.Tie as tie

@@ -1,5 +1,5 @@
 use native.Mathlib.Omega.{arith}
-use Rattle.letters.proofs.Laws.Laid.{wrote-sets}
+use Rattle.hexdigits.proofs.Laws.Laid.{wrote-sets}
 use Rattle.optext.specs.Line.{regText}
 use borrow.Author.Needs.{needs}
 use Rattle.optext.proofs.writing.put_reg.Statement.{statement}

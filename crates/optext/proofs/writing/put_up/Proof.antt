@@ -1,6 +1,6 @@
 use native.Mathlib.Omega.{arith}
 use lib.ListN.{length-set}
-use Rattle.letters.proofs.Laws.Laid.{wrote-sets}
+use Rattle.hexdigits.proofs.Laws.Laid.{wrote-sets}
 use Rattle.optext.specs.Line.{upText}
 use borrow.Author.Needs.{needs}
 use Rattle.optext.proofs.writing.put_up.Statement.{statement}

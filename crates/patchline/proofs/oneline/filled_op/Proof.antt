@@ -9,7 +9,7 @@ use lib.ListN.{length}
 use lib.Seq.{length-take-le}
 use Rattle.patchline.specs.Line.{opIn}
 use Rattle.optext.specs.Read.{readOf, opOf}
-use Rattle.letters.proofs.Laws.Laid.{wrote-take}
+use Rattle.hexdigits.proofs.Laws.Laid.{wrote-take}
 use Rattle.patchline.proofs.oneline.filled_op.Statement.{statement}
 use Rattle.patchline.proofs.oneline.filled_op.Tie as tie
 

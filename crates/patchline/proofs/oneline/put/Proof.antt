@@ -3,8 +3,8 @@ use Prim.Native.Nat.{_-_, _≤_, _<_}
 use native.Mathlib.Omega.{arith}
 use lib.ListN.{length, take, length-set}
 use lib.Seq.{take-length}
-use Rattle.letters.specs.Over.{over}
-use Rattle.letters.proofs.Laws.Laid.{copy-none, copy-more}
+use Rattle.hexdigits.specs.Over.{over}
+use Rattle.hexdigits.proofs.Laws.Laid.{copy-none, copy-more}
 use Rattle.patchline.proofs.oneline.put.Statement.{statement}
 use Rattle.patchline.proofs.oneline.put.Tie as tie
 

@@ -4,7 +4,7 @@ use borrow.Author.Needs.{needs}
 use Rattle.patchline.proofs.Laws.{part-le, filled-in-le, alias-le, first-in-le}
 use lib.ListN.{length}
 use Rattle.patchline.specs.Line.{filled}
-use Rattle.letters.proofs.Laws.Laid.{then}
+use Rattle.hexdigits.proofs.Laws.Laid.{then}
 use Rattle.patchline.proofs.oneline.put_filled.Statement.{statement}
 use Rattle.patchline.proofs.oneline.put_filled.Tie as tie
 

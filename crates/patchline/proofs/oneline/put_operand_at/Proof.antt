@@ -4,7 +4,7 @@ use borrow.Author.Needs.{needs}
 use Rattle.patchline.proofs.Laws.{filled-in-le}
 use lib.ListN.{length}
 use Rattle.patchline.specs.Line.{filledIn}
-use Rattle.letters.proofs.Laws.Laid.{at-part}
+use Rattle.hexdigits.proofs.Laws.Laid.{at-part}
 use Rattle.patchline.proofs.oneline.put_operand_at.Statement.{statement}
 use Rattle.patchline.proofs.oneline.put_operand_at.Tie as tie
 

@@ -1,7 +1,7 @@
 use borrow.Author.Needs.{needs}
 use native.Mathlib.Omega.{arith}
 use native.Mathlib.Nat.{mod-lt}
-use Rattle.word.proofs.Laws.Digit.{digit-le}
+use Rattle.wordmath.proofs.Laws.Digit.{digit-le}
 use Rattle.shift.proofs.turning.left.Statement.{statement}
 use Rattle.shift.proofs.turning.left.Tie as tie
 

@@ -1,6 +1,6 @@
 use borrow.Author.Needs.{needs}
 use native.Mathlib.Omega.{arith}
-use Rattle.word.proofs.Laws.Digit.{digit-of-le}
+use Rattle.wordmath.proofs.Laws.Digit.{digit-of-le}
 use Rattle.shift.proofs.turning.right.Statement.{statement}
 use Rattle.shift.proofs.turning.right.Tie as tie
 

@@ -1,4 +1,4 @@
-use Rattle.codes.proofs.Laws.Past.{at-least}
+use Rattle.opcodes.proofs.Laws.Past.{at-least}
 use borrow.Author.Needs.{needs}
 use Rattle.state.specs.Registers.{regOf}
 use Rattle.state.proofs.Laws.Registers.{reg-pc}

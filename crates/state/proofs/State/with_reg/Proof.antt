@@ -1,4 +1,4 @@
-use Rattle.codes.proofs.Laws.Past.{at-least}
+use Rattle.opcodes.proofs.Laws.Past.{at-least}
 use Rattle.state.specs.Registers.{setReg}
 use Rattle.state.proofs.Laws.Registers.{with-pc}
 use Rattle.state.specs.State.{withReg}

@@ -1,0 +1,9 @@
+use borrow.Author.Needs.{needs}
+use Rattle.endline.proofs.address.Statement.{statement}
+use Rattle.endline.proofs.address.Tie as tie
+
+returns : tie.Need-returns
+returns c = rw (c .before .first .given .1)
+
+pub address-spec : {M : Type 1} → statement M
+address-spec = tie.close (tie.spec (λ c. search needs) (λ c. search needs) returns (λ c. search needs))

@@ -1,0 +1,328 @@
+-- The theorems that specs/Pieces.antt states.
+use mathlib.Core.Path.{_≡_, refl, ap, sym, _∙_}
+use mathlib.Core.Bool.{Bool, true, false, cond, _&&_}
+use mathlib.Core.List.{List, [], _∷_, _++_, append-nil, append-assoc}
+use mathlib.Core.Logic.{_⊎_, inl, inr, ⊎-elim}
+use Prim.Native.Nat.{ℕ, zero, suc, _+_, _*_, _≤_, _<_}
+use native.Mathlib.Omega.{arith}
+use lib.Dec.{ltb, eqb}
+use borrow.Author.Tests.{le-ltb}
+use lib.ListN.{length, take, getD}
+use lib.Seq.{take-length}
+use Rattle.hexdigits.specs.Digits.{letters}
+use Rattle.wordmath.specs.Address.{plus}
+use Rattle.optext.specs.declared.Op.{Op}
+use Rattle.optext.specs.Read.{opOf}
+use Rattle.optext.proofs.Laws.Shown.{number-stands}
+use Rattle.patchline.specs.declared.oneline.How.{How}
+use Rattle.patchline.specs.declared.oneline.How.the-variants.{Origin, Plain}
+use Rattle.patchline.specs.Line.{op, says, saidOf, reaches}
+use Rattle.assembler.specs.Source.{countOf, textAt, saidAt, originAt, endAt, hereOf, isUnknown, isGiven, hasLabels, lacks, overlaps, isOdd, misplaced, isFar, far, valueOf}
+use Rattle.assembler.specs.Section.{inserted, entryOf, entered, placed, sectionOf}
+use Rattle.assembler.specs.Answer.{written, assembled}
+use Rattle.assembler.specs.Ends.{Right}
+use Rattle.assembler.proofs.Laws.Good.{no-first, nothing-wrong}
+use Rattle.patchlaws.specs.Again.{originLine}
+use Rattle.patchlaws.proofs.Laws.Again.{origin-again, origin-words, plain-words}
+use Rattle.patchlaws.specs.Padded.{sourceOf}
+use Rattle.patchlaws.proofs.Laws.Padded.{AllStand}
+use Rattle.patchlaws.proofs.Laws.Padded.{source-lines, count-is, label-none, text-is}
+use Rattle.patchlaws.specs.Pieces.{Piece, endOf, linesOf, entriesFrom, entriesOf, Good, Rise, PiecesAgain}
+
+-- ---- pieces: words from an address on, and the text that gives them
+
+abbrev nowhere : Piece
+nowhere = record { at = 0; words = []; text = [] }
+
+-- ---- pieces by their place
+
+abbrev piece : List Piece → ℕ → Piece
+piece ps k = getD ps k nowhere
+
+good-at : (low : ℕ) (ps : List Piece) (k : ℕ) → Rise low ps → k < length ps → Good (piece ps k)
+unfolding Rise
+good-at low [] k r h = absurd (omega arith)
+good-at low (p ∷ ps) zero r h = r .1
+good-at low (p ∷ ps) (suc k) r h = good-at (endOf p) ps k (r .2) (omega arith)
+
+rises-from : (low : ℕ) (ps : List Piece) (k : ℕ) → Rise low ps → k < length ps → low ≤ piece ps k .at
+unfolding Rise
+rises-from low [] k r h = absurd (omega arith)
+rises-from low (p ∷ ps) zero r h = r .0
+rises-from low (p ∷ ps) (suc k) r h = let z = rises-from (endOf p) ps k (r .2) (omega arith) in let l = r .0 in omega arith
+
+-- an earlier piece ends before a later one begins
+ends-before : (low : ℕ) (ps : List Piece) (j k : ℕ) → Rise low ps → j < k → k < length ps → endOf (piece ps j) ≤ piece ps k .at
+unfolding Rise
+ends-before low [] j k r h l = absurd (omega arith)
+ends-before low (p ∷ ps) j zero r h l = absurd (omega arith)
+ends-before low (p ∷ ps) zero (suc k) r h l = rises-from (endOf p) ps k (r .2) (omega arith)
+ends-before low (p ∷ ps) (suc j) (suc k) r h l = ends-before (endOf p) ps j k (r .2) (omega arith) (omega arith)
+
+-- ---- lines by their place: the piece k has the lines twice k and the one after
+
+abbrev twice : ℕ → ℕ
+twice zero = zero
+twice (suc k) = suc (suc (twice k))
+
+twice-is : (k : ℕ) → twice k ≡ 2 * k
+twice-is zero = refl
+twice-is (suc k) = let h = twice-is k in omega arith
+
+twice-length : (ps : List Piece) → length (linesOf ps) ≡ twice (length ps)
+unfolding linesOf
+twice-length [] = refl
+twice-length (p ∷ ps) = ap (λ (n : ℕ). suc (suc n)) (twice-length ps)
+
+origin-line : (ps : List Piece) (k : ℕ) → k < length ps → getD (linesOf ps) (twice k) [] ≡ originLine (piece ps k .at)
+unfolding linesOf
+origin-line [] k h = absurd (omega arith)
+origin-line (p ∷ ps) zero h = refl
+origin-line (p ∷ ps) (suc k) h = origin-line ps k (omega arith)
+
+text-line : (ps : List Piece) (k : ℕ) → k < length ps → getD (linesOf ps) (suc (twice k)) [] ≡ piece ps k .text
+unfolding linesOf
+text-line [] k h = absurd (omega arith)
+text-line (p ∷ ps) zero h = refl
+text-line (p ∷ ps) (suc k) h = text-line ps k (omega arith)
+
+-- what holds of both lines of each piece holds of each line
+each-line : (Q : ℕ → Type 0) (n : ℕ) → ((k : ℕ) → k < n → Q (twice k) × Q (suc (twice k))) → (i : ℕ) → i < twice n → Q i
+each-line Q zero f i h = absurd (omega arith)
+each-line Q (suc n) f zero h = f 0 (omega arith) .0
+each-line Q (suc n) f (suc zero) h = f 0 (omega arith) .1
+each-line Q (suc n) f (suc (suc i)) h = each-line (λ j. Q (suc (suc j))) n (λ k l. f (suc k) (omega arith)) i (omega arith)
+
+all-stand : (low : ℕ) (ps : List Piece) → Rise low ps → AllStand (linesOf ps)
+unfolding Rise linesOf AllStand originLine
+all-stand low [] r = tt
+all-stand low (p ∷ ps) r = (number-stands (letters ".ORG ") (p .at) (omega arith) tt, (r .1 .stands, all-stand (endOf p) ps (r .2)))
+
+-- ---- entries one after the other
+
+-- every entry's address is below m
+abbrev Below : ℕ → List ℕ → Type 0
+Below m [] = Unit {0}
+Below m (e ∷ l) = (e < m * 65536) × Below m l
+
+below-append : (m : ℕ) (k l : List ℕ) → Below m k → Below m l → Below m (k ++ l)
+below-append m [] l p q = q
+below-append m (e ∷ k) l p q = (p .0, below-append m k l (p .1) q)
+
+below-entries : (m a : ℕ) (ws : List ℕ) → a + 2 * length ws ≤ m → Below m (entriesFrom a ws)
+below-entries m a [] h = tt
+below-entries m a (w ∷ ws) h = (omega arith, below-entries m (a + 2) ws (omega arith))
+
+below-pieces : (low : ℕ) (ps : List Piece) (k : ℕ) → Rise low ps → k < length ps → Below (piece ps k .at) (entriesOf (take k ps))
+unfolding Rise entriesOf
+below-pieces low [] k r h = absurd (omega arith)
+below-pieces low (p ∷ ps) zero r h = tt
+below-pieces low (p ∷ ps) (suc k) r h =
+    below-append (piece ps k .at) (entriesFrom (p .at) (p .words)) (entriesOf (take k ps))
+    (below-entries (piece ps k .at) (p .at) (p .words) (rises-from (endOf p) ps k (r .2) (omega arith)))
+    (below-pieces (endOf p) ps k (r .2) (omega arith))
+
+-- an entry above all others comes last
+inserted-last : (a w : ℕ) (l : List ℕ) → Below a l → inserted (entryOf a w) l ≡ l ++ (entryOf a w ∷ [])
+unfolding inserted
+inserted-last a w [] b = refl
+inserted-last a w (e ∷ l) b = let z = b .0 in rw (le-ltb (entryOf a w) e (omega arith)) (ap (λ (k : List ℕ). e ∷ k) (inserted-last a w l (b .1)))
+
+below-more : (a w : ℕ) (l : List ℕ) → Below a l → Below (a + 2) (l ++ (entryOf a w ∷ []))
+below-more a w [] b = (omega arith, tt)
+below-more a w (e ∷ l) b = let z = b .0 in (omega arith, below-more a w l (b .1))
+
+entered-last : (a : ℕ) (ws l : List ℕ) → Below a l → length ws ≤ 3 → a + 2 * length ws ≤ 65536 → entered (opOf ws) a l ≡ l ++ entriesFrom a ws
+unfolding entered
+entered-last a [] l b h k = sym (append-nil l)
+entered-last a (x ∷ []) l b h k = inserted-last a x l b
+entered-last a (x ∷ y ∷ []) l b h k =
+    let p : plus a 2 ≡ a + 2 = omega arith in
+    rw (p, inserted-last a x l b, inserted-last (a + 2) y (l ++ (entryOf a x ∷ [])) (below-more a x l b))
+    (append-assoc l (entryOf a x ∷ []) (entryOf (a + 2) y ∷ []))
+entered-last a (x ∷ y ∷ z ∷ []) l b h k =
+    let p : plus a 2 ≡ a + 2 = omega arith in
+    let q : plus a 4 ≡ a + 2 + 2 = omega arith in
+    let c = below-more a x l b in
+    rw (
+      p,
+      q,
+      inserted-last a x l b,
+      inserted-last (a + 2) y (l ++ (entryOf a x ∷ [])) c,
+      inserted-last (a + 2 + 2) z (l ++ (entryOf a x ∷ []) ++ (entryOf (a + 2) y ∷ [])) (below-more (a + 2) y (l ++ (entryOf a x ∷ [])) c),
+      append-assoc l (entryOf a x ∷ []) (entryOf (a + 2) y ∷ []),
+    )
+    (append-assoc l (entryOf a x ∷ entryOf (a + 2) y ∷ []) (entryOf (a + 2 + 2) z ∷ []))
+entered-last a (x ∷ y ∷ z ∷ w ∷ ws) l b h k = absurd (omega arith)
+
+entries-next : (ps : List Piece) (k : ℕ) → k < length ps → entriesOf (take (suc k) ps) ≡ entriesOf (take k ps) ++ entriesFrom (piece ps k .at) (piece ps k .words)
+unfolding entriesOf
+entries-next [] k h = absurd (omega arith)
+entries-next (p ∷ ps) zero h = append-nil (entriesFrom (p .at) (p .words))
+entries-next (p ∷ ps) (suc k) h =
+    ap (λ (l : List ℕ). entriesFrom (p .at) (p .words) ++ l) (entries-next ps k (omega arith))
+    ∙ sym (append-assoc (entriesFrom (p .at) (p .words)) (entriesOf (take k ps)) (entriesFrom (piece ps k .at) (piece ps k .words)))
+
+-- ---- the source of the pieces
+
+-- two lines don't overlap where the one ends before the other begins, or one has no words
+free : (s : List ℕ) (i m : ℕ) → ((endAt s m ≤ originAt s i) ⊎ (endAt s i ≤ originAt s i)) ⊎ (endAt s m ≤ originAt s m) → overlaps s i m ≡ false
+free s i m h =
+    ⊎-elim
+    (λ g. ⊎-elim (λ l. rw (le-ltb (originAt s i) (endAt s m) l) refl)
+    (λ l. rw (le-ltb (originAt s i) (endAt s i) l) (third (ltb (originAt s i) (endAt s m)) (ltb (originAt s m) (endAt s i)))) g)
+    (λ l. rw (le-ltb (originAt s m) (endAt s m) l) (fourth (ltb (originAt s i) (endAt s m)) (ltb (originAt s m) (endAt s i)) (ltb (originAt s i) (endAt s i)))) h
+  where
+    third : (a b : Bool) → (a && (b && false)) ≡ false
+    third true true = refl
+    third true false = refl
+    third false b = refl
+
+    fourth : (a b c : Bool) → (a && (b && (c && false))) ≡ false
+    fourth true b true = third true b
+    fourth true b false = third true b
+    fourth false b c = refl
+
+never-far : (s u : List ℕ) (how : How) (h : ℕ) → ((v h : ℕ) → reaches how v h ≡ true) → isFar s how h u ≡ false
+unfolding isFar
+never-far s u how h f = rw (f (valueOf s u) h) (go (eqb (length u) 0))
+  where
+    go : (b : Bool) → cond b false false ≡ false
+    go true = refl
+    go false = refl
+
+module _ (ps : List Piece) (r : Rise 0 ps) where
+  abbrev source : List ℕ
+  source = sourceOf (linesOf ps)
+
+  size : length source ≡ 32 * twice (length ps)
+  size = source-lines (linesOf ps) (all-stand 0 ps r) ∙ ap (λ (n : ℕ). 32 * n) (twice-length ps)
+
+  count : countOf source ≡ twice (length ps)
+  count = count-is (linesOf ps) (all-stand 0 ps r) ∙ twice-length ps
+
+  module _ (k : ℕ) (h : k < length ps) where
+    abbrev here : Piece
+    here = piece ps k
+
+    good : Good here
+    good = good-at 0 ps k r h
+
+    line-of : suc (twice k) < length (linesOf ps)
+    line-of = let a = twice-is k in let b = twice-is (length ps) in let c = twice-length ps in omega arith
+
+    below : here .at < 65536
+    below = let a = good .some in let b = good .within in omega arith
+
+    origin-said : saidAt source (twice k) ≡ says Origin (op 0 (here .at))
+    unfolding saidAt
+    origin-said =
+        let l = line-of in
+        ap saidOf (text-is (linesOf ps) (all-stand 0 ps r) (twice k) (omega arith) ∙ origin-line ps k h) ∙ origin-again (here .at) below
+
+    text-said : saidAt source (suc (twice k)) ≡ says Plain (opOf (here .words))
+    unfolding saidAt
+    text-said = ap saidOf (text-is (linesOf ps) (all-stand 0 ps r) (suc (twice k)) line-of ∙ text-line ps k h) ∙ good .said
+
+    -- the text begins at the piece's address, and the next line at its end
+    begins : originAt source (suc (twice k)) ≡ here .at
+    unfolding originAt
+    begins = rw origin-said refl
+
+    goes-on : originAt source (suc (suc (twice k))) ≡ endOf here
+    unfolding originAt
+    goes-on = rw (text-said, begins) refl
+
+    origin-ends : endAt source (twice k) ≡ originAt source (twice k)
+    unfolding endAt
+    origin-ends = rw origin-said (omega arith)
+
+    text-ends : endAt source (suc (twice k)) ≡ endOf here
+    unfolding endAt
+    text-ends = rw (text-said, begins) refl
+
+  -- ---- nothing is wrong with it
+
+  reached : (k : ℕ) → k < length ps → originAt source (twice k) ≤ 65536
+  unfolding originAt
+  reached zero h = omega arith
+  reached (suc k) h = let e = goes-on k (omega arith) in let w = good k (omega arith) .within in omega (arith, e, w)
+
+  no-words : (k : ℕ) → k < length ps → endAt source (twice k) ≤ originAt source (twice k)
+  no-words k h = let e = origin-ends k h in omega (arith, e)
+
+  text-free : (k : ℕ) → k < length ps → (m : ℕ) → m < suc (twice k) → overlaps source (suc (twice k)) m ≡ false
+  text-free k h m l =
+      each-line (λ m. m < suc (twice k) → overlaps source (suc (twice k)) m ≡ false) (suc k)
+      (λ j g. (λ l. free source (suc (twice k)) (twice j) (inr (no-words j (omega arith))), λ l. free source (suc (twice k)) (suc (twice j)) (inl (inl (earlier j g l)))))
+      m (omega arith) l
+    where
+      earlier : (j : ℕ) → j < suc k → suc (twice j) < suc (twice k) → endAt source (suc (twice j)) ≤ originAt source (suc (twice k))
+      earlier j g l =
+          let a = twice-is j in
+          let b = twice-is k in
+          let q = ends-before 0 ps j k r (omega arith) h in
+          let e = text-ends j (omega arith) in
+          let f = begins k h in
+          omega (arith, q, e, f)
+
+  not-misplaced : (i : ℕ) → isOdd (saidAt source i) ≡ false → endAt source i ≤ 65536 → ((m : ℕ) → m < i → overlaps source i m ≡ false) → misplaced source i ≡ false
+  unfolding misplaced
+  not-misplaced i o e f = rw (o, le-ltb 65536 (endAt source i) e, no-first (overlaps source i) i f) refl
+
+  module _ (i : ℕ) (l : i < length (linesOf ps)) (how : How) (o : Op) (q : saidAt source i ≡ says how o) where
+    right : isUnknown how ≡ false → hasLabels how ≡ false → ((v h : ℕ) → reaches how v h ≡ true) → misplaced source i ≡ false → Right source i
+    unfolding isGiven lacks far saidAt
+    right u n c p = record {
+      known = rw q u;
+      new = rw (label-none (linesOf ps) (all-stand 0 ps r) i l) refl;
+      found = rw (q, n) refl;
+      in-place = p;
+      near = rw (q, never-far source _ how _ c, never-far source _ how _ c) refl;
+    }
+
+  origin-right : (k : ℕ) → k < length ps → Right source (twice k)
+  origin-right k h =
+      let l = line-of k h in
+      right (twice k) (omega arith) Origin (op 0 (here k h .at)) (origin-said k h) refl refl (λ v h. refl)
+      (not-misplaced (twice k) (rw (origin-said k h, good k h .even) refl) (let e = no-words k h in let b = reached k h in omega (arith, e, b)) (λ m g. free source (twice k) m (inl (inr (no-words k h)))))
+
+  text-right : (k : ℕ) → k < length ps → Right source (suc (twice k))
+  text-right k h =
+      right (suc (twice k)) (line-of k h) Plain (opOf (here k h .words)) (text-said k h) refl refl (λ v h. refl)
+      (not-misplaced (suc (twice k)) (rw (text-said k h) refl) (let e = text-ends k h in let b = good k h .within in omega (arith, e, b)) (text-free k h))
+
+  all-right : (i : ℕ) → i < countOf source → Right source i
+  all-right i l = each-line (λ i. Right source i) (length ps) (λ k h. (origin-right k h, text-right k h)) i (let c = count in omega (arith, c, l))
+
+  -- ---- its words
+
+  origin-placed : (k : ℕ) → k < length ps → placed source (suc (twice k)) ≡ placed source (twice k)
+  unfolding placed entered saidAt
+  origin-placed k h = rw (origin-words source (textAt source (twice k)) (hereOf source (twice k)) (op 0 (here k h .at)) (origin-said k h)) refl
+
+  text-placed : (k : ℕ) (l : List ℕ) → k < length ps → Below (piece ps k .at) l → placed source (suc (twice k)) ≡ l
+      → placed source (suc (suc (twice k))) ≡ l ++ entriesFrom (piece ps k .at) (piece ps k .words)
+  unfolding placed saidAt
+  text-placed k l h b e =
+      let p : hereOf source (suc (twice k)) ≡ here k h .at = let a = begins k h in let c = below k h in omega (arith, a, c) in
+      rw (plain-words source (textAt source (suc (twice k))) (hereOf source (suc (twice k))) (opOf (here k h .words)) (text-said k h), p, e)
+      (entered-last (here k h .at) (here k h .words) l b (good k h .few) (good k h .within))
+
+  placed-is : (k : ℕ) → k ≤ length ps → placed source (twice k) ≡ entriesOf (take k ps)
+  unfolding entriesOf placed
+  placed-is zero h = refl
+  placed-is (suc k) h =
+      text-placed k (entriesOf (take k ps)) (omega arith) (below-pieces 0 ps k r (omega arith)) (origin-placed k (omega arith) ∙ placed-is k (omega arith))
+      ∙ sym (entries-next ps k (omega arith))
+
+  words-are : placed source (countOf source) ≡ entriesOf ps
+  words-are = ap (placed source) count ∙ placed-is (length ps) (omega arith) ∙ ap entriesOf (take-length ps)
+
+  pub pieces-again : PiecesAgain ps r
+  unfolding assembled
+  pieces-again out l n =
+      let z = size in
+      let t = twice-is (length ps) in
+      nothing-wrong source out l (omega arith) (omega arith) all-right
+      ∙ ap (λ (e : List ℕ). written (sectionOf e) out) words-are

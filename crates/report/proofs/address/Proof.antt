@@ -1,9 +1,0 @@
-use borrow.Author.Needs.{needs}
-use Rattle.report.proofs.address.Statement.{statement}
-use Rattle.report.proofs.address.Tie as tie
-
-returns : tie.Need-returns
-returns c = rw (c .before .first .given .1)
-
-pub address-spec : {M : Type 1} → statement M
-address-spec = tie.close (tie.spec (λ c. search needs) (λ c. search needs) returns (λ c. search needs))
