@@ -10,7 +10,7 @@ use borrow.Author.Tests.{eqb-true}
 use Rattle.refusal.specs.Numbers.{noState}
 use Rattle.refusal.specs.Page.{Left, call, Told, told, readingAt}
 use Rattle.refusal.proofs.Laws.Page.{call-refused, call-answered}
-use Rattle.answer.specs.Answer.{answerWhy, Room}
+use Rattle.answer.specs.Answer.{answerWhy, SixBytes}
 
 module _ {A B C : Type 0} (bytes : A → B → C) (beside : ℕ → B → C) (kept : B → C) (why n : ℕ) (l : Left A B) (lent : B) (h : n ≡ why) where
   pub bad : (n ≡ 0 → ⊥) → told n (kept lent) ≡ readingAt bytes beside kept (call why l lent)
@@ -20,7 +20,7 @@ module _ {A B C : Type 0} (bytes : A → B → C) (beside : ℕ → B → C) (ke
   given none x e = e ∙ ap (λ z. readingAt bytes beside kept z) (call-answered why l lent l (sym h ∙ none) refl)
 
 -- an answer that is not refused has its room
-pub room : (a : List ℕ) (n : ℕ) → n ≡ answerWhy a → n ≡ 0 → Room a
+pub room : (a : List ℕ) (n : ℕ) → n ≡ answerWhy a → n ≡ 0 → SixBytes a
 unfolding answerWhy
 room a n h none = record { six = by (eqb (length a) 6) refl (sym h ∙ none) }
   where

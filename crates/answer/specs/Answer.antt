@@ -17,7 +17,7 @@ unfoldable pub answerWhy : List ℕ → ℕ
 answerWhy a = cond (eqb (length a) 6) 0 noState
 
 -- six bytes
-pub record Room (a : List ℕ) : Type 0 where
+pub record SixBytes (a : List ℕ) : Type 0 where
   pub six : length a ≡ 6
 
 -- a refusal's place, a line or a column, is the third word

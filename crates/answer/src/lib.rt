@@ -19,7 +19,7 @@ fn three(a: u16, b: u16, c: u16) -> [u8; 6]
 }
 
 pub fn put(answer: &mut [u8], a: u16, b: u16, c: u16)
-    requires { ⌜ Spec.Room (now answer) ⌝ }
+    requires { ⌜ Spec.SixBytes (now answer) ⌝ }
     ensures { λ _. ⌜ now (answer .exit) ≡ Spec.threeWords a b c ⌝ }
 {
     let from = three(a, b, c);

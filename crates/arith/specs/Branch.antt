@@ -32,5 +32,5 @@ odd k = eqb (k % 2) 1
 
 -- The branch k, counted through the high bytes: 01 to 07 are 1 to 7, 80 to 87 are 8 to 15. BR is always taken; an odd
 -- high byte reverses the condition of the even one before it.
-abbrev pub taken : ℕ → Flags → Bool
-taken k f = cond (ltb k 2) true (condition (k / 2 - 1) f xor odd k)
+abbrev pub branchTaken : ℕ → Flags → Bool
+branchTaken k f = cond (ltb k 2) true (condition (k / 2 - 1) f xor odd k)

@@ -21,7 +21,7 @@ fn condition(pair: u16, f: Flags) -> bool
 
 // Whether the branch k is taken: BR always, and an odd high byte reverses the condition of the even one before it.
 pub fn holds(k: u16, f: Flags) -> bool
-    ensures { λ r. ⌜ r ≡ Spec.taken k f ⌝ }
+    ensures { λ r. ⌜ r ≡ Spec.branchTaken k f ⌝ }
 {
     if k < 2 {
         return true;

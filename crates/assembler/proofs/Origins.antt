@@ -7,7 +7,7 @@ use native.Mathlib.Numerals.{add-one}
 use native.Mathlib.Omega.{arith}
 use lib.ListN.{length, take, drop, getD, set}
 use lib.Seq.{getD-set-same, getD-set-other}
-use Rattle.assembler.specs.Source.{lineAt, saidAt, originAt, endAt, nextFrom, endFrom}
+use Rattle.assembler.specs.Source.{lineAt, saidAt, originAt, endAt, nextFrom, endAfter}
 use Rattle.patchline.specs.declared.oneline.Said.{Said}
 use Rattle.optext.proofs.Laws.Choose.{eq-cases}
 
@@ -22,7 +22,7 @@ pub origin-next : (s : List ℕ) (i o : ℕ) (said : Said) → o ≡ originAt s 
 unfolding originAt
 origin-next s i o said e q = rw (add-one i, e, q) refl
 
-pub end-is : (s : List ℕ) (i o : ℕ) (said : Said) → o ≡ originAt s i → said ≡ saidAt s i → endFrom o said ≡ endAt s i
+pub end-is : (s : List ℕ) (i o : ℕ) (said : Said) → o ≡ originAt s i → said ≡ saidAt s i → endAfter o said ≡ endAt s i
 unfolding endAt
 end-is s i o said e q = rw (e, q) refl
 

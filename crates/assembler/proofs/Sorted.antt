@@ -12,8 +12,8 @@ use Rattle.optext.specs.declared.Op.{Op}
 use Rattle.hexdigits.specs.Over.{Wrote, WroteAt}
 use Rattle.hexdigits.proofs.Laws.Laid.{then}
 use Rattle.patchline.proofs.Laws.Joined.{then-at, none-at}
-use Rattle.assembler.specs.Source.{textAt, hereOf, wordsIn}
-use Rattle.assembler.specs.Section.{lowerOf, higherOf, inserted, entryOf, entered, placed, pair, bytesOf, flat, sectionOf, Inserts, Enters}
+use Rattle.assembler.specs.Source.{textAt, hereOf, lineOp}
+use Rattle.assembler.specs.Section.{lowerOf, higherOf, inserted, sectionEntry, entered, wordsPlaced, pair, entryBytes, sectionBytes, sectionOf, Inserts, Enters}
 use Rattle.assembler.proofs.Laws.Section.{flat-length}
 
 -- the loop of an insertion: the places before i are done, the carried entry goes into those from i on
@@ -44,48 +44,48 @@ module _ (o : Op) (h : ℕ) (l : List ℕ) where
   unfolding entered
   entered-0 c = rw (le-ltb 2 (o .count) (omega arith), le-ltb 1 (o .count) (omega arith), le-ltb 0 (o .count) (omega arith)) refl
 
-  pub entered-1 : 1 ≤ o .count → o .count < 2 → inserted (entryOf h (o .a)) l ≡ entered o h l
+  pub entered-1 : 1 ≤ o .count → o .count < 2 → inserted (sectionEntry h (o .a)) l ≡ entered o h l
   unfolding entered
   entered-1 b c = rw (le-ltb 2 (o .count) (omega arith), le-ltb 1 (o .count) (omega arith), lt-ltb 0 (o .count) (omega arith)) refl
 
-  pub entered-2 : 2 ≤ o .count → o .count < 3 → inserted (entryOf (plus h 2) (o .b)) (inserted (entryOf h (o .a)) l) ≡ entered o h l
+  pub entered-2 : 2 ≤ o .count → o .count < 3 → inserted (sectionEntry (plus h 2) (o .b)) (inserted (sectionEntry h (o .a)) l) ≡ entered o h l
   unfolding entered
   entered-2 b c = rw (le-ltb 2 (o .count) (omega arith), lt-ltb 1 (o .count) (omega arith)) refl
 
   pub entered-3 : 3 ≤ o .count
-      → inserted (entryOf (plus h 4) (o .c)) (inserted (entryOf (plus h 2) (o .b)) (inserted (entryOf h (o .a)) l)) ≡ entered o h l
+      → inserted (sectionEntry (plus h 4) (o .c)) (inserted (sectionEntry (plus h 2) (o .b)) (inserted (sectionEntry h (o .a)) l)) ≡ entered o h l
   unfolding entered
   entered-3 b = rw (lt-ltb 2 (o .count) (omega arith)) refl
 
-pub placed-none : (s : List ℕ) → [] ≡ placed s 0
-unfolding placed
+pub placed-none : (s : List ℕ) → [] ≡ wordsPlaced s 0
+unfolding wordsPlaced
 placed-none s = refl
 
-pub placed-more : (s : List ℕ) (i h : ℕ) (t : List ℕ) (o : Op) → h ≡ hereOf s i → t ≡ textAt s i → o ≡ wordsIn s h t
-    → entered o h (placed s i) ≡ placed s (i + 1)
-unfolding placed
+pub placed-more : (s : List ℕ) (i h : ℕ) (t : List ℕ) (o : Op) → h ≡ hereOf s i → t ≡ textAt s i → o ≡ lineOp s h t
+    → entered o h (wordsPlaced s i) ≡ wordsPlaced s (i + 1)
+unfolding wordsPlaced
 placed-more s i h t o a b c = rw (add-one i, c, b, a) refl
 
 -- the section, one entry more
-flat-append : (a b : List ℕ) → flat (a ++ b) ≡ flat a ++ flat b
-unfolding flat
+flat-append : (a b : List ℕ) → sectionBytes (a ++ b) ≡ sectionBytes a ++ sectionBytes b
+unfolding sectionBytes
 flat-append [] b = refl
 flat-append (e ∷ a) b = rw (flat-append a b) refl
 
-flat-one : (e : ℕ) → flat (e ∷ []) ≡ bytesOf e
-unfolding flat
+flat-one : (e : ℕ) → sectionBytes (e ∷ []) ≡ entryBytes e
+unfolding sectionBytes
 flat-one e = refl
 
-pub entries-none : (from : ℕ) (t b : List ℕ) → WroteAt from (flat (take 0 t)) b b from
-unfolding flat
+pub entries-none : (from : ℕ) (t b : List ℕ) → WroteAt from (sectionBytes (take 0 t)) b b from
+unfolding sectionBytes
 entries-none from t b = none-at from b
 
-pub entries-more : (t b b1 e : List ℕ) (from i at n x : ℕ) → from ≤ length b → i < length t → x ≡ getD t i 0 → WroteAt from (flat (take i t)) b b1 at
-    → WroteAt at (bytesOf x) b1 e n → WroteAt from (flat (take (i + 1) t)) b e n
+pub entries-more : (t b b1 e : List ℕ) (from i at n x : ℕ) → from ≤ length b → i < length t → x ≡ getD t i 0 → WroteAt from (sectionBytes (take i t)) b b1 at
+    → WroteAt at (entryBytes x) b1 e n → WroteAt from (sectionBytes (take (i + 1) t)) b e n
 entries-more t b b1 e from i at n x l h q w v =
     rw (add-one i, take-suc t i 0 h, ← q, flat-append, flat-one) (then-at _ _ _ _ _ _ _ _ l w v)
 
-pub section-is : (t b b1 e : List ℕ) (n at k : ℕ) → n ≤ length t → Wrote (pair n) b b1 at → WroteAt at (flat (take n t)) b1 e k → Wrote (sectionOf (take n t)) b e k
+pub section-is : (t b b1 e : List ℕ) (n at k : ℕ) → n ≤ length t → Wrote (pair n) b b1 at → WroteAt at (sectionBytes (take n t)) b1 e k → Wrote (sectionOf (take n t)) b e k
 unfolding sectionOf
 section-is t b b1 e n at k h w v = rw (length-take-le n t h) (then _ _ _ _ _ _ _ w v)
 
@@ -98,14 +98,14 @@ section-few n t =
 
 -- the code of a line's words
 module _ (t t1 t2 t3 : List ℕ) (n m k r h e1 e2 e3 p2 p4 : ℕ) (o : Op) where
-  pub enters-1 : Inserts t t1 n e1 m → e1 ≡ entryOf h (o .a) → 1 ≤ o .count → o .count < 2 → Enters t t1 n o h m
+  pub enters-1 : Inserts t t1 n e1 m → e1 ≡ sectionEntry h (o .a) → 1 ≤ o .count → o .count < 2 → Enters t t1 n o h m
   enters-1 i a b c = record {
     entries = i .entries ∙ rw a (entered-1 o h (take n t) b c);
     count = omega (arith, i .count);
     size = i .size;
   }
 
-  pub enters-2 : Inserts t t1 n e1 m → e1 ≡ entryOf h (o .a) → Inserts t1 t2 m e2 k → e2 ≡ entryOf p2 (o .b) → p2 ≡ plus h 2
+  pub enters-2 : Inserts t t1 n e1 m → e1 ≡ sectionEntry h (o .a) → Inserts t1 t2 m e2 k → e2 ≡ sectionEntry p2 (o .b) → p2 ≡ plus h 2
       → 2 ≤ o .count → o .count < 3 → Enters t t2 n o h k
   enters-2 i a j d p b c = record {
     entries = j .entries ∙ rw (i .entries, d, p, a) (entered-2 o h (take n t) b c);
@@ -113,8 +113,8 @@ module _ (t t1 t2 t3 : List ℕ) (n m k r h e1 e2 e3 p2 p4 : ℕ) (o : Op) where
     size = j .size;
   }
 
-  pub enters-3 : Inserts t t1 n e1 m → e1 ≡ entryOf h (o .a) → Inserts t1 t2 m e2 k → e2 ≡ entryOf p2 (o .b) → p2 ≡ plus h 2
-      → Inserts t2 t3 k e3 r → e3 ≡ entryOf p4 (o .c) → p4 ≡ plus h 4 → 3 ≤ o .count → Enters t t3 n o h r
+  pub enters-3 : Inserts t t1 n e1 m → e1 ≡ sectionEntry h (o .a) → Inserts t1 t2 m e2 k → e2 ≡ sectionEntry p2 (o .b) → p2 ≡ plus h 2
+      → Inserts t2 t3 k e3 r → e3 ≡ sectionEntry p4 (o .c) → p4 ≡ plus h 4 → 3 ≤ o .count → Enters t t3 n o h r
   enters-3 i a j d p l f q b = record {
     entries = l .entries ∙ rw (j .entries, i .entries, f, q, d, p, a) (entered-3 o h (take n t) b);
     count = omega (arith, i .count, j .count, l .count);

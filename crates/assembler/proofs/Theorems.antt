@@ -8,7 +8,7 @@ use Rattle.assembler.specs.declared.Assembled.{Assembled}
 use Rattle.assembler.specs.declared.Assembled.the-variants.{Section, Refused, RefusedAt}
 use Rattle.assembler.specs.declared.Labelled.{Labelled}
 use Rattle.assembler.specs.declared.Labelled.the-variants as Labelled
-use Rattle.assembler.specs.Answer.{pageOf}
+use Rattle.assembler.specs.Answer.{assembledPage}
 use Rattle.assembler.specs.Labels.{labelledPage}
 
 -- ---- an assembly
@@ -18,16 +18,16 @@ assembledOf (answered n) = Section n
 assembledOf (refused why) = Refused why
 assembledOf (refusedAt why line) = RefusedAt why line
 
-assembled-back : (r : Assembled) → assembledOf (pageOf r) ≡ r
+assembled-back : (r : Assembled) → assembledOf (assembledPage r) ≡ r
 assembled-back (Section n) = refl
 assembled-back (Refused why) = refl
 assembled-back (RefusedAt why line) = refl
 
-pub one-answer : (r q : Assembled) → pageOf r ≡ pageOf q → r ≡ q
+pub one-answer : (r q : Assembled) → assembledPage r ≡ assembledPage q → r ≡ q
 one-answer = one assembledOf assembled-back
 
-pub one-outcome : (r q : Assembled) (x y : List ℕ) → left (pageOf r) x ≡ left (pageOf q) y → (r ≡ q) × (x ≡ y)
-one-outcome = one-call pageOf one-answer
+pub one-outcome : (r q : Assembled) (x y : List ℕ) → left (assembledPage r) x ≡ left (assembledPage q) y → (r ≡ q) × (x ≡ y)
+one-outcome = one-call assembledPage one-answer
 
 -- ---- the labels
 

@@ -8,15 +8,15 @@ use lib.ListN.{length}
 use Rattle.refusal.specs.Numbers.{unknownText, outOfPlace}
 use Rattle.refusal.specs.Page.{first}
 use Rattle.assembler.specs.declared.source.Fault.{Fault}
-use Rattle.assembler.specs.Source.{countOf, lowest, lineAt, textAt, saidAt, hereOf, isUnknown, isGiven, lacks, misplaced, far}
-use Rattle.assembler.specs.Answer.{faults, numberOf, sourceWhy, longestSection}
+use Rattle.assembler.specs.Source.{lineCount, lowest, lineAt, textAt, saidAt, hereOf, isUnknown, isGiven, lacks, misplaced, far}
+use Rattle.assembler.specs.Answer.{faults, faultNumber, sourceWhy, longestSection}
 use Rattle.assembler.specs.Labels.{labelFaults, mostLabels}
 use Rattle.patchline.specs.Text.{labelOf}
 
 -- the number of the first fault that a line has, 0 where none has any
 unfoldable pub faultWhy : List Fault → List ℕ → ℕ
 faultWhy [] s = 0
-faultWhy (f ∷ fs) s = cond (ltb (lowest f s) (countOf s)) (numberOf f) (faultWhy fs s)
+faultWhy (f ∷ fs) s = cond (ltb (lowest f s) (lineCount s)) (faultNumber f) (faultWhy fs s)
 
 -- 10; 36, not whole lines, or over 1,024; then 24, 25, 26, 28, 27
 abbrev pub assembleWhy : List ℕ → List ℕ → ℕ
@@ -33,7 +33,7 @@ tellsLine n = leb unknownText n && leb n outOfPlace
 -- the line told with a number: the lowest that has its fault
 pub record FaultLine (s : List ℕ) (number line : ℕ) : Type 0 where
   pub fault : Fault
-  pub numberIs : number ≡ numberOf fault
+  pub numberIs : number ≡ faultNumber fault
   pub lineIs : line ≡ lowest fault s
 
 -- a line with none of the five faults

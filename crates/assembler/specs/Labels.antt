@@ -10,9 +10,9 @@ use Rattle.assembler.specs.declared.Labelled.{Labelled}
 use Rattle.assembler.specs.declared.Labelled.the-variants.{Bytes, Refused, RefusedAt}
 use Rattle.assembler.specs.declared.source.Fault.{Fault}
 use Rattle.assembler.specs.declared.source.Fault.the-variants.{Text, Given}
-use Rattle.assembler.specs.Source.{countOf, lineAt, hereOf}
+use Rattle.assembler.specs.Source.{lineCount, lineAt, hereOf}
 use Rattle.assembler.specs.Section.{pair}
-use Rattle.assembler.specs.Answer.{sourceWhy, written, checked}
+use Rattle.assembler.specs.Answer.{sourceWhy, sectionWritten, checked}
 
 -- four bytes a line
 abbrev pub labelAt : List ℕ → ℕ → List ℕ
@@ -24,7 +24,7 @@ labelsTo s zero = []
 labelsTo s (suc i) = labelsTo s i ++ labelAt s i
 
 abbrev pub labelsOf : List ℕ → List ℕ
-labelsOf s = labelsTo s (countOf s)
+labelsOf s = labelsTo s (lineCount s)
 
 -- the number of bytes written
 abbrev pub labelledPage : Labelled → Page ℕ
@@ -41,4 +41,4 @@ abbrev pub mostLabels : ℕ
 mostLabels = 4096
 
 unfoldable pub labelsPage : List ℕ → List ℕ → Left ℕ (List ℕ)
-labelsPage s out = call (sourceWhy mostLabels s (length out)) (checked labelFaults s (written (labelsOf s) out) out) out
+labelsPage s out = call (sourceWhy mostLabels s (length out)) (checked labelFaults s (sectionWritten (labelsOf s) out) out) out

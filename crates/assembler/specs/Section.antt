@@ -7,11 +7,11 @@ use mathlib.Core.Path.{_≡_}
 use lib.ListN.{length, take}
 use Rattle.wordmath.specs.Address.{plus}
 use Rattle.optext.specs.declared.Op.{Op}
-use Rattle.assembler.specs.Source.{textAt, hereOf, wordsIn}
+use Rattle.assembler.specs.Source.{textAt, hereOf, lineOp}
 
 -- an entry is a number, the address before the sixteen bits of the word
-abbrev pub entryOf : ℕ → ℕ → ℕ
-entryOf address word = address * 65536 + word % 65536
+abbrev pub sectionEntry : ℕ → ℕ → ℕ
+sectionEntry address word = address * 65536 + word % 65536
 
 -- among rising entries each place keeps the lower and hands on the higher
 
@@ -28,28 +28,28 @@ inserted x (y ∷ ys) = lowerOf x y ∷ inserted (higherOf x y) ys
 -- up to three words from an address on
 unfoldable pub entered : Op → ℕ → List ℕ → List ℕ
 entered o h l =
-    cond (ltb 2 (o .count)) (inserted (entryOf (plus h 4) (o .c)) (inserted (entryOf (plus h 2) (o .b)) (inserted (entryOf h (o .a)) l)))
-    (cond (ltb 1 (o .count)) (inserted (entryOf (plus h 2) (o .b)) (inserted (entryOf h (o .a)) l))
-    (cond (ltb 0 (o .count)) (inserted (entryOf h (o .a)) l) l))
+    cond (ltb 2 (o .count)) (inserted (sectionEntry (plus h 4) (o .c)) (inserted (sectionEntry (plus h 2) (o .b)) (inserted (sectionEntry h (o .a)) l)))
+    (cond (ltb 1 (o .count)) (inserted (sectionEntry (plus h 2) (o .b)) (inserted (sectionEntry h (o .a)) l))
+    (cond (ltb 0 (o .count)) (inserted (sectionEntry h (o .a)) l) l))
 
 -- the words of the first i lines
-unfoldable pub placed : List ℕ → ℕ → List ℕ
-placed s zero = []
-placed s (suc i) = entered (wordsIn s (hereOf s i) (textAt s i)) (hereOf s i) (placed s i)
+unfoldable pub wordsPlaced : List ℕ → ℕ → List ℕ
+wordsPlaced s zero = []
+wordsPlaced s (suc i) = entered (lineOp s (hereOf s i) (textAt s i)) (hereOf s i) (wordsPlaced s i)
 
 -- two bytes, low first; an entry's address and word; the count and the entries
 abbrev pub pair : ℕ → List ℕ
 pair x = x % 256 ∷ x / 256 % 256 ∷ []
 
-abbrev pub bytesOf : ℕ → List ℕ
-bytesOf e = e / 65536 % 256 ∷ e / 16777216 % 256 ∷ e % 256 ∷ e / 256 % 256 ∷ []
+abbrev pub entryBytes : ℕ → List ℕ
+entryBytes e = e / 65536 % 256 ∷ e / 16777216 % 256 ∷ e % 256 ∷ e / 256 % 256 ∷ []
 
-unfoldable pub flat : List ℕ → List ℕ
-flat [] = []
-flat (e ∷ l) = bytesOf e ++ flat l
+unfoldable pub sectionBytes : List ℕ → List ℕ
+sectionBytes [] = []
+sectionBytes (e ∷ l) = entryBytes e ++ sectionBytes l
 
 unfoldable pub sectionOf : List ℕ → List ℕ
-sectionOf l = pair (length l) ++ flat l
+sectionOf l = pair (length l) ++ sectionBytes l
 
 -- the table whose first entries these are: one entry more, and a line's entries more
 pub record Inserts (t e : List ℕ) (n x r : ℕ) : Type 0 where

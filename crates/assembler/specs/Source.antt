@@ -15,8 +15,8 @@ use Rattle.patchline.specs.declared.oneline.Said.{Said}
 use Rattle.assembler.specs.declared.source.Fault.{Fault}
 use Rattle.assembler.specs.declared.source.Fault.the-variants.{Text, Given, Missing, Place, Far}
 
-abbrev pub countOf : List ℕ → ℕ
-countOf s = length s / 32
+abbrev pub lineCount : List ℕ → ℕ
+lineCount s = length s / 32
 
 unfoldable pub lineAt : List ℕ → ℕ → List ℕ
 lineAt s i = take 32 (drop (32 * i) s)
@@ -36,11 +36,11 @@ isOrigin Branch = false
 isOrigin Sob = false
 isOrigin Relative = false
 
-abbrev pub endFrom : ℕ → Said → ℕ
-endFrom o said = o + 2 * said .op .count
+abbrev pub endAfter : ℕ → Said → ℕ
+endAfter o said = o + 2 * said .op .count
 
 abbrev pub nextFrom : ℕ → Said → ℕ
-nextFrom o said = cond (isOrigin (said .how)) (said .op .a) (endFrom o said)
+nextFrom o said = cond (isOrigin (said .how)) (said .op .a) (endAfter o said)
 
 -- the origin that a line begins at, "0000 at first", and the place after its words
 unfoldable pub originAt : List ℕ → ℕ → ℕ
@@ -48,14 +48,14 @@ originAt s zero = 0
 originAt s (suc i) = nextFrom (originAt s i) (saidAt s i)
 
 unfoldable pub endAt : List ℕ → ℕ → ℕ
-endAt s i = endFrom (originAt s i) (saidAt s i)
+endAt s i = endAfter (originAt s i) (saidAt s i)
 
 -- the first line that gives a label, or the number of lines, and the label's value
 unfoldable pub givesAt : List ℕ → List ℕ → ℕ → Bool
 givesAt s u k = gives u (lineAt s k)
 
 unfoldable pub giverOf : List ℕ → List ℕ → ℕ
-giverOf s u = firstFrom (givesAt s u) (countOf s) 0
+giverOf s u = firstFrom (givesAt s u) (lineCount s) 0
 
 unfoldable pub valueOf : List ℕ → List ℕ → ℕ
 valueOf s u = originAt s (giverOf s u) % 65536
@@ -86,7 +86,7 @@ hasLabels Sob = true
 hasLabels Relative = true
 
 unfoldable pub isMissing : List ℕ → List ℕ → Bool
-isMissing s u = cond (eqb (length u) 0) false (leb (countOf s) (giverOf s u))
+isMissing s u = cond (eqb (length u) 0) false (leb (lineCount s) (giverOf s u))
 
 unfoldable pub lacks : List ℕ → List ℕ → Bool
 lacks s t = cond (hasLabels (saidOf t .how)) (isMissing s (labelIn (firstIn t)) || isMissing s (labelIn (secondIn t))) false
@@ -117,20 +117,20 @@ fails Far s i = far s (hereOf s i) (textAt s i)
 
 -- the lowest line with this fault, or the number of lines
 unfoldable pub lowest : Fault → List ℕ → ℕ
-lowest f s = firstFrom (fails f s) (countOf s) 0
+lowest f s = firstFrom (fails f s) (lineCount s) 0
 
 -- the words of a line, with its labels in them
-unfoldable pub put : List ℕ → How → Bool → ℕ → List ℕ → Op → Op
-put s how third h u o = cond (eqb (length u) 0) o (withLabel how third (valueOf s u) h o)
+unfoldable pub withLabels : List ℕ → How → Bool → ℕ → List ℕ → Op → Op
+withLabels s how third h u o = cond (eqb (length u) 0) o (withLabel how third (valueOf s u) h o)
 
-unfoldable pub wordsIn : List ℕ → ℕ → List ℕ → Op
-wordsIn s h t =
-    put s (saidOf t .how) (eqb (saidOf t .op .count) 3) h (labelIn (secondIn t)) (put s (saidOf t .how) false h (labelIn (firstIn t)) (saidOf t .op))
+unfoldable pub lineOp : List ℕ → ℕ → List ℕ → Op
+lineOp s h t =
+    withLabels s (saidOf t .how) (eqb (saidOf t .op .count) 3) h (labelIn (secondIn t)) (withLabels s (saidOf t .how) false h (labelIn (firstIn t)) (saidOf t .op))
 
 -- tables of the origins and of the ends
 pub record Starts (s table : List ℕ) : Type 0 where
-  pub few : countOf s ≤ 1024
-  pub at : (k : ℕ) → k < countOf s + 1 → getD table k 0 ≡ originAt s k
+  pub few : lineCount s ≤ 1024
+  pub at : (k : ℕ) → k < lineCount s + 1 → getD table k 0 ≡ originAt s k
 
-pub record Ends (s table : List ℕ) : Type 0 where
-  pub at : (k : ℕ) → k < countOf s → getD table k 0 ≡ endAt s k
+pub record LineEnds (s table : List ℕ) : Type 0 where
+  pub at : (k : ℕ) → k < lineCount s → getD table k 0 ≡ endAt s k

@@ -5,9 +5,9 @@ ghost use Prim.Native.Nat.{_+_, _*_, _≤_};
 ghost use lib.ListN.{length};
 ghost use Rattle.hexdigits.specs.Over.{Wrote, WroteAt};
 ghost use Rattle.refusal.specs.Page.{left};
-ghost use Rattle.assembler.specs.Source.{countOf, Starts};
+ghost use Rattle.assembler.specs.Source.{lineCount, Starts};
 ghost use Rattle.assembler.specs.Section.{pair};
-ghost use Rattle.assembler.specs.Answer.{written, checked};
+ghost use Rattle.assembler.specs.Answer.{sectionWritten, checked};
 ghost use Rattle.assembler.specs.Labels as Spec;
 use crate::Labelled;
 use crate::section::put_count;
@@ -56,8 +56,8 @@ fn put_labels(source: &[u8], starts: &[u32; 1025], out: &mut [u8]) -> usize
 
 // A source of whole lines: its first fault of those that make labels doubtful, or its labels in front of the output.
 pub(crate) fn label_lines(source: &[u8], out: &mut [u8]) -> Labelled
-    requires { ⌜ (countOf (now source) ≤ 1024) × (4096 ≤ length (now out)) ⌝ }
-    ensures { λ r. ⌜ left (Spec.labelledPage r) (now (out .exit)) ≡ checked Spec.labelFaults (now (source .entry)) (written (Spec.labelsOf (now (source .entry))) (now (out .entry))) (now (out .entry)) ⌝ }
+    requires { ⌜ (lineCount (now source) ≤ 1024) × (4096 ≤ length (now out)) ⌝ }
+    ensures { λ r. ⌜ left (Spec.labelledPage r) (now (out .exit)) ≡ checked Spec.labelFaults (now (source .entry)) (sectionWritten (Spec.labelsOf (now (source .entry))) (now (out .entry))) (now (out .entry)) ⌝ }
 {
     let n = count(source);
     let mut starts = [0u32; 1025];

@@ -2,8 +2,8 @@
 ghost use mathlib.Core.Path.{_≡_};
 ghost use Prim.Native.Nat.{_≤_};
 ghost use lib.ListN.{length};
-ghost use Rattle.assembler.specs.Source.{countOf};
-ghost use Rattle.assembler.specs.Answer.{faults, pageOf, sourceWhy, written, checked, assembled, asmOf};
+ghost use Rattle.assembler.specs.Source.{lineCount};
+ghost use Rattle.assembler.specs.Answer.{faults, assembledPage, sourceWhy, sectionWritten, checked, assembled, asmOf};
 ghost use Rattle.refusal.specs.Page.{left};
 ghost use Rattle.assembler.specs.Labels.{labelledPage, labelsPage};
 use crate::source::Fault;
@@ -47,8 +47,8 @@ pub enum Labelled {
 
 // A source of whole lines: its first fault, or its section in front of the output.
 fn assemble_lines(source: &[u8], out: &mut [u8]) -> Assembled
-    requires { ⌜ (countOf (now source) ≤ 1024) × (12290 ≤ length (now out)) ⌝ }
-    ensures { λ r. ⌜ left (pageOf r) (now (out .exit)) ≡ checked faults (now (source .entry)) (written (assembled (now (source .entry))) (now (out .entry))) (now (out .entry)) ⌝ }
+    requires { ⌜ (lineCount (now source) ≤ 1024) × (12290 ≤ length (now out)) ⌝ }
+    ensures { λ r. ⌜ left (assembledPage r) (now (out .exit)) ≡ checked faults (now (source .entry)) (sectionWritten (assembled (now (source .entry))) (now (out .entry))) (now (out .entry)) ⌝ }
 {
     let n = source::count(source);
     let mut starts = [0u32; 1025];
@@ -99,7 +99,7 @@ fn source_refusal(source: &[u8], out: usize, room: usize) -> u8
 
 // Assembles a source into the front of the output; a refusal leaves the output as lent.
 pub fn assemble(source: &[u8], out: &mut [u8]) -> Assembled
-    ensures { λ r. ⌜ left (pageOf r) (now (out .exit)) ≡ asmOf (now (source .entry)) (now (out .entry)) ⌝ }
+    ensures { λ r. ⌜ left (assembledPage r) (now (out .exit)) ≡ asmOf (now (source .entry)) (now (out .entry)) ⌝ }
 {
     let why = source_refusal(source, out.len(), LONGEST_SECTION);
     if why != 0 {

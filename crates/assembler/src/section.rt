@@ -4,8 +4,8 @@ ghost use mathlib.Core.List.{_++_};
 ghost use Prim.Native.Nat.{_+_, _*_, _≤_, _<_};
 ghost use lib.ListN.{length, take};
 ghost use Rattle.hexdigits.specs.Over.{Wrote, WroteAt};
-ghost use Rattle.assembler.specs.Source.{countOf, Starts};
-ghost use Rattle.assembler.specs.Section.{entryOf, lowerOf, higherOf, inserted, entered, placed, pair, bytesOf, flat, sectionOf, Inserts, Enters};
+ghost use Rattle.assembler.specs.Source.{lineCount, Starts};
+ghost use Rattle.assembler.specs.Section.{sectionEntry, lowerOf, higherOf, inserted, entered, wordsPlaced, pair, entryBytes, sectionBytes, sectionOf, Inserts, Enters};
 use crate::source::count;
 use crate::source::here;
 use crate::source::text_at;
@@ -15,7 +15,7 @@ use wordmath::address::plus;
 
 // An address and its word as one number.
 fn entry(address: u16, word: u16) -> u32
-    ensures { λ r. ⌜ r ≡ entryOf address word ⌝ }
+    ensures { λ r. ⌜ r ≡ sectionEntry address word ⌝ }
 {
     address as u32 * 65536 + word as u32
 }
@@ -77,7 +77,7 @@ fn enter(table: &mut [u32; 3072], n: usize, o: Op, h: u16) -> usize
 // The words of all lines.
 pub(crate) fn place_all(source: &[u8], starts: &[u32; 1025], table: &mut [u32; 3072]) -> usize
     requires { ⌜ Starts (now source) (now starts) × (length (now table) ≡ 3072) ⌝ }
-    ensures { λ r. ⌜ (take r (now (table .exit)) ≡ placed (now (source .entry)) (countOf (now (source .entry)))) × (r ≤ 3072) × (length (now (table .exit)) ≡ 3072) ⌝ }
+    ensures { λ r. ⌜ (take r (now (table .exit)) ≡ wordsPlaced (now (source .entry)) (lineCount (now (source .entry)))) × (r ≤ 3072) × (length (now (table .exit)) ≡ 3072) ⌝ }
 {
     let lines = count(source);
     let mut n = 0;
@@ -94,7 +94,7 @@ pub(crate) fn place_all(source: &[u8], starts: &[u32; 1025], table: &mut [u32; 3
 // An entry's bytes, in front of a lent part.
 fn put_entry(out: &mut [u8], e: u32) -> usize
     requires { ⌜ 4 ≤ length (now out) ⌝ }
-    ensures { λ n. ⌜ Wrote (bytesOf e) (now (out .entry)) (now (out .exit)) n ⌝ }
+    ensures { λ n. ⌜ Wrote (entryBytes e) (now (out .entry)) (now (out .exit)) n ⌝ }
 {
     out[0] = (e / 65536 % 256) as u8;
     out[1] = (e / 16777216 % 256) as u8;
@@ -105,7 +105,7 @@ fn put_entry(out: &mut [u8], e: u32) -> usize
 
 fn put_entry_at(out: &mut [u8], at: usize, e: u32) -> usize
     requires { ⌜ at + 4 ≤ length (now out) ⌝ }
-    ensures { λ n. ⌜ WroteAt at (bytesOf e) (now (out .entry)) (now (out .exit)) n ⌝ }
+    ensures { λ n. ⌜ WroteAt at (entryBytes e) (now (out .entry)) (now (out .exit)) n ⌝ }
 {
     let n = put_entry(&mut out[at..], e);
     at + n
@@ -123,7 +123,7 @@ pub(crate) fn put_count(out: &mut [u8], n: usize) -> usize
 // The first n entries from a place on.
 fn put_entries(out: &mut [u8], from: usize, table: &[u32; 3072], n: usize) -> usize
     requires { ⌜ (from + 12288 ≤ length (now out)) × (n ≤ 3072) × (length (now table) ≡ 3072) ⌝ }
-    ensures { λ k. ⌜ WroteAt from (flat (take n (now (table .entry)))) (now (out .entry)) (now (out .exit)) k ⌝ }
+    ensures { λ k. ⌜ WroteAt from (sectionBytes (take n (now (table .entry)))) (now (out .entry)) (now (out .exit)) k ⌝ }
 {
     let mut at = from;
     let mut i = 0;

@@ -3,7 +3,7 @@ ghost use mathlib.Core.Path.{_≡_};
 ghost use Prim.Native.Nat.{ℕ, _+_, _*_, _≤_, _<_};
 ghost use lib.ListN.{length};
 ghost use Rattle.optext.specs.First.{firstFrom};
-ghost use Rattle.assembler.specs.Source.{countOf, lineAt, textAt, saidAt, isOrigin, endFrom, nextFrom, givesAt, giverOf, valueOf, hereOf, isUnknown, isGiven, hasLabels, lacks, overlaps, isOdd, isFar, fails, isMissing, misplaced, far, lowest, wordsIn, Starts, Ends};
+ghost use Rattle.assembler.specs.Source.{lineCount, lineAt, textAt, saidAt, isOrigin, endAfter, nextFrom, givesAt, giverOf, valueOf, hereOf, isUnknown, isGiven, hasLabels, lacks, overlaps, isOdd, isFar, fails, isMissing, misplaced, far, lowest, lineOp, Starts, LineEnds};
 ghost use Rattle.assembler.specs.Source as Spec;
 use optext::Op;
 use patchline::oneline::How;
@@ -34,14 +34,14 @@ pub(crate) enum Fault {
 
 // The number of lines.
 pub(crate) fn count(source: &[u8]) -> usize
-    ensures { λ r. ⌜ r ≡ countOf (now (source .entry)) ⌝ }
+    ensures { λ r. ⌜ r ≡ lineCount (now (source .entry)) ⌝ }
 {
     source.len() / 32
 }
 
 // A line's 32 bytes.
 pub(crate) fn line_at(source: &[u8], i: usize) -> &[u8]
-    requires { ⌜ i < countOf (now source) ⌝ }
+    requires { ⌜ i < lineCount (now source) ⌝ }
     ensures { λ r. ⌜ now r ≡ lineAt (now (source .entry)) i ⌝ }
 {
     let a = 32 * i;
@@ -51,7 +51,7 @@ pub(crate) fn line_at(source: &[u8], i: usize) -> &[u8]
 
 // What stands in a line after its label.
 pub(crate) fn text_at(source: &[u8], i: usize) -> &[u8]
-    requires { ⌜ i < countOf (now source) ⌝ }
+    requires { ⌜ i < lineCount (now source) ⌝ }
     ensures { λ r. ⌜ now r ≡ textAt (now (source .entry)) i ⌝ }
 {
     rest(line_at(source, i))
@@ -59,7 +59,7 @@ pub(crate) fn text_at(source: &[u8], i: usize) -> &[u8]
 
 // What it says.
 fn said_at(source: &[u8], i: usize) -> Said
-    requires { ⌜ i < countOf (now source) ⌝ }
+    requires { ⌜ i < lineCount (now source) ⌝ }
     ensures { λ r. ⌜ (r ≡ saidAt (now (source .entry)) i) × (r .op .count ≤ 3) ⌝ }
 {
     meaning(text_at(source, i))
@@ -81,7 +81,7 @@ fn is_origin(how: How) -> bool
 // The place after the words of a line that begins at o.
 fn end_from(o: u32, s: Said) -> u32
     requires { ⌜ (o < 100000) × (s .op .count ≤ 3) ⌝ }
-    ensures { λ r. ⌜ (r ≡ endFrom o s) × (r ≤ o + 6) ⌝ }
+    ensures { λ r. ⌜ (r ≡ endAfter o s) × (r ≤ o + 6) ⌝ }
 {
     let n = s.op.count as u32;
     o + 2 * n
@@ -101,8 +101,8 @@ fn next_from(o: u32, s: Said) -> u32
 
 // The tables of the origins and of the ends.
 pub(crate) fn survey(source: &[u8], starts: &mut [u32; 1025], ends: &mut [u32; 1024])
-    requires { ⌜ (countOf (now source) ≤ 1024) × (length (now starts) ≡ 1025) × (length (now ends) ≡ 1024) ⌝ }
-    ensures { λ _. ⌜ Starts (now (source .entry)) (now (starts .exit)) × Ends (now (source .entry)) (now (ends .exit)) ⌝ }
+    requires { ⌜ (lineCount (now source) ≤ 1024) × (length (now starts) ≡ 1025) × (length (now ends) ≡ 1024) ⌝ }
+    ensures { λ _. ⌜ Starts (now (source .entry)) (now (starts .exit)) × LineEnds (now (source .entry)) (now (ends .exit)) ⌝ }
 {
     let n = count(source);
     let mut o: u32 = 0;
@@ -120,7 +120,7 @@ pub(crate) fn survey(source: &[u8], starts: &mut [u32; 1025], ends: &mut [u32; 1
 
 // Does a line give this label?
 fn gives_at(source: &[u8], u: &[u8], k: usize) -> bool
-    requires { ⌜ k < countOf (now source) ⌝ }
+    requires { ⌜ k < lineCount (now source) ⌝ }
     ensures { λ r. ⌜ r ≡ givesAt (now (source .entry)) (now (u .entry)) k ⌝ }
 {
     gives(u, line_at(source, k))
@@ -128,7 +128,7 @@ fn gives_at(source: &[u8], u: &[u8], k: usize) -> bool
 
 // The first line that gives a label, or the number of lines.
 fn giver(source: &[u8], u: &[u8]) -> usize
-    ensures { λ r. ⌜ (r ≡ giverOf (now (source .entry)) (now (u .entry))) × (r ≤ countOf (now (source .entry))) ⌝ }
+    ensures { λ r. ⌜ (r ≡ giverOf (now (source .entry)) (now (u .entry))) × (r ≤ lineCount (now (source .entry))) ⌝ }
 {
     let n = count(source);
     let mut i = 0;
@@ -152,7 +152,7 @@ fn value(source: &[u8], starts: &[u32; 1025], u: &[u8]) -> u16
 
 // The address that a line begins at.
 pub(crate) fn here(source: &[u8], starts: &[u32; 1025], i: usize) -> u16
-    requires { ⌜ Starts (now source) (now starts) × (i < countOf (now source)) ⌝ }
+    requires { ⌜ Starts (now source) (now starts) × (i < lineCount (now source)) ⌝ }
     ensures { λ r. ⌜ r ≡ hereOf (now (source .entry)) i ⌝ }
 {
     (starts[i] % 65536) as u16
@@ -186,7 +186,7 @@ fn has_labels(how: How) -> bool
 
 // 24: does no reading take the line?
 fn unknown(source: &[u8], i: usize) -> bool
-    requires { ⌜ i < countOf (now source) ⌝ }
+    requires { ⌜ i < lineCount (now source) ⌝ }
     ensures { λ r. ⌜ r ≡ fails Fault.Text (now (source .entry)) i ⌝ }
 {
     let s = said_at(source, i);
@@ -205,7 +205,7 @@ fn is_given(source: &[u8], i: usize, u: &[u8]) -> bool
 }
 
 fn given(source: &[u8], i: usize) -> bool
-    requires { ⌜ i < countOf (now source) ⌝ }
+    requires { ⌜ i < lineCount (now source) ⌝ }
     ensures { λ r. ⌜ r ≡ fails Fault.Given (now (source .entry)) i ⌝ }
 {
     is_given(source, i, label(line_at(source, i)))
@@ -234,7 +234,7 @@ fn lack(source: &[u8], t: &[u8]) -> bool
 
 // 28: do the words of two lines overlap?
 fn overlap(source: &[u8], starts: &[u32; 1025], ends: &[u32; 1024], i: usize, k: usize) -> bool
-    requires { ⌜ Starts (now source) (now starts) × Ends (now source) (now ends) × (i < countOf (now source)) × (k < countOf (now source)) ⌝ }
+    requires { ⌜ Starts (now source) (now starts) × LineEnds (now source) (now ends) × (i < lineCount (now source)) × (k < lineCount (now source)) ⌝ }
     ensures { λ r. ⌜ r ≡ overlaps (now (source .entry)) i k ⌝ }
 {
     (starts[i] < ends[k])
@@ -250,7 +250,7 @@ fn is_odd(s: Said) -> bool
 
 // The first line whose words the words of the line i overlap, or i.
 fn overlapped(source: &[u8], starts: &[u32; 1025], ends: &[u32; 1024], i: usize) -> usize
-    requires { ⌜ Starts (now source) (now starts) × Ends (now source) (now ends) × (i < countOf (now source)) ⌝ }
+    requires { ⌜ Starts (now source) (now starts) × LineEnds (now source) (now ends) × (i < lineCount (now source)) ⌝ }
     ensures { λ r. ⌜ r ≡ firstFrom (overlaps (now (source .entry)) i) i 0 ⌝ }
 {
     let mut k = 0;
@@ -264,7 +264,7 @@ fn overlapped(source: &[u8], starts: &[u32; 1025], ends: &[u32; 1024], i: usize)
 }
 
 fn misplace(source: &[u8], starts: &[u32; 1025], ends: &[u32; 1024], i: usize) -> bool
-    requires { ⌜ Starts (now source) (now starts) × Ends (now source) (now ends) × (i < countOf (now source)) ⌝ }
+    requires { ⌜ Starts (now source) (now starts) × LineEnds (now source) (now ends) × (i < lineCount (now source)) ⌝ }
     ensures { λ r. ⌜ r ≡ misplaced (now (source .entry)) i ⌝ }
 {
     if is_odd(said_at(source, i)) {
@@ -299,7 +299,7 @@ fn too_far(source: &[u8], starts: &[u32; 1025], h: u16, t: &[u8]) -> bool
 
 // Has a line this fault?
 fn fail(f: Fault, source: &[u8], starts: &[u32; 1025], ends: &[u32; 1024], i: usize) -> bool
-    requires { ⌜ Starts (now source) (now starts) × Ends (now source) (now ends) × (i < countOf (now source)) ⌝ }
+    requires { ⌜ Starts (now source) (now starts) × LineEnds (now source) (now ends) × (i < lineCount (now source)) ⌝ }
     ensures { λ r. ⌜ r ≡ fails f (now (source .entry)) i ⌝ }
 {
     match f {
@@ -318,8 +318,8 @@ pub(crate) fn lowest_line(
     starts: &[u32; 1025],
     ends: &[u32; 1024],
 ) -> usize
-    requires { ⌜ Starts (now source) (now starts) × Ends (now source) (now ends) ⌝ }
-    ensures { λ r. ⌜ (r ≡ lowest f (now (source .entry))) × (r ≤ countOf (now (source .entry))) ⌝ }
+    requires { ⌜ Starts (now source) (now starts) × LineEnds (now source) (now ends) ⌝ }
+    ensures { λ r. ⌜ (r ≡ lowest f (now (source .entry))) × (r ≤ lineCount (now (source .entry))) ⌝ }
 {
     let n = count(source);
     let mut i = 0;
@@ -343,7 +343,7 @@ fn put_label(
     o: Op,
 ) -> Op
     requires { ⌜ Starts (now source) (now starts) ⌝ }
-    ensures { λ r. ⌜ r ≡ Spec.put (now (source .entry)) how third h (now (u .entry)) o ⌝ }
+    ensures { λ r. ⌜ r ≡ Spec.withLabels (now (source .entry)) how third h (now (u .entry)) o ⌝ }
 {
     if u.len() == 0 {
         return o;
@@ -354,7 +354,7 @@ fn put_label(
 // The words of a line, with its labels in them.
 pub(crate) fn words_in(source: &[u8], starts: &[u32; 1025], h: u16, t: &[u8]) -> Op
     requires { ⌜ Starts (now source) (now starts) ⌝ }
-    ensures { λ r. ⌜ r ≡ wordsIn (now (source .entry)) h (now (t .entry)) ⌝ }
+    ensures { λ r. ⌜ r ≡ lineOp (now (source .entry)) h (now (t .entry)) ⌝ }
 {
     let s = meaning(t);
     let how = s.how;

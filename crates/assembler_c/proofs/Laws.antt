@@ -9,7 +9,7 @@ use Rattle.assembler.specs.declared.Assembled.{Assembled}
 use Rattle.assembler.specs.declared.Assembled.the-variants.{Section, Refused, RefusedAt}
 use Rattle.assembler.specs.declared.Labelled.{Labelled}
 use Rattle.assembler.specs.declared.Labelled.the-variants as Labelled
-use Rattle.assembler.specs.Answer.{pageOf, asmOf}
+use Rattle.assembler.specs.Answer.{assembledPage, asmOf}
 use Rattle.assembler.specs.Labels.{labelledPage, labelsPage}
 use Rattle.assembler_c.specs.Call.{sizeWords, assembleCall, labelsCall}
 
@@ -29,7 +29,7 @@ module _ (s out b : List ℕ) (n : ℕ) (h : n ≡ answerWhy b) where
   unfolding assembleCall
   assemble-bad some = looked-bad out b n h (asmOf s out) some
 
-  module _ (none : n ≡ 0) (out′ : List ℕ) (r : Assembled) (e : left (pageOf r) out′ ≡ asmOf s out) where
+  module _ (none : n ≡ 0) (out′ : List ℕ) (r : Assembled) (e : left (assembledPage r) out′ ≡ asmOf s out) where
     pub done : (k : ℕ) (b′ : List ℕ) → r ≡ Section k → b′ ≡ threeWords k 0 0 → told 0 (out′, b′) ≡ assembleCall s out b
     unfolding assembleCall
     done k b′ q p = looked out b n h (asmOf s out) none _ (rw (← e, q, p) refl)

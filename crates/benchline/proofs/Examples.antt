@@ -4,7 +4,7 @@ use mathlib.Core.List.{List, [], _∷_}
 use Prim.Native.Nat.{ℕ}
 use Rattle.hexdigits.specs.Digits.{digits, hexOf, hex4}
 use Rattle.benchline.specs.declared.Place.the-variants.{At, Nowhere}
-use Rattle.benchline.specs.Line.{field, fields, modeText, placeText, firstText, lineText, name, decimal, refusedText}
+use Rattle.benchline.specs.Line.{field, fields, modeDigit, placeText, firstText, lineText, name, decimal, refusedText}
 
 registers : List ℕ
 registers = 0 ∷ 1 ∷ 0 ∷ 0 ∷ 0 ∷ 0 ∷ 12 ∷ 146 ∷ []
@@ -15,7 +15,7 @@ page-line : lineText registers 52992 0 1 (At 1) (At 49153)
     ∷ 48 ∷ 48 ∷ 48 ∷ 48 ∷ 32 ∷ 48 ∷ 48 ∷ 48 ∷ 48 ∷ 32 ∷ 48 ∷ 48 ∷ 48 ∷ 67 ∷ 32 ∷ 48 ∷ 48 ∷ 57 ∷ 50 ∷ 32
     ∷ 48 ∷ 70 ∷ 48 ∷ 48 ∷ 32 ∷ 48 ∷ 32 ∷ 48 ∷ 48 ∷ 48 ∷ 49 ∷ 32 ∷ 48 ∷ 48 ∷ 48 ∷ 49 ∷ 32
     ∷ 67 ∷ 48 ∷ 48 ∷ 49 ∷ []
-unfolding registers lineText fields field hex4 hexOf digits modeText placeText firstText
+unfolding registers lineText fields field hex4 hexOf digits modeDigit placeText firstText
 page-line = refl
 
 -- ---- where there was no blank

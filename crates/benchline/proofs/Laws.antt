@@ -13,11 +13,11 @@ use Rattle.hexdigits.specs.Digits.{hex4}
 use Rattle.benchline.specs.declared.Place.{Place}
 use Rattle.benchline.specs.declared.Place.the-variants.{At, Nowhere}
 use Rattle.benchline.proofs.Laws.Lengths.{field-length, fields-length}
-use Rattle.benchline.specs.Line.{modeText, placeText, firstText, lineText, name, decimal, refusedText}
+use Rattle.benchline.specs.Line.{modeDigit, placeText, firstText, lineText, name, decimal, refusedText}
 
 -- the lengths of the line's parts
-pub mode-length : (mode : ℕ) → length (modeText mode) ≡ 2
-unfolding modeText
+pub mode-length : (mode : ℕ) → length (modeDigit mode) ≡ 2
+unfolding modeDigit
 mode-length mode = refl
 
 pub place-length : (place : Place) → length (placeText place) ≡ 4

@@ -6,7 +6,7 @@ use Prim.Native.Nat.{ℕ, zero, suc, _+_, _/_, _%_}
 use lib.Dec.{leb, ltb}
 use lib.ListN.{length, getD}
 use Rattle.hexdigits.specs.Digits.{hexOf, hex4}
-use Rattle.hexdigits.specs.Over.{over}
+use Rattle.hexdigits.specs.Over.{inFrontOf}
 use Rattle.refusal.specs.Numbers.{textShort}
 use Rattle.refusal.specs.Page.{Page, refused, answered, Left, left, call}
 use Rattle.benchline.specs.declared.Place.{Place}
@@ -30,8 +30,8 @@ fields values zero = []
 fields values (suc n) = fields values n ++ field (getD values n 0)
 
 -- one digit and a space
-unfoldable pub modeText : ℕ → List ℕ
-modeText mode = hexOf (mode % 16) ∷ space
+unfoldable pub modeDigit : ℕ → List ℕ
+modeDigit mode = hexOf (mode % 16) ∷ space
 
 -- a place or an address, or ----
 unfoldable pub placeText : Place → List ℕ
@@ -45,7 +45,7 @@ firstText place address = (placeText place ++ space) ++ placeText address
 -- PS has bits 15 and 14 clear
 unfoldable pub lineText : List ℕ → ℕ → ℕ → ℕ → Place → Place → List ℕ
 lineText regs ps mode blanks place address =
-    (((fields regs 8 ++ field (ps % 16384)) ++ modeText mode) ++ field blanks) ++ firstText place address
+    (((fields regs 8 ++ field (ps % 16384)) ++ modeDigit mode) ++ field blanks) ++ firstText place address
 
 -- REFUSED and a space
 unfoldable pub name : List ℕ
@@ -73,4 +73,4 @@ printWhy size text = cond (leb size text) 0 textShort
 
 -- the line goes to the front of the text, and the rest of it stays
 unfoldable pub printOf : List ℕ → List ℕ → Left ℕ (List ℕ)
-printOf s b = call (printWhy (length s) (length b)) (left (answered (length s)) (over s b)) b
+printOf s b = call (printWhy (length s) (length b)) (left (answered (length s)) (inFrontOf s b)) b

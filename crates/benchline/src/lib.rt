@@ -5,7 +5,7 @@ use refusal::number::TEXT_SHORT;
 ghost use mathlib.Core.Path.{_≡_};
 ghost use Prim.Native.Nat.{_+_, _*_, _≤_, _<_};
 ghost use lib.ListN.{length};
-ghost use Rattle.benchline.specs.Line.{space, dashes, field, fields, modeText, placeText, firstText, lineText, name, decimal, refusedText, printedPage, printOf};
+ghost use Rattle.benchline.specs.Line.{space, dashes, field, fields, modeDigit, placeText, firstText, lineText, name, decimal, refusedText, printedPage, printOf};
 ghost use Rattle.hexdigits.specs.Over.{Wrote, WroteAt};
 ghost use Rattle.refusal.specs.Page.{left};
 
@@ -49,7 +49,7 @@ fn put_field(out: &mut [u8], x: u16) -> usize
 // The mode's digit and a space.
 fn put_mode(out: &mut [u8], mode: u8) -> usize
     requires { ⌜ 2 ≤ length (now out) ⌝ }
-    ensures { λ n. ⌜ Wrote (modeText mode) (now (out .entry)) (now (out .exit)) n ⌝ }
+    ensures { λ n. ⌜ Wrote (modeDigit mode) (now (out .entry)) (now (out .exit)) n ⌝ }
 {
     out[0] = hex((mode % 16) as u16);
     out[1] = b' ';
@@ -90,7 +90,7 @@ fn field_at(text: &mut [u8], at: usize, x: u16) -> usize
 // The mode's digit in its place.
 fn mode_at(text: &mut [u8], at: usize, mode: u8) -> usize
     requires { ⌜ at + 2 ≤ length (now text) ⌝ }
-    ensures { λ n. ⌜ WroteAt at (modeText mode) (now (text .entry)) (now (text .exit)) n ⌝ }
+    ensures { λ n. ⌜ WroteAt at (modeDigit mode) (now (text .entry)) (now (text .exit)) n ⌝ }
 {
     at + put_mode(&mut text[at..], mode)
 }

@@ -17,7 +17,7 @@ use lib.Seq.{getD-set-same, getD-set-other, set-out}
 use borrow.Author.Tests.{ltb-true}
 use Rattle.board.specs.Work.{Work, give, readAt, writeAt, Size, word, byte, fitted, writable, even, wordAt, withWord, withByte, get, put, _>>=_}
 use Rattle.board.specs.Work as Work
-use Rattle.board.specs.Exec.{and, Store, Now, good, gone, count, room, note, noted, allowed, exec, Board, Got, Did, wordAs, byteAs, keptAs}
+use Rattle.board.specs.Exec.{and, Store, Now, good, gone, logCount, logRoom, note, withNote, allowed, exec, Board, Got, Did, wordAs, byteAs, keptAs}
 use Rattle.board.proofs.Laws.Exec.{stateOf}
 use Rattle.board.specs.declared.Word.{Word}
 use Rattle.board.specs.declared.Word.the-variants.{Value, Blank}
@@ -38,7 +38,7 @@ pub exec-bind : {A B : Type 0} (map : List ℕ) (w : Work A) (f : A → Work B) 
 unfolding exec _>>=_
 exec-bind map (give x) f st = refl
 exec-bind map (readAt z a k) f st = rw (exec-bind map (k (get z (st .image) a)) f st, allowed-after)
-exec-bind map (writeAt z a v w) f st = rw (exec-bind map w f (noted z a v st), allowed-after, allowed-after)
+exec-bind map (writeAt z a v w) f st = rw (exec-bind map w f (withNote z a v st), allowed-after, allowed-after)
 
 allowed-and : {A : Type 0} (b c : Bool) (a : ℕ) (st : Store) (x : Now A) → allowed b a st (allowed c a st x) ≡ allowed (and b c) a st x
 unfolding and
@@ -91,14 +91,14 @@ module _ {map : List ℕ} where
 
   pub unwritten-at : {st : Store} {z : Size} {a v : ℕ} {r : Now (Unit {0})} {b : ℕ} {st₁ : Store} → Got map (writeAt z a v (give tt)) st r → r ≡ gone b st₁ → r ≡ gone a st₁
   unfolding exec
-  unwritten-at {st = st} {z = z} {a = a} {v = v} g e = only-gone (and (writable map a) (room (st .log))) a st tt (noted z a v st) (g .came ∙ allowed-and (writable map a) (room (st .log)) a st (good tt (noted z a v st))) e
+  unwritten-at {st = st} {z = z} {a = a} {v = v} g e = only-gone (and (writable map a) (logRoom (st .log))) a st tt (withNote z a v st) (g .came ∙ allowed-and (writable map a) (logRoom (st .log)) a st (good tt (withNote z a v st))) e
 
   -- a page that is fitted, and room in the log
-  pub got-written : {st st′ : Store} (z : Size) (a v : ℕ) → and (writable map a) (room (st .log)) ≡ true → st′ ≡ noted z a v st → Got {A = Unit {0}} map (writeAt z a v (give tt)) st (good tt st′)
+  pub got-written : {st st′ : Store} (z : Size) (a v : ℕ) → and (writable map a) (logRoom (st .log)) ≡ true → st′ ≡ withNote z a v st → Got {A = Unit {0}} map (writeAt z a v (give tt)) st (good tt st′)
   unfolding exec
   got-written {st = st} z a v e h = record { came = rw (h, allowed-and, e) }
 
-  pub got-lost : {A : Type 0} (z : Size) (a : ℕ) {v : ℕ} {w : Work A} {st : Store} → and (writable map a) (room (st .log)) ≡ false → Got map (writeAt z a v w) st (gone a st)
+  pub got-lost : {A : Type 0} (z : Size) (a : ℕ) {v : ℕ} {w : Work A} {st : Store} → and (writable map a) (logRoom (st .log)) ≡ false → Got map (writeAt z a v w) st (gone a st)
   unfolding exec
   got-lost z a e = record { came = rw (allowed-and, e) }
 
@@ -128,15 +128,15 @@ pub size-note : (l : List ℕ) (a v : ℕ) → length (note l a v) ≡ length l
 unfolding note
 size-note l a v = simp length-set
 
-pub count-note : (l : List ℕ) (a v : ℕ) → length l ≡ 32 → count (note l a v) ≡ count l + 1
+pub count-note : (l : List ℕ) (a v : ℕ) → length l ≡ 32 → logCount (note l a v) ≡ logCount l + 1
 unfolding note
 count-note l a v e = getD-set-same (set (set l (getD l 0 0 * 2 + 1) a) (getD l 0 0 * 2 + 2) v) 0 (getD l 0 0 + 1) 0 (simp length-set (omega arith))
 
-pub room-few : (l : List ℕ) → room l ≡ true → count l < 15
-unfolding room
-room-few l e = ltb-true (count l) 15 e
+pub room-few : (l : List ℕ) → logRoom l ≡ true → logCount l < 15
+unfolding logRoom
+room-few l e = ltb-true (logCount l) 15 e
 
-pub board-noted : {map : List ℕ} (z : Size) (a v : ℕ) (st : Store) → room (st .log) ≡ true → Board map st → Board map (noted z a v st)
+pub board-noted : {map : List ℕ} (z : Size) (a v : ℕ) (st : Store) → logRoom (st .log) ≡ true → Board map st → Board map (withNote z a v st)
 board-noted z a v st e b =
     let f = room-few (st .log) e in
     record {
@@ -154,7 +154,7 @@ unfolding exec
 exec-board map (give x) st b = b
 exec-board map (readAt z a k) st b = allowed-board (fitted map a) a st _ b (λ _. exec-board map (k (get z (st .image) a)) st b)
 exec-board map (writeAt z a v w) st b =
-    allowed-board (writable map a) a st _ b (λ _. allowed-board (room (st .log)) a st _ b (λ e. exec-board map w (noted z a v st) (board-noted z a v st e b)))
+    allowed-board (writable map a) a st _ b (λ _. allowed-board (logRoom (st .log)) a st _ b (λ e. exec-board map w (withNote z a v st) (board-noted z a v st e b)))
 
 -- what a function that writes promises follows from what it got
 pub did : {A : Type 0} {map : List ℕ} {w : Work A} {st st′ : Store} {r : Now A} → stateOf r ≡ st′ → Board map st → Got map w st r → Did map w st r st′

@@ -26,21 +26,21 @@ pub data Now (A : Type 0) : Type 0 where
   gone : ℕ → Store → Now A
 
 -- element 0 of the log is the number of its entries, of which there are at most 15; an entry is an address and an old word
-abbrev pub count : List ℕ → ℕ
-count l = getD l 0 0
+abbrev pub logCount : List ℕ → ℕ
+logCount l = getD l 0 0
 
-unfoldable pub room : List ℕ → Bool
-room l = ltb (count l) 15
+unfoldable pub logRoom : List ℕ → Bool
+logRoom l = ltb (logCount l) 15
 
 unfoldable pub and : Bool → Bool → Bool
 and true b = b
 and false b = false
 
 unfoldable pub note : List ℕ → ℕ → ℕ → List ℕ
-note l a old = set (set (set l (count l * 2 + 1) a) (count l * 2 + 2) old) 0 (count l + 1)
+note l a old = set (set (set l (logCount l * 2 + 1) a) (logCount l * 2 + 2) old) 0 (logCount l + 1)
 
-abbrev pub noted : Size → ℕ → ℕ → Store → Store
-noted z a v st = beside (put z (st .image) a v) (note (st .log) a (wordAt (st .image) a))
+abbrev pub withNote : Size → ℕ → ℕ → Store → Store
+withNote z a v st = beside (put z (st .image) a v) (note (st .log) a (wordAt (st .image) a))
 
 abbrev pub allowed : {A : Type 0} → Bool → ℕ → Store → Now A → Now A
 allowed true a st x = x
@@ -49,7 +49,7 @@ allowed false a st x = gone a st
 unfoldable pub exec : {A : Type 0} → List ℕ → Work A → Store → Now A
 exec map (give x) st = good x st
 exec map (readAt z a k) st = allowed (fitted map a) a st (exec map (k (get z (st .image) a)) st)
-exec map (writeAt z a v w) st = allowed (writable map a) a st (allowed (room (st .log)) a st (exec map w (noted z a v st)))
+exec map (writeAt z a v w) st = allowed (writable map a) a st (allowed (logRoom (st .log)) a st (exec map w (withNote z a v st)))
 
 -- the lent map and image
 pub record Lent (map image : List ℕ) : Type 0 where
@@ -61,7 +61,7 @@ pub record Lent (map image : List ℕ) : Type 0 where
 pub record Board (map : List ℕ) (st : Store) : Type 0 where
   pub lent : Lent map (st .image)
   pub whole : length (st .log) ≡ 32
-  pub few : count (st .log) ≤ 15
+  pub few : logCount (st .log) ≤ 15
 
 -- the work w on the store st came to r
 pub record Got {A : Type 0} (map : List ℕ) (w : Work A) (st : Store) (r : Now A) : Type 0 where
@@ -96,4 +96,4 @@ back zero l m = m
 back (suc n) l m = back n l (withWord m (getD l (n * 2 + 1) 0) (getD l (n * 2 + 2) 0))
 
 unfoldable pub undone : Store → List ℕ
-undone st = back (count (st .log)) (st .log) (st .image)
+undone st = back (logCount (st .log)) (st .log) (st .image)

@@ -7,7 +7,7 @@ ghost use lib.ListN.{length, getD, set};
 ghost use Rattle.board.specs.Work as Work;
 ghost use Rattle.board.specs.Work.{wordAt, withWord};
 ghost use Rattle.board.specs.Exec as Exec;
-ghost use Rattle.board.specs.Exec.{and, beside, count, Lent, Board, Saw, Did, wordAs, byteAs, keptAs, undone};
+ghost use Rattle.board.specs.Exec.{and, beside, logCount, Lent, Board, Saw, Did, wordAs, byteAs, keptAs, undone};
 
 // What a read answers: the value, or the address where nothing is fitted.
 pub enum Word {
@@ -95,7 +95,7 @@ pub fn load_byte(image: &[u8], map: &[u8], a: u16) -> Byte
 
 // Notes the word at an address in the log.
 fn note(image: &[u8], log: &mut [u16; 32], a: u16)
-    requires { ⌜ (length (now image) ≡ 65536) × (count (now log) < 15) ⌝ }
+    requires { ⌜ (length (now image) ≡ 65536) × (logCount (now log) < 15) ⌝ }
     ensures { λ _. ⌜ now (log .exit) ≡ Exec.note (now (log .entry)) a (wordAt (now (image .entry)) a) ⌝ }
 {
     let n = log[0];
@@ -108,7 +108,7 @@ fn note(image: &[u8], log: &mut [u16; 32], a: u16)
 // May this address be written, and is there room in the log?
 fn may_write(map: &[u8], log: &[u16; 32], a: u16) -> bool
     requires { ⌜ length (now map) ≡ 256 ⌝ }
-    ensures { λ r. ⌜ r ≡ and (Work.writable (now (map .entry)) a) (Exec.room (now (log .entry))) ⌝ }
+    ensures { λ r. ⌜ r ≡ and (Work.writable (now (map .entry)) a) (Exec.logRoom (now (log .entry))) ⌝ }
 {
     writable(map, a) && log[0] < 15
 }
@@ -149,7 +149,7 @@ pub fn clear(log: &mut [u16; 32])
 
 // Takes back what the log has, and empties it.
 pub fn rollback(image: &mut [u8], log: &mut [u16; 32])
-    requires { ⌜ (length (now image) ≡ 65536) × (count (now log) ≤ 15) ⌝ }
+    requires { ⌜ (length (now image) ≡ 65536) × (logCount (now log) ≤ 15) ⌝ }
     ensures { λ _. ⌜ (now (image .exit) ≡ undone (beside (now (image .entry)) (now (log .entry)))) × (now (log .exit) ≡ set (now (log .entry)) 0 0) ⌝ }
 {
     let mut n = log[0] as usize;

@@ -15,7 +15,7 @@ use Rattle.machine.specs.declared.Stepped.{Stepped}
 use Rattle.machine.specs.Numbers.{statePage, address, TurnPage}
 use Rattle.machine.specs.Entry.{steppedPage, stepPage}
 use Rattle.machine.specs.Trail.{trailOf, causeAt}
-use Rattle.machine_c.specs.Layout.{bytesOf, stateFrom, settingsFrom}
+use Rattle.machine_c.specs.Layout.{stateBytes, stateFrom, settingsFrom}
 use Rattle.machine_c.specs.Calls.{stepCall}
 
 -- A STEP THAT CAN'T FETCH 16, or can't pick up the nine places, from 0 on, locks: cause 8, with that address, the state as before but the mode, and the
@@ -29,7 +29,7 @@ StepLocks = (settings : Settings) (m map : List ℕ) (line : ℕ) (s : State) (r
 abbrev pub Wd16StepLocks : Type 0
 Wd16StepLocks = (b m map w : List ℕ) (line : ℕ) (b′ m′ : List ℕ) → told 0 (b′, m′) ≡ stepCall b m map w line
     → (a : ℕ) → Fetches (kindOf (stateFrom b) (heard (settingsFrom w) line)) a → workAnswered map (heard (settingsFrom w) line) (stateFrom b) m ≡ false
-    → (b′ ≡ bytesOf (statePage (withMode (stateFrom b) Locked)) 8 (address a)) × (m′ ≡ m)
+    → (b′ ≡ stateBytes (statePage (withMode (stateFrom b) Locked)) 8 (address a)) × (m′ ≡ m)
 
 -- 7 IS NEVER GIVEN: by a step, and at no place of a run
 abbrev pub StepNot7 : Type 0

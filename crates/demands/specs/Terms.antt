@@ -20,8 +20,8 @@ use Rattle.refusal.specs.Numbers.{outputShort}
 use Rattle.refusal.specs.Page.{first}
 use Rattle.optext.specs.Column.{IsText, Column, Why}
 use Rattle.machine.specs.Numbers.{statePage, address, nowhere, TurnPage, Place}
-use Rattle.machine.specs.Trail.{trailOf, lastOf, blanksIn, causeAt, Least}
-use Rattle.machine_c.specs.Layout.{bytesOf, tallyBytes}
+use Rattle.machine.specs.Trail.{trailOf, lastAfter, blanksIn, causeAt, Least}
+use Rattle.machine_c.specs.Layout.{stateBytes, tallyBytes}
 
 -- ---- demand 1
 
@@ -61,7 +61,7 @@ AllBytes b = (i : ℕ) → getD b i 0 < 256
 
 -- where the steps of a run before the place k end, from a state and an image
 abbrev pub beforeAt : Settings → List ℕ → List ℕ → State → List ℕ → ℕ → After
-beforeAt settings map lines s m k = lastOf (after s m Cause.Nothing) (take k (trailOf settings map lines s m))
+beforeAt settings map lines s m k = lastAfter (after s m Cause.Nothing) (take k (trailOf settings map lines s m))
 
 -- ---- demand 3. `out` is what a step hears: the board's settings and its line word. p is what the step answers, m′ the image that it leaves
 
@@ -105,7 +105,7 @@ pub record Counted (settings : Settings) (map lines : List ℕ) (s : State) (m :
 -- the bytes that a call for C leaves are those of a step's answer, or of a run's tally, of which P holds
 pub record StepBytes (b : List ℕ) (P : TurnPage → Type 0) : Type 0 where
   pub page : TurnPage
-  pub bytes : b ≡ bytesOf (page .state) (page .cause) (page .told)
+  pub bytes : b ≡ stateBytes (page .state) (page .cause) (page .told)
   pub holds : P page
 
 pub record TallyBytes (t : List ℕ) (P : ℕ → Place → Type 0) : Type 0 where

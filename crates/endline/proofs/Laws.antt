@@ -10,13 +10,13 @@ use Rattle.machine.specs.declared.Ran.{Ran}
 use Rattle.benchline.specs.declared.Place.{Place}
 use Rattle.refusal.specs.Page.{Left}
 use Rattle.benchline.specs.Line.{lineText, printOf}
-use Rattle.machine.specs.Numbers.{registers}
-use Rattle.endline.specs.Report.{benchBoard, placeOf, addressOf, endOn, endText}
+use Rattle.machine.specs.Numbers.{registersOf}
+use Rattle.endline.specs.Report.{benchBoard, blankPlace, blankAddress, endOn, endText}
 
 pub end-is : (r : Ran) (text : List ℕ) (w : Left ℕ (List ℕ)) (regs : List ℕ) (board : Settings) (out : Outside) (ps mode : ℕ) (at told : Place)
     → w ≡ printOf (lineText regs ps mode (r .tally .blanks) at told) text
-    → regs ≡ registers (r .state) → out ≡ heard board 0 → ps ≡ psOf out false (r .state)
-    → mode ≡ modeNumber (r .state .mode) → at ≡ placeOf (r .tally .first) → told ≡ addressOf (r .tally .first)
+    → regs ≡ registersOf (r .state) → out ≡ heard board 0 → ps ≡ psOf out false (r .state)
+    → mode ≡ modeNumber (r .state .mode) → at ≡ blankPlace (r .tally .first) → told ≡ blankAddress (r .tally .first)
     → w ≡ printOf (endOn board r) text
 unfolding endOn
 end-is r text w regs board out ps mode at told e e1 e2 e3 e4 e5 e6 = e ∙ rw (e1, e3, e2, e4, e5, e6)

@@ -5,7 +5,7 @@ use mathlib.Core.List.{List}
 use Rattle.state.specs.declared.Settings.{Settings}
 use Rattle.state.specs.State.{modeNumber, psOf, heard}
 use Rattle.machine.specs.declared.Ran.{Ran}
-use Rattle.machine.specs.Numbers.{registers}
+use Rattle.machine.specs.Numbers.{registersOf}
 use Rattle.machine.specs.declared.First.{First}
 use Rattle.machine.specs.declared.First.the-variants as First
 use Rattle.benchline.specs.declared.Place.{Place}
@@ -16,18 +16,18 @@ use Rattle.benchline.specs.Line.{lineText}
 abbrev pub benchBoard : Settings
 benchBoard = record { blocks = true; powerup = 3; halt = 3; register = 0 }
 
-abbrev pub placeOf : First → Place
-placeOf (First.At place address) = Place.At place
-placeOf First.Never = Place.Nowhere
+abbrev pub blankPlace : First → Place
+blankPlace (First.At place address) = Place.At place
+blankPlace First.Never = Place.Nowhere
 
-abbrev pub addressOf : First → Place
-addressOf (First.At place address) = Place.At address
-addressOf First.Never = Place.Nowhere
+abbrev pub blankAddress : First → Place
+blankAddress (First.At place address) = Place.At address
+blankAddress First.Never = Place.Nowhere
 
 -- PS as it is formed on a quiet line
 unfoldable pub endOn : Settings → Ran → List ℕ
 endOn board r =
-    lineText (registers (r .state)) (psOf (heard board 0) false (r .state)) (modeNumber (r .state .mode)) (r .tally .blanks) (placeOf (r .tally .first)) (addressOf (r .tally .first))
+    lineText (registersOf (r .state)) (psOf (heard board 0) false (r .state)) (modeNumber (r .state .mode)) (r .tally .blanks) (blankPlace (r .tally .first)) (blankAddress (r .tally .first))
 
 -- on bench's board
 unfoldable pub endText : Ran → List ℕ

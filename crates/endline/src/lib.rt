@@ -8,7 +8,7 @@ use state::State;
 ghost use mathlib.Core.Path.{_≡_};
 ghost use Rattle.benchline.specs.Line.{printedPage, printOf};
 ghost use Rattle.refusal.specs.Page.{left};
-ghost use Rattle.machine.specs.Numbers.{registers};
+ghost use Rattle.machine.specs.Numbers.{registersOf};
 ghost use Rattle.endline.specs.Report as Spec;
 
 // How bench's board is set up: the third microm is fitted, the jumpers are 11 and 11.
@@ -24,8 +24,8 @@ pub fn bench_board() -> Settings
 }
 
 // The registers in the line's order.
-fn registers(s: State) -> [u16; 8]
-    ensures { λ r. ⌜ r ≡ registers s ⌝ }
+fn registersOf(s: State) -> [u16; 8]
+    ensures { λ r. ⌜ r ≡ registersOf s ⌝ }
 {
     [
         s.regs.r0,
@@ -41,7 +41,7 @@ fn registers(s: State) -> [u16; 8]
 
 // The first blank's place.
 fn place(first: First) -> Place
-    ensures { λ r. ⌜ r ≡ Spec.placeOf first ⌝ }
+    ensures { λ r. ⌜ r ≡ Spec.blankPlace first ⌝ }
 {
     match first {
         First::At(at, _) => Place::At(at),
@@ -51,7 +51,7 @@ fn place(first: First) -> Place
 
 // The address that it told.
 fn address(first: First) -> Place
-    ensures { λ r. ⌜ r ≡ Spec.addressOf first ⌝ }
+    ensures { λ r. ⌜ r ≡ Spec.blankAddress first ⌝ }
 {
     match first {
         First::At(_, told) => Place::At(told),
@@ -67,7 +67,7 @@ pub fn write_end_on(text: &mut [u8], ran: Ran, board: Settings) -> Printed
     let tally = ran.tally;
     let mode = s.mode;
     let first = tally.first;
-    let regs = registers(s);
+    let regs = registersOf(s);
     let ps = s.ps(state::hear(board, 0), false);
     let number = state::mode_number(mode);
     let at = place(first);

@@ -19,12 +19,12 @@ use Rattle.state.specs.declared.Outside.{Outside}
 use Rattle.step.specs.Xct.{trapsAlone}
 
 -- a row: what is got, and what the page says
-pub record Row : Type 0 where
+pub record Example : Type 0 where
   pub got : List ℕ
   pub says : List ℕ
 
-abbrev pub row : List ℕ → List ℕ → Row
-row g s = record { got = g; says = s }
+abbrev pub example : List ℕ → List ℕ → Example
+example g s = record { got = g; says = s }
 
 -- pages 0 to 3 are fitted
 abbrev board : List ℕ
@@ -61,42 +61,42 @@ pair a = a .state .regs .r0 ∷ a .state .regs .r1 ∷ nzvc (a .state) ∷ []
 abbrev r1pc : After → List ℕ
 r1pc a = a .state .regs .r1 ∷ a .state .regs .pc ∷ []
 
-unfoldable pub table : List Row
+unfoldable pub table : List Example
 table =
     -- 0800, R0 7FFF: 8000, N1 Z0 V1 C0. 0810, R0 0: FFFF, N1 Z0 V0 C1
-    row (r0 (stepped 0x0800 (before 0x7fff 0 0 0 false) 0x300 0)) (0x8000 ∷ 0b1010 ∷ [])
-    ∷ row (r0 (stepped 0x0810 (before 0 0 0 0 false) 0x300 0)) (0xffff ∷ 0b1001 ∷ [])
+    example (r0 (stepped 0x0800 (before 0x7fff 0 0 0 false) 0x300 0)) (0x8000 ∷ 0b1010 ∷ [])
+    ∷ example (r0 (stepped 0x0810 (before 0 0 0 0 false) 0x300 0)) (0xffff ∷ 0b1001 ∷ [])
     -- 8820, R0 0101: 0080, C1 N1 V0. 7402 with R2 00FF, same R0: 0080, C1 N0 V1
-    ∷ row (r0 (stepped 0x8820 (before 0x0101 0 0 0 false) 0x300 0)) (0x0080 ∷ 0b1001 ∷ [])
-    ∷ row (r0 (stepped 0x7402 (before 0x0101 0 0x00ff 0 false) 0x300 0)) (0x0080 ∷ 0b0011 ∷ [])
+    ∷ example (r0 (stepped 0x8820 (before 0x0101 0 0 0 false) 0x300 0)) (0x0080 ∷ 0b1001 ∷ [])
+    ∷ example (r0 (stepped 0x7402 (before 0x0101 0 0x00ff 0 false) 0x300 0)) (0x0080 ∷ 0b0011 ∷ [])
     -- D080, R2 12FF: R0 FFFF. E080, R2 1280, R0 3401: 3481
-    ∷ row (r0 (stepped 0xd080 (before 0 0 0x12ff 0 false) 0x300 0)) (0xffff ∷ 0b1000 ∷ [])
-    ∷ row (r0 (stepped 0xe080 (before 0x3401 0 0x1280 0 false) 0x300 0)) (0x3481 ∷ 0b1000 ∷ [])
+    ∷ example (r0 (stepped 0xd080 (before 0 0 0x12ff 0 false) 0x300 0)) (0xffff ∷ 0b1000 ∷ [])
+    ∷ example (r0 (stepped 0xe080 (before 0x3401 0 0x1280 0 false) 0x300 0)) (0x3481 ∷ 0b1000 ∷ [])
     -- 0B40 keeps C; 0B48 resets it
-    ∷ row (r0 (stepped 0x0b40 (before 0x0300 0 0 0b0001 false) 0x300 0)) (0 ∷ 0b0101 ∷ [])
-    ∷ row (r0 (stepped 0x0b48 (before 0x0300 0 0 0b0001 false) 0x300 0)) (0x0300 ∷ 0b0100 ∷ [])
+    ∷ example (r0 (stepped 0x0b40 (before 0x0300 0 0 0b0001 false) 0x300 0)) (0 ∷ 0b0101 ∷ [])
+    ∷ example (r0 (stepped 0x0b48 (before 0x0300 0 0 0b0001 false) 0x300 0)) (0x0300 ∷ 0b0100 ∷ [])
     -- 7E02, R1 2, R0 5, R2 3: R0 AAAC, R1 1. R1 3: V1 C0, no divide. R2 0: V1 C1
-    ∷ row (pair (stepped 0x7e02 (before 5 2 3 0 false) 0x300 0)) (0xaaac ∷ 1 ∷ 0b1001 ∷ [])
-    ∷ row (pair (stepped 0x7e02 (before 5 3 3 0 false) 0x300 0)) (5 ∷ 3 ∷ 0b0010 ∷ [])
-    ∷ row (pair (stepped 0x7e02 (before 5 2 0 0 false) 0x300 0)) (5 ∷ 2 ∷ 0b0011 ∷ [])
-    ∷ row (pair (stepped 0x7e02 (before 5 3 0 0 false) 0x300 0)) (5 ∷ 3 ∷ 0b0011 ∷ [])
+    ∷ example (pair (stepped 0x7e02 (before 5 2 3 0 false) 0x300 0)) (0xaaac ∷ 1 ∷ 0b1001 ∷ [])
+    ∷ example (pair (stepped 0x7e02 (before 5 3 3 0 false) 0x300 0)) (5 ∷ 3 ∷ 0b0010 ∷ [])
+    ∷ example (pair (stepped 0x7e02 (before 5 2 0 0 false) 0x300 0)) (5 ∷ 2 ∷ 0b0011 ∷ [])
+    ∷ example (pair (stepped 0x7e02 (before 5 3 0 0 false) 0x300 0)) (5 ∷ 3 ∷ 0b0011 ∷ [])
     -- 7643 at 0100: R1 2 to 00FC, R1 1 to 0102, R1 0 to 00FC with FFFF
-    ∷ row (r1pc (stepped 0x7643 (before 0 2 0 0 false) 0x300 0)) (1 ∷ 0x00fc ∷ [])
-    ∷ row (r1pc (stepped 0x7643 (before 0 1 0 0 false) 0x300 0)) (0 ∷ 0x0102 ∷ [])
-    ∷ row (r1pc (stepped 0x7643 (before 0 0 0 0 false) 0x300 0)) (0xffff ∷ 0x00fc ∷ [])
+    ∷ example (r1pc (stepped 0x7643 (before 0 2 0 0 false) 0x300 0)) (1 ∷ 0x00fc ∷ [])
+    ∷ example (r1pc (stepped 0x7643 (before 0 1 0 0 false) 0x300 0)) (0 ∷ 0x0102 ∷ [])
+    ∷ example (r1pc (stepped 0x7643 (before 0 0 0 0 false) 0x300 0)) (0xffff ∷ 0x00fc ∷ [])
     -- B240 at 0100, R1 8000 unfitted, SP 0200, I2 set, indicators clear, 0300 at 12: R0 kept, 5F00 at 01FE, 0102 at 01FC, PC 0300
     ∷ (let a = stepped 0xb240 (before 0x1234 0x8000 0 0 true) 0x12 0x300 in
-    row (a .state .regs .r0 ∷ wordAt (a .image) 0x1fe ∷ wordAt (a .image) 0x1fc ∷ a .state .regs .pc ∷ []) (0x1234 ∷ 0x5f00 ∷ 0x0102 ∷ 0x0300 ∷ []))
+    example (a .state .regs .r0 ∷ wordAt (a .image) 0x1fe ∷ wordAt (a .image) 0x1fc ∷ a .state .regs .pc ∷ []) (0x1234 ∷ 0x5f00 ∷ 0x0102 ∷ 0x0300 ∷ []))
     -- B44A with R2 unfitted: R1 is not incremented
-    ∷ row (r1pc (stepped 0xb44a (before 0 0x0300 0x8000 0 false) 0x12 0x300)) (0x0300 ∷ 0x0300 ∷ [])
+    ∷ example (r1pc (stepped 0xb44a (before 0 0x0300 0x8000 0 false) 0x12 0x300)) (0x0300 ∷ 0x0300 ∷ [])
     -- 15C0 0005 is ADD #0005,R0. B7E6 1234 is MOV @#1234,-(SP). Each takes both words
-    ∷ row (taken 0x15c0 ∷ textOf (0x15c0 ∷ 0x0005 ∷ [])) (2 ∷ letters "ADD #0005,R0")
-    ∷ row (taken 0xb7e6 ∷ textOf (0xb7e6 ∷ 0x1234 ∷ [])) (2 ∷ letters "MOV @#1234,-(SP)")
+    ∷ example (taken 0x15c0 ∷ textOf (0x15c0 ∷ 0x0005 ∷ [])) (2 ∷ letters "ADD #0005,R0")
+    ∷ example (taken 0xb7e6 ∷ textOf (0xb7e6 ∷ 0x1234 ∷ [])) (2 ∷ letters "MOV @#1234,-(SP)")
     ∷ []
 
 -- EVERY ROW HOLDS
 abbrev pub Starred : Type 0
-Starred = map (λ (r : Row). r .got) table ≡ map (λ (r : Row). r .says) table
+Starred = map (λ (r : Example). r .got) table ≡ map (λ (r : Example). r .says) table
 
 -- RESERVED AND ILLEGAL ARE ONE RULE: the op codes whose own trap ends an XCT are those of format 8 where their microm is not fitted, and
 -- those that the text has no name for

@@ -31,14 +31,14 @@ resultOf word u op = unaryOf 16 u (inRegister op)
 resultOf byte u op = unaryOf 8 u (inRegister op)
 
 -- the indicators set, and the result stored
-abbrev pub stored : Size → ℕ → State → Place → Done → Work State
-stored z op s p d = writeTo z (withFlags s (d .flags)) (destinationRegister op) p (d .value)
+abbrev pub resultStored : Size → ℕ → State → Place → Done → Work State
+resultStored z op s p d = writeTo z (withFlags s (d .flags)) (destinationRegister op) p (d .value)
 
 -- (DST) ← its result; the indicators
 unfoldable pub modify : Size → (ℕ → Flags → Done) → State → ℕ → Work State
 modify z result s op = do
   o ← destination z s op
-  stored z op (o .state) (o .place) (result (o .operand) (o .state .flags))
+  resultStored z op (o .state) (o .place) (result (o .operand) (o .state .flags))
 
 abbrev pub on : Size → Unary → State → ℕ → Work State
 on z u s op = modify z (resultOf z u op) s op
@@ -117,10 +117,10 @@ column8A out s op
     ∷ []
 
 -- the row of an op code in its column: 64 words to each
-abbrev pub rowOf : ℕ → ℕ
-rowOf op = minus (op % 0x8000) 0x0a00 / 64
+abbrev pub columnRow : ℕ → ℕ
+columnRow op = minus (op % 0x8000) 0x0a00 / 64
 
 -- a look-up past the last row, which no op code of the format reaches, gives that row
 unfoldable pub format7 : Outside → State → ℕ → Work State
 format7 out s op =
-    cond (ltb op 0x8000) (getD (column0A s op) (rowOf op) (tjmp s op)) (getD (column8A out s op) (rowOf op) (modify word sbcOf s op))
+    cond (ltb op 0x8000) (getD (column0A s op) (columnRow op) (tjmp s op)) (getD (column8A out s op) (columnRow op) (modify word sbcOf s op))

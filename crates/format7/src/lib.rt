@@ -29,7 +29,7 @@ ghost use Rattle.format7.specs.Rows as Rows;
 
 // The row of an op code among the 16 from 0A00, or among those from 8A00.
 fn row_of(op: u16) -> u16
-    ensures { λ r. ⌜ r ≡ Spec.rowOf op ⌝ }
+    ensures { λ r. ⌜ r ≡ Spec.columnRow op ⌝ }
 {
     minus(op % 0x8000, 0xa00) / 64
 }

@@ -19,8 +19,8 @@ rowFrom bytes i j = record { bytes = bytes; source = i; destination = j }
 abbrev pub down : ℕ → ℕ
 down n = minus 0 n
 
-abbrev pub rows : List Row
-rows
+abbrev pub moveRows : List Row
+moveRows
     = rowFrom false 2 2  -- 0E00 MBWU
     ∷ rowFrom false (down 2) (down 2)  -- 0E40 MBWD
     ∷ rowFrom true 1 1  -- 0E80 MBBU
@@ -33,14 +33,14 @@ rows
 
 -- by number
 abbrev pub rowAt : ℕ → Row
-rowAt k = getD rows k (rowFrom true 0 1)
+rowAt k = getD moveRows k (rowFrom true 0 1)
 
 -- the row of an op code
-abbrev pub rowOf : ℕ → Row
-rowOf op = rowAt (format8Code op)
+abbrev pub moveRow : ℕ → Row
+moveRow op = rowAt (format8Code op)
 
-abbrev pub sizeOf : Bool → Size
-sizeOf bytes = cond bytes byte word
+abbrev pub moveSize : Bool → Size
+moveSize bytes = cond bytes byte word
 
 -- ---- one element
 
@@ -65,8 +65,8 @@ again s t = cond (eqb (t .regs .r0) 0) t (withPc t (minus (s .regs .pc) 2))
 -- the source register i and the destination register j contain the addresses
 unfoldable pub element : Row → State → ℕ → ℕ → Work State
 element r s i j = do
-  transfer (sizeOf (r .bytes)) (reg s i) (reg s j)
+  transfer (moveSize (r .bytes)) (reg s i) (reg s j)
   give (again s (counted r s i j))
 
 abbrev pub format8 : State → ℕ → Work State
-format8 s op = element (rowOf op) s (blockSource op) (blockDestination op)
+format8 s op = element (moveRow op) s (blockSource op) (blockDestination op)

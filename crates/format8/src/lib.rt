@@ -77,7 +77,7 @@ fn move_byte(image: &mut [u8], map: &[u8], log: &mut [u16; 32], a: u16, b: u16) 
 // The byte or the word at a is moved to b.
 fn transfer(image: &mut [u8], map: &[u8], log: &mut [u16; 32], bytes: bool, a: u16, b: u16) -> Kept
     requires { ⌜ Board (now map) (beside (now image) (now log)) ⌝ }
-    ensures { λ r. ⌜ Did (now (map .entry)) (Spec.transfer (Spec.sizeOf bytes) a b) (beside (now (image .entry)) (now (log .entry))) (keptAs r (beside (now (image .exit)) (now (log .exit)))) (beside (now (image .exit)) (now (log .exit))) ⌝ }
+    ensures { λ r. ⌜ Did (now (map .entry)) (Spec.transfer (Spec.moveSize bytes) a b) (beside (now (image .entry)) (now (log .entry))) (keptAs r (beside (now (image .exit)) (now (log .exit)))) (beside (now (image .exit)) (now (log .exit))) ⌝ }
 {
     if bytes {
         return move_byte(image, map, log, a, b);

@@ -97,7 +97,7 @@ codes9 out s t op =
     jsr out t op ∷ lea out t op ∷ ash t op ∷ give (sob s op) ∷ xch t op ∷ ashc t op ∷ mul t op ∷ div t op ∷ []
 
 -- neither JSR nor SOB
-pub record Other (op : ℕ) : Type 0 where
+pub record NeitherJsrNorSob (op : ℕ) : Type 0 where
   pub not-jsr : format9Code op ≡ 0 → ⊥
   pub not-sob : format9Code op ≡ 3 → ⊥
 

@@ -192,7 +192,7 @@ fn preset_code(
     out: Outside,
     op: u16,
 ) -> Went
-    requires { ⌜ (Board (now map) (beside (now image) (now log))) × (Spec.Other op) ⌝ }
+    requires { ⌜ (Board (now map) (beside (now image) (now log))) × (Spec.NeitherJsrNorSob op) ⌝ }
     ensures { λ r. ⌜ Works (now (map .entry)) (Spec.format9 out s op) (now (image .entry)) (now (log .entry)) r (now (image .exit)) (now (log .exit)) ⌝ }
 {
     let t = s.with_flags(shift::signed::preset());

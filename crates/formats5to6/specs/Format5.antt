@@ -1,7 +1,7 @@
 -- Format 5, 0100 to 07FF and 8000 to 87FF: the branches.
 use mathlib.Core.Bool.{cond}
 use Prim.Native.Nat.{ℕ, _+_, _*_, _/_, _%_}
-use Rattle.arith.specs.Branch.{taken}
+use Rattle.arith.specs.Branch.{branchTaken}
 use Rattle.arith.specs.Ops.{extended}
 use Rattle.state.specs.declared.State.{State}
 use Rattle.state.specs.State.{withPc}
@@ -17,4 +17,4 @@ branchNumber op = op / 256 % 8 + op / 32768 * 8
 
 -- IF the condition holds, PC ← PC + (DISP * 2)
 unfoldable pub branch : State → ℕ → State
-branch s op = cond (taken (branchNumber op) (s .flags)) (withPc s (plus (s .regs .pc) (displacement op))) s
+branch s op = cond (branchTaken (branchNumber op) (s .flags)) (withPc s (plus (s .regs .pc) (displacement op))) s

@@ -6,27 +6,27 @@ use Prim.Native.Nat.{ℕ, _+_}
 use lib.Dec.{leb}
 use lib.ListN.{length, take, drop}
 
-unfoldable pub over : List ℕ → List ℕ → List ℕ
-over xs b = xs ++ drop (length xs) b
+unfoldable pub inFrontOf : List ℕ → List ℕ → List ℕ
+inFrontOf xs b = xs ++ drop (length xs) b
 
 -- a writer of the text s made the buffer e of b, and answered n
 pub record Wrote (s b e : List ℕ) (n : ℕ) : Type 0 where
-  pub bytes : e ≡ over s b
+  pub bytes : e ≡ inFrontOf s b
   pub count : n ≡ length s
 
 -- the same from the place `at` on
 pub record WroteAt (at : ℕ) (s b e : List ℕ) (n : ℕ) : Type 0 where
-  pub bytes : e ≡ take at b ++ over s (drop at b)
+  pub bytes : e ≡ take at b ++ inFrontOf s (drop at b)
   pub count : n ≡ at + length s
 
 -- how many characters were written, and the buffer after
-pub record Left : Type 0 where
+pub record TextLeft : Type 0 where
   pub count : ℕ
   pub bytes : List ℕ
 
-abbrev pub left : ℕ → List ℕ → Left
-left n b = record { count = n; bytes = b }
+abbrev pub textLeft : ℕ → List ℕ → TextLeft
+textLeft n b = record { count = n; bytes = b }
 
 -- a text goes to the front of the buffer and the rest stays; where it does not fit, nothing is written
-unfoldable pub written : List ℕ → List ℕ → Left
-written text b = cond (leb (length text) (length b)) (left (length text) (over text b)) (left 0 b)
+unfoldable pub written : List ℕ → List ℕ → TextLeft
+written text b = cond (leb (length text) (length b)) (textLeft (length text) (inFrontOf text b)) (textLeft 0 b)

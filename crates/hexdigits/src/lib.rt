@@ -1,7 +1,7 @@
 // What the writers of text share: the letters of hex digits, upper case.
 ghost use mathlib.Core.Path.{_≡_};
 ghost use Rattle.hexdigits.specs.Digits.{hexOf, hex4};
-ghost use Rattle.hexdigits.specs.Over.{left, written};
+ghost use Rattle.hexdigits.specs.Over.{textLeft, written};
 
 const DIGITS: [u8; 16] = *b"0123456789ABCDEF";
 
@@ -18,7 +18,7 @@ pub fn hex(d: u16) -> u8
 
 // Four hex digits at the front; answers 4. A shorter buffer is left as it is, and the answer is 0.
 pub fn put_hex4(out: &mut [u8], x: u16) -> usize
-    ensures { λ n. ⌜ left n (now (out .exit)) ≡ written (hex4 x) (now (out .entry)) ⌝ }
+    ensures { λ n. ⌜ textLeft n (now (out .exit)) ≡ written (hex4 x) (now (out .entry)) ⌝ }
 {
     if out.len() < 4 {
         return 0;

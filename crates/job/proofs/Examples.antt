@@ -2,7 +2,7 @@
 use mathlib.Core.Path.{_≡_, refl}
 use mathlib.Core.List.{List, [], _∷_, _++_}
 use Prim.Native.Nat.{ℕ}
-use Rattle.job.specs.Job.{sections, whyAddress, whyReadOnly, whyEntry, whyEntries, noted, whyCount, whySections, whyJob}
+use Rattle.job.specs.Job.{sections, whyAddress, whyReadOnly, whyEntry, whyEntries, fitPages, whyCount, whySections, whyJob}
 
 -- page 00; 0012=0090, 0016=0080; line words 0000 and 0080
 pages : List ℕ
@@ -64,5 +64,5 @@ cases =
     ∷ []
 
 as-the-page-says : answers cases ≡ expected cases
-unfolding cases answers expected pages words lines none whyJob whySections sections whyCount whyEntries whyEntry whyAddress whyReadOnly noted
+unfolding cases answers expected pages words lines none whyJob whySections sections whyCount whyEntries whyEntry whyAddress whyReadOnly fitPages
 as-the-page-says = refl

@@ -23,7 +23,7 @@ use Rattle.refusal.specs.Page.{Page, refused, refusedAt, answered, left, first}
 use Rattle.refusal.proofs.Laws.Page.{first-both, call-refused, one, one-call}
 use Rattle.refusal.proofs.Laws.Refusal.{cond-none}
 use Rattle.refusal.proofs.Laws.Page as PageLaws
-use Rattle.job.specs.Job.{sections, sizeOf, mostOf, overOf, keyAt, note, cut, whyKey, whyEntry, whyEntries, noted, whyCount, whyLeft, whySections, stored, listed, marked, absent, wordsAt, linesAt, readOnlyAt, imageOf, mapOf, linesOf, Filled, Room, pageOf, buffersOf, whyRead, jobOf}
+use Rattle.job.specs.Job.{sections, entrySize, mostOf, overOf, keyAt, fitPage, cut, whyKey, whyEntry, whyEntries, fitPages, whyCount, whyLeft, whySections, wordsStored, listed, marked, absent, wordsSection, linesAt, readOnlyAt, imageOf, mapOf, linesOf, Filled, JobRoom, jobPage, buffersOf, whyRead, jobOf}
 
 -- from the fourth on, a section is the read-only pages
 pub nth-rest : (i : ℕ) → (i ≡ 0 → ⊥) → (i ≡ 1 → ⊥) → (i ≡ 2 → ⊥) → section.ReadOnly ≡ getD sections i section.ReadOnly
@@ -42,16 +42,16 @@ cut-none : (input : List ℕ) (at size : ℕ) → at ≤ length input → size �
 cut-none input at size b h = simp (le-leb (at + size) (length input) (omega arith))
 
 -- the refusal of an entry
-pub entry-cut : (s : Section) (input : List ℕ) (at low : ℕ) (map : List ℕ) → length input - at < sizeOf s
+pub entry-cut : (s : Section) (input : List ℕ) (at low : ℕ) (map : List ℕ) → length input - at < entrySize s
     → jobEnds ≡ whyEntry s input at low map
 unfolding whyEntry
-entry-cut s input at low map h = rw (cut-short input at (sizeOf s) h) refl
+entry-cut s input at low map h = rw (cut-short input at (entrySize s) h) refl
 
-pub entry-own : (s : Section) (input : List ℕ) (at low : ℕ) (map : List ℕ) (key why : ℕ) → at ≤ length input → sizeOf s ≤ length input - at
+pub entry-own : (s : Section) (input : List ℕ) (at low : ℕ) (map : List ℕ) (key why : ℕ) → at ≤ length input → entrySize s ≤ length input - at
     → key ≡ keyAt s input at → why ≡ whyKey s map low key → why ≡ whyEntry s input at low map
 unfolding whyEntry
 entry-own s input at low map key why b h k e =
-    rw (cut-none input at (sizeOf s) b h) (e ∙ ap (λ (x : ℕ). whyKey s map low x) k)
+    rw (cut-none input at (entrySize s) b h) (e ∙ ap (λ (x : ℕ). whyKey s map low x) k)
 
 -- the refusal of a count
 pub count-cut : (s : Section) (input : List ℕ) (at : ℕ) → length input - at < 2 → jobEnds ≡ whyCount s input at
@@ -88,14 +88,14 @@ pub count-room : (s : Section) (input : List ℕ) (at : ℕ) → whyCount s inpu
 unfolding whyCount
 count-room s input at e = cut-zero input at 2 (first-both (cut input at 2) _ e .0)
 
-pub entry-room : (s : Section) (input : List ℕ) (at low : ℕ) (map : List ℕ) → whyEntry s input at low map ≡ 0 → at + sizeOf s ≤ length input
+pub entry-room : (s : Section) (input : List ℕ) (at low : ℕ) (map : List ℕ) → whyEntry s input at low map ≡ 0 → at + entrySize s ≤ length input
 unfolding whyEntry
-entry-room s input at low map e = cut-zero input at (sizeOf s) (first-both (cut input at (sizeOf s)) _ e .0)
+entry-room s input at low map e = cut-zero input at (entrySize s) (first-both (cut input at (entrySize s)) _ e .0)
 
 -- what is left from inside a section on: n entries, then the other sections
 unfoldable pub whyRest : Section → List Section → List ℕ → ℕ → ℕ → ℕ → List ℕ → ℕ
 whyRest s rest input n at low map =
-    first (whyEntries s input n at low map) (whySections rest input (at + n * sizeOf s) (noted s input n at map))
+    first (whyEntries s input n at low map) (whySections rest input (at + n * entrySize s) (fitPages s input n at map))
 
 in-sections : (i : ℕ) → i < 4 → i < length sections
 unfolding sections
@@ -119,16 +119,16 @@ rest-present i input at map s l e h =
 rest-suc : (s : Section) (rest : List Section) (input : List ℕ) (n at low : ℕ) (map : List ℕ)
     → whyRest s rest input (suc n) at low map
     ≡ first (whyEntry s input at low map)
-    (whyRest s rest input n (at + sizeOf s) (keyAt s input at + 1) (note s (keyAt s input at) map))
-unfolding whyRest whyEntries noted
+    (whyRest s rest input n (at + entrySize s) (keyAt s input at + 1) (fitPage s (keyAt s input at) map))
+unfolding whyRest whyEntries fitPages
 rest-suc s rest input n at low map =
-    let e : at + suc n * sizeOf s ≡ at + sizeOf s + n * sizeOf s = omega (arith, suc-mul n (sizeOf s)) in
+    let e : at + suc n * entrySize s ≡ at + entrySize s + n * entrySize s = omega (arith, suc-mul n (entrySize s)) in
     rw e (first-first (whyEntry s input at low map) _ _)
 
 rest-entry : (s : Section) (rest : List Section) (input : List ℕ) (n at low : ℕ) (map : List ℕ) → 0 < n
     → whyRest s rest input n at low map
     ≡ first (whyEntry s input at low map)
-    (whyRest s rest input (n - 1) (at + sizeOf s) (keyAt s input at + 1) (note s (keyAt s input at) map))
+    (whyRest s rest input (n - 1) (at + entrySize s) (keyAt s input at + 1) (fitPage s (keyAt s input at) map))
 rest-entry s rest input n at low map h =
     let e : n ≡ suc (n - 1) = omega arith in
     ap (λ (m : ℕ). whyRest s rest input m at low map) e ∙ rest-suc s rest input (n - 1) at low map
@@ -166,7 +166,7 @@ module _ (input : List ℕ) (whole : ℕ) where
       first-some _ w m ∙ sym (rest-entry s rest input n at low map l) ∙ h
 
   pub entry-taken : (s : Section) (rest : List Section) (n at low : ℕ) (map : List ℕ) (why key size : ℕ) (map′ : List ℕ) → 0 < n
-      → why ≡ whyEntry s input at low map → why ≡ 0 → key ≡ keyAt s input at → size ≡ sizeOf s → map′ ≡ note s (keyAt s input at) map
+      → why ≡ whyEntry s input at low map → why ≡ 0 → key ≡ keyAt s input at → size ≡ entrySize s → map′ ≡ fitPage s (keyAt s input at) map
       → whyRest s rest input n at low map ≡ whole → whyRest s rest input (n - 1) (at + size) (key + 1) map′ ≡ whole
   entry-taken s rest n at low map why key size map′ l w z k e m h =
       rw (k, e, m) (sym (first-none _ _ (sym w ∙ z)) ∙ sym (rest-entry s rest input n at low map l) ∙ h)
@@ -174,9 +174,9 @@ module _ (input : List ℕ) (whole : ℕ) where
   -- the end of a section
   pub entries-end : (s : Section) (rest : List Section) (n at low : ℕ) (map : List ℕ) → n ≡ 0
       → whyRest s rest input n at low map ≡ whole → whySections rest input at map ≡ whole
-  unfolding whyRest whyEntries noted
+  unfolding whyRest whyEntries fitPages
   entries-end s rest n at low map e h =
-      let z : at ≡ at + 0 * sizeOf s = omega arith in
+      let z : at ≡ at + 0 * entrySize s = omega arith in
       rw z (rw e at h)
 
 -- one more entry of each section, as the filling loops count them down
@@ -190,11 +190,11 @@ marked-more value input n at map page h e =
 pub stored-more : (input : List ℕ) (n at : ℕ) (image image′ image″ : List ℕ) (address low high : ℕ) → 0 < n
     → address ≡ wordAt input at → low ≡ byteAt input (at + 2) → high ≡ byteAt input (at + 3)
     → image′ ≡ set image address low → image″ ≡ set image′ (address + 1) high
-    → stored input (n - 1) (at + 4) image″ ≡ stored input n at image
-unfolding stored
+    → wordsStored input (n - 1) (at + 4) image″ ≡ wordsStored input n at image
+unfolding wordsStored
 stored-more input n at image image′ image″ address low high h a l g e f =
     let k : n ≡ suc (n - 1) = omega arith in
-    rw (f, e, a, l, g) (ap (λ (m : ℕ). stored input m at image) (sym k))
+    rw (f, e, a, l, g) (ap (λ (m : ℕ). wordsStored input m at image) (sym k))
 
 pub listed-more : (input : List ℕ) (n at k : ℕ) (lines lines′ : List ℕ) (line : ℕ) → 0 < n → line ≡ wordAt input at
     → lines′ ≡ set lines k line → listed input (n - 1) (at + 2) (k + 1) lines′ ≡ listed input n at k lines
@@ -215,8 +215,8 @@ pub marked-end : (value : ℕ) (input : List ℕ) (n at : ℕ) (map : List ℕ) 
 unfolding marked
 marked-end value input n at map e = rw e refl
 
-pub stored-end : (input : List ℕ) (n at : ℕ) (image : List ℕ) → n ≡ 0 → image ≡ stored input n at image
-unfolding stored
+pub stored-end : (input : List ℕ) (n at : ℕ) (image : List ℕ) → n ≡ 0 → image ≡ wordsStored input n at image
+unfolding wordsStored
 stored-end input n at image e = rw e refl
 
 pub listed-end : (input : List ℕ) (n at k : ℕ) (lines : List ℕ) → n ≡ 0 → lines ≡ listed input n at k lines
@@ -234,12 +234,12 @@ unfolding mapOf
 map-filled input lent clean pages map n at k l z e p a w h = rw (h, p, zeros clean lent 256 l z, e, w, a)
 
 pub image-filled : (input lent clean image : List ℕ) (at n : ℕ) → length lent ≡ 65536 → clean ≡ replicate (length lent) 0
-    → at ≡ wordsAt input → n ≡ wordAt input at → image ≡ stored input n (at + 2) clean → image ≡ imageOf input
+    → at ≡ wordsSection input → n ≡ wordAt input at → image ≡ wordsStored input n (at + 2) clean → image ≡ imageOf input
 unfolding imageOf
 image-filled input lent clean image at n l z a e h =
-    h ∙ ap (λ (b : List ℕ). stored input n (at + 2) b) (zeros clean lent 65536 l z)
-    ∙ ap (λ (k : ℕ). stored input k (at + 2) (replicate 65536 0)) e
-    ∙ ap (λ (x : ℕ). stored input (wordAt input x) (x + 2) (replicate 65536 0)) a
+    h ∙ ap (λ (b : List ℕ). wordsStored input n (at + 2) b) (zeros clean lent 65536 l z)
+    ∙ ap (λ (k : ℕ). wordsStored input k (at + 2) (replicate 65536 0)) e
+    ∙ ap (λ (x : ℕ). wordsStored input (wordAt input x) (x + 2) (replicate 65536 0)) a
 
 pub lines-filled : (input lent clean lines : List ℕ) (at n : ℕ) → length lent ≡ 4096 → clean ≡ replicate (length lent) 0
     → at ≡ linesAt input → n ≡ wordAt input at → lines ≡ listed input n (at + 2) 0 clean → lines ≡ linesOf input
@@ -250,17 +250,17 @@ lines-filled input lent clean lines at n l z a e h =
     ∙ ap (λ (x : ℕ). listed input (wordAt input x) (x + 2) 0 (replicate 4096 0)) a
 
 -- where the sections start, as the filling pass reckons it
-pub words-at : (input : List ℕ) (n : ℕ) → n ≡ wordAt input 0 → 2 + n ≡ wordsAt input
+pub words-at : (input : List ℕ) (n : ℕ) → n ≡ wordAt input 0 → 2 + n ≡ wordsSection input
 words-at input n e = omega (arith, e)
 
-pub lines-at : (input : List ℕ) (at n : ℕ) → at ≡ wordsAt input → n ≡ wordAt input at → at + 2 + n * 4 ≡ linesAt input
+pub lines-at : (input : List ℕ) (at n : ℕ) → at ≡ wordsSection input → n ≡ wordAt input at → at + 2 + n * 4 ≡ linesAt input
 lines-at input at n a e = rw e (ap (λ (x : ℕ). x + 2 + wordAt input x * 4) a)
 
 pub read-only-at : (input : List ℕ) (at n : ℕ) → at ≡ linesAt input → n ≡ wordAt input at → at + 2 + n * 2 ≡ readOnlyAt input
 read-only-at input at n a e = rw e (ap (λ (x : ℕ). x + 2 + wordAt input x * 2) a)
 
 -- where nothing is refused, the lent buffers have their lengths
-pub read-lengths : (image map lines : List ℕ) (input : List ℕ) → whyRead (length image) (length map) (length lines) input ≡ 0 → Room image map lines
+pub read-lengths : (image map lines : List ℕ) (input : List ℕ) → whyRead (length image) (length map) (length lines) input ≡ 0 → JobRoom image map lines
 unfolding whyRead
 read-lengths image map lines input e =
     let a = first-both (cond (eqb (length image) 65536) 0 imageLength) _ e in
@@ -289,12 +289,12 @@ answerOf (answered n) = Lines n
 answerOf (refused why) = Refused why
 answerOf (refusedAt why at) = Refused why
 
-answer-back : (a : Answer) → answerOf (pageOf a) ≡ a
+answer-back : (a : Answer) → answerOf (jobPage a) ≡ a
 answer-back (Lines n) = refl
 answer-back (Refused why) = refl
 
-pub one-answer : (a b : Answer) → pageOf a ≡ pageOf b → a ≡ b
+pub one-answer : (a b : Answer) → jobPage a ≡ jobPage b → a ≡ b
 one-answer = one answerOf answer-back
 
-pub one-outcome : (a b : Answer) (x y : List ℕ × List ℕ × List ℕ) → left (pageOf a) x ≡ left (pageOf b) y → (a ≡ b) × (x ≡ y)
-one-outcome = one-call pageOf one-answer
+pub one-outcome : (a b : Answer) (x y : List ℕ × List ℕ × List ℕ) → left (jobPage a) x ≡ left (jobPage b) y → (a ≡ b) × (x ≡ y)
+one-outcome = one-call jobPage one-answer

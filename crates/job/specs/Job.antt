@@ -26,11 +26,11 @@ absent section.Lines input at = false
 absent section.ReadOnly input at = eqb at (length input)
 
 -- an entry's bytes
-abbrev pub sizeOf : Section → ℕ
-sizeOf section.Pages = 1
-sizeOf section.Words = 4
-sizeOf section.Lines = 2
-sizeOf section.ReadOnly = 1
+abbrev pub entrySize : Section → ℕ
+entrySize section.Pages = 1
+entrySize section.Words = 4
+entrySize section.Lines = 2
+entrySize section.ReadOnly = 1
 
 -- the most entries, and the refusal of more
 abbrev pub mostOf : Section → ℕ
@@ -53,11 +53,11 @@ keyAt section.Lines input at = wordAt input at
 keyAt section.ReadOnly input at = byteAt input at
 
 -- the map with this entry's page fitted, or read-only
-abbrev pub note : Section → ℕ → List ℕ → List ℕ
-note section.Pages page map = set map page 1
-note section.Words page map = map
-note section.Lines page map = map
-note section.ReadOnly page map = set map page 2
+abbrev pub fitPage : Section → ℕ → List ℕ → List ℕ
+fitPage section.Pages page map = set map page 1
+fitPage section.Words page map = map
+fitPage section.Lines page map = map
+fitPage section.ReadOnly page map = set map page 2
 
 -- the job ends inside a count or entry of this size
 abbrev pub cut : List ℕ → ℕ → ℕ → ℕ
@@ -87,27 +87,27 @@ whyKey section.Lines map low line = whyLine line
 whyKey section.ReadOnly map low page = whyReadOnly map low page
 
 unfoldable pub whyEntry : Section → List ℕ → ℕ → ℕ → List ℕ → ℕ
-whyEntry s input at low map = first (cut input at (sizeOf s)) (whyKey s map low (keyAt s input at))
+whyEntry s input at low map = first (cut input at (entrySize s)) (whyKey s map low (keyAt s input at))
 
 -- n entries from a place on; the first of a section has nothing to rise above
 unfoldable pub whyEntries : Section → List ℕ → ℕ → ℕ → ℕ → List ℕ → ℕ
 whyEntries s input zero at low map = 0
 whyEntries s input (suc n) at low map =
     first (whyEntry s input at low map)
-    (whyEntries s input n (at + sizeOf s) (keyAt s input at + 1) (note s (keyAt s input at) map))
+    (whyEntries s input n (at + entrySize s) (keyAt s input at + 1) (fitPage s (keyAt s input at) map))
 
 -- the map with the pages of n entries fitted
-unfoldable pub noted : Section → List ℕ → ℕ → ℕ → List ℕ → List ℕ
-noted s input zero at map = map
-noted s input (suc n) at map = noted s input n (at + sizeOf s) (note s (keyAt s input at) map)
+unfoldable pub fitPages : Section → List ℕ → ℕ → ℕ → List ℕ → List ℕ
+fitPages s input zero at map = map
+fitPages s input (suc n) at map = fitPages s input n (at + entrySize s) (fitPage s (keyAt s input at) map)
 
 -- a count: two bytes; its own check as soon as it is read
 unfoldable pub whyCount : Section → List ℕ → ℕ → ℕ
 whyCount s input at = first (cut input at 2) (cond (leb (wordAt input at) (mostOf s)) 0 (overOf s))
 
 -- the place after a section that starts with its count
-abbrev pub next : Section → List ℕ → ℕ → ℕ
-next s input at = at + 2 + wordAt input at * sizeOf s
+abbrev pub afterSection : Section → List ℕ → ℕ → ℕ
+afterSection s input at = at + 2 + wordAt input at * entrySize s
 
 -- bytes left over
 abbrev pub whyLeft : List ℕ → ℕ → ℕ
@@ -120,7 +120,7 @@ whySections (s ∷ rest) input at map =
     cond (absent s input at) 0
     (first (whyCount s input at)
     (first (whyEntries s input (wordAt input at) (at + 2) 0 map)
-    (whySections rest input (next s input at) (noted s input (wordAt input at) (at + 2) map))))
+    (whySections rest input (afterSection s input at) (fitPages s input (wordAt input at) (at + 2) map))))
 
 -- why a job is refused, or 0
 unfoldable pub whyJob : List ℕ → ℕ
@@ -128,10 +128,10 @@ whyJob input = whySections sections input 0 (replicate 256 0)
 
 -- What an accepted job leaves in the lent buffers.
 -- the image with n words at their addresses, low byte at the even address
-unfoldable pub stored : List ℕ → ℕ → ℕ → List ℕ → List ℕ
-stored input zero at image = image
-stored input (suc n) at image =
-    stored input n (at + 4)
+unfoldable pub wordsStored : List ℕ → ℕ → ℕ → List ℕ → List ℕ
+wordsStored input zero at image = image
+wordsStored input (suc n) at image =
+    wordsStored input n (at + 4)
     (set (set image (wordAt input at) (byteAt input (at + 2))) (wordAt input at + 1) (byteAt input (at + 3)))
 
 -- the map with the pages of n entries set to a value
@@ -145,21 +145,21 @@ listed input zero at k lines = lines
 listed input (suc n) at k lines = listed input n (at + 2) (k + 1) (set lines k (wordAt input at))
 
 -- where the sections start
-abbrev pub wordsAt : List ℕ → ℕ
-wordsAt input = next section.Pages input 0
+abbrev pub wordsSection : List ℕ → ℕ
+wordsSection input = afterSection section.Pages input 0
 
 abbrev pub linesAt : List ℕ → ℕ
-linesAt input = next section.Words input (wordsAt input)
+linesAt input = afterSection section.Words input (wordsSection input)
 
 abbrev pub readOnlyAt : List ℕ → ℕ
-readOnlyAt input = next section.Lines input (linesAt input)
+readOnlyAt input = afterSection section.Lines input (linesAt input)
 
 -- every byte of the buffers: what the job names, all else 0. Past the job's end a count is 0
 unfoldable pub mapOf : List ℕ → List ℕ
 mapOf input = marked 2 input (wordAt input (readOnlyAt input)) (readOnlyAt input + 2) (marked 1 input (wordAt input 0) 2 (replicate 256 0))
 
 unfoldable pub imageOf : List ℕ → List ℕ
-imageOf input = stored input (wordAt input (wordsAt input)) (wordsAt input + 2) (replicate 65536 0)
+imageOf input = wordsStored input (wordAt input (wordsSection input)) (wordsSection input + 2) (replicate 65536 0)
 
 unfoldable pub linesOf : List ℕ → List ℕ
 linesOf input = listed input (wordAt input (linesAt input)) (linesAt input + 2) 0 (replicate 4096 0)
@@ -169,7 +169,7 @@ unfoldable pub lineWords : List ℕ → List ℕ
 lineWords input = take (wordAt input (linesAt input)) (linesOf input)
 
 -- the lent buffers have their lengths
-pub record Room (image map lines : List ℕ) : Type 0 where
+pub record JobRoom (image map lines : List ℕ) : Type 0 where
   pub bytes : length image ≡ 65536
   pub pages : length map ≡ 256
   pub words : length lines ≡ 4096
@@ -182,9 +182,9 @@ pub record Filled (input image map lines : List ℕ) (count : ℕ) : Type 0 wher
   pub count-is : count ≡ wordAt input (linesAt input)
 
 -- an answer in the page's numbers: the number of line words, or the refusal's number alone
-abbrev pub pageOf : Answer → Page ℕ
-pageOf (Lines n) = answered n
-pageOf (Refused why) = refused why
+abbrev pub jobPage : Answer → Page ℕ
+jobPage (Lines n) = answered n
+jobPage (Refused why) = refused why
 
 -- the first refusal that applies, or 0: the lent buffers' lengths, then the job in reading order
 unfoldable pub whyRead : ℕ → ℕ → ℕ → List ℕ → ℕ

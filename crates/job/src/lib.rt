@@ -6,7 +6,7 @@ ghost use mathlib.Core.Path.{_≡_};
 ghost use Prim.Native.Nat.{_+_, _≤_, _<_};
 ghost use lib.ListN.{length, getD, set, replicate};
 ghost use Rattle.job.specs.Job as Spec;
-ghost use Rattle.job.specs.Job.{sections, sizeOf, mostOf, overOf, keyAt, note, whyPage, whyAddress, whyLine, whyKey, whyEntry, whyCount, whyLeft, whyJob, noted, stored, listed, Room, Filled, whyRead, pageOf, jobOf};
+ghost use Rattle.job.specs.Job.{sections, entrySize, mostOf, overOf, keyAt, fitPage, whyPage, whyAddress, whyLine, whyKey, whyEntry, whyCount, whyLeft, whyJob, fitPages, wordsStored, listed, JobRoom, Filled, whyRead, jobPage, jobOf};
 ghost use Rattle.refusal.specs.Page.{left};
 
 // What the job reader answers: how many line words there are, or why the job is refused.
@@ -48,7 +48,7 @@ fn absent(s: Section, input: &[u8], at: usize) -> bool
 
 // The bytes of one entry.
 fn entry_size(s: Section) -> usize
-    ensures { λ r. ⌜ r ≡ sizeOf s ⌝ }
+    ensures { λ r. ⌜ r ≡ entrySize s ⌝ }
 {
     match s {
         Section::Pages => 1,
@@ -96,7 +96,7 @@ fn key_at(s: Section, input: &[u8], at: usize) -> u16
 
 // Notes the page of an entry as fitted, or as read-only.
 fn note_page(s: Section, input: &[u8], at: usize, fitted: &mut [u8; 256])
-    ensures { λ _. ⌜ now (fitted .exit) ≡ note s (keyAt s (now (input .entry)) at) (now (fitted .entry)) ⌝ }
+    ensures { λ _. ⌜ now (fitted .exit) ≡ fitPage s (keyAt s (now (input .entry)) at) (now (fitted .entry)) ⌝ }
 {
     match s {
         Section::Pages => {
@@ -301,7 +301,7 @@ fn put_byte(image: &mut [u8], address: usize, byte: u8)
 // Stores the words of n entries from a place on at their addresses.
 fn store_words(input: &[u8], from: usize, n: u16, image: &mut [u8])
     requires { ⌜ from < 4294967296 ⌝ }
-    ensures { λ _. ⌜ now (image .exit) ≡ stored (now (input .entry)) n from (now (image .entry)) ⌝ }
+    ensures { λ _. ⌜ now (image .exit) ≡ wordsStored (now (input .entry)) n from (now (image .entry)) ⌝ }
 {
     let mut at = from;
     let mut left = n;
@@ -341,7 +341,7 @@ fn put_line(lines: &mut [u16], k: usize, line: u16)
 
 // Fills the lent buffers from a job that was found good, and answers the number of line words.
 pub fn fill(input: &[u8], image: &mut [u8], map: &mut [u8], lines: &mut [u16]) -> u16
-    requires { ⌜ Room (now image) (now map) (now lines) ⌝ }
+    requires { ⌜ JobRoom (now image) (now map) (now lines) ⌝ }
     ensures { λ r. ⌜ Filled (now (input .entry)) (now (image .exit)) (now (map .exit)) (now (lines .exit)) r ⌝ }
 {
     clear(map);
@@ -379,7 +379,7 @@ pub fn refusal(image: usize, map: usize, lines: usize, input: &[u8]) -> u8
 
 // Reads a job into the lent buffers: the answer is the number of line words, or the first refusal, which changes no buffer.
 pub fn read_job(input: &[u8], image: &mut [u8], map: &mut [u8], lines: &mut [u16]) -> Answer
-    ensures { λ r. ⌜ left (pageOf r) (now (image .exit), now (map .exit), now (lines .exit))
+    ensures { λ r. ⌜ left (jobPage r) (now (image .exit), now (map .exit), now (lines .exit))
         ≡ jobOf (now (input .entry)) (now (image .entry)) (now (map .entry)) (now (lines .entry)) ⌝ }
 {
     let why = refusal(image.len(), map.len(), lines.len(), input);

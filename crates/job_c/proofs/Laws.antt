@@ -7,8 +7,8 @@ use Rattle.answer.specs.Answer.{threeWords, answerWhy}
 use Rattle.answer.proofs.Laws.{bad, given}
 use Rattle.job.specs.declared.Answer.{Answer}
 use Rattle.job.specs.declared.Answer.the-variants.{Lines, Refused}
-use Rattle.job.specs.Job.{pageOf, jobOf}
-use Rattle.job_c.specs.Calls.{readIn, readCall}
+use Rattle.job.specs.Job.{jobPage, jobOf}
+use Rattle.job_c.specs.Calls.{jobLaid, readCall}
 
 module _ (input image map lines b : List ℕ) (n : ℕ) (h : n ≡ answerWhy b) where
   abbrev kept : List ℕ × List ℕ × List ℕ → List ℕ × List ℕ × List ℕ × List ℕ
@@ -16,13 +16,13 @@ module _ (input image map lines b : List ℕ) (n : ℕ) (h : n ≡ answerWhy b) 
 
   pub read-bad : (n ≡ 0 → ⊥) → told n (image, map, lines, b) ≡ readCall input image map lines b
   unfolding readCall
-  read-bad some = bad readIn (λ place. kept) kept (answerWhy b) n (jobOf input image map lines) (image, map, lines) h some
+  read-bad some = bad jobLaid (λ place. kept) kept (answerWhy b) n (jobOf input image map lines) (image, map, lines) h some
 
-  module _ (none : n ≡ 0) (image′ map′ lines′ : List ℕ) (r : Answer) (e : left (pageOf r) (image′, map′, lines′) ≡ jobOf input image map lines) where
+  module _ (none : n ≡ 0) (image′ map′ lines′ : List ℕ) (r : Answer) (e : left (jobPage r) (image′, map′, lines′) ≡ jobOf input image map lines) where
     pub done : (k : ℕ) (b′ : List ℕ) → r ≡ Lines k → b′ ≡ threeWords k 0 0 → told 0 (image′, map′, lines′, b′) ≡ readCall input image map lines b
     unfolding readCall
-    done k b′ q p = given readIn (λ place. kept) kept (answerWhy b) n (jobOf input image map lines) (image, map, lines) h none _ (rw (← e, q, p) refl)
+    done k b′ q p = given jobLaid (λ place. kept) kept (answerWhy b) n (jobOf input image map lines) (image, map, lines) h none _ (rw (← e, q, p) refl)
 
     pub stopped : (why : ℕ) → r ≡ Refused why → told why (image′, map′, lines′, b) ≡ readCall input image map lines b
     unfolding readCall
-    stopped why q = given readIn (λ place. kept) kept (answerWhy b) n (jobOf input image map lines) (image, map, lines) h none _ (rw (← e, q) refl)
+    stopped why q = given jobLaid (λ place. kept) kept (answerWhy b) n (jobOf input image map lines) (image, map, lines) h none _ (rw (← e, q) refl)

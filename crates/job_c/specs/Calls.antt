@@ -7,12 +7,12 @@ use Rattle.answer.specs.Answer.{threeWords, answerWhy}
 use Rattle.job.specs.Job.{jobOf}
 
 -- the image, the map, the line words and the answer
-abbrev pub Buffers : Type 0
-Buffers = List ℕ × List ℕ × List ℕ × List ℕ
+abbrev pub JobBuffers : Type 0
+JobBuffers = List ℕ × List ℕ × List ℕ × List ℕ
 
 -- the answer's words: the number of line words, 0, 0
-abbrev pub readIn : ℕ → List ℕ × List ℕ × List ℕ → Buffers
-readIn n l = (l .0, l .1, l .2, threeWords n 0 0)
+abbrev pub jobLaid : ℕ → List ℕ × List ℕ × List ℕ → JobBuffers
+jobLaid n l = (l .0, l .1, l .2, threeWords n 0 0)
 
-unfoldable pub readCall : List ℕ → List ℕ → List ℕ → List ℕ → List ℕ → Told Buffers
-readCall input image map lines b = reading readIn (λ l. (l .0, l .1, l .2, b)) (call (answerWhy b) (jobOf input image map lines) (image, map, lines))
+unfoldable pub readCall : List ℕ → List ℕ → List ℕ → List ℕ → List ℕ → Told JobBuffers
+readCall input image map lines b = reading jobLaid (λ l. (l .0, l .1, l .2, b)) (call (answerWhy b) (jobOf input image map lines) (image, map, lines))

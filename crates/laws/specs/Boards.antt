@@ -19,7 +19,7 @@ use Rattle.machine.specs.Trail.{trailOf}
 use Rattle.machine.specs.Entry.{stepWhy, runWhy, finishedPage, runPage}
 use Rattle.machine.specs.Same.{runSamePage}
 use Rattle.machine.specs.Until.{ends, StopPage, stoppedPage, runUntilPage}
-use Rattle.laws.specs.Halves.{stateAfter, Joined}
+use Rattle.laws.specs.Halves.{stateLeft, Joined}
 
 -- ---- OVER ONE LINE WORD
 
@@ -33,7 +33,7 @@ abbrev pub SameJoined : Type 0
 SameJoined = (settings : Settings) (map : List ℕ) (line n k : ℕ) (s : State) (m : List ℕ) → stepWhy settings m map line ≡ 0
     → (r q p : Finished) (m₁ m₂ m₃ : List ℕ)
     → left (finishedPage r) m₁ ≡ runSamePage settings m map line n s
-    → left (finishedPage q) m₂ ≡ runSamePage settings m₁ map line k (stateAfter r s)
+    → left (finishedPage q) m₂ ≡ runSamePage settings m₁ map line k (stateLeft r s)
     → left (finishedPage p) m₃ ≡ runSamePage settings m map line (n + k) s
     → Joined n r q p m₂ m₃
 

@@ -21,7 +21,7 @@ use Rattle.step.specs.declared.Turn.{Turn}
 use Rattle.step.specs.declared.Cause.the-variants as Cause
 use Rattle.wordbytes.specs.Words.{byteAt}
 use Rattle.machine_c.specs.Layout.{stateFrom}
-use Rattle.laws.specs.Mark.{Steps, LentSteps}
+use Rattle.laws.specs.Mark.{StepCall, LentSteps}
 
 -- a printed line: its name, the high byte, and when "PC ← PC + (DISP * 2)"
 pub record Line : Type 0 where
@@ -29,27 +29,27 @@ pub record Line : Type 0 where
   pub high : ℕ
   pub when : Flags → Bool
 
-abbrev pub line : String → ℕ → (Flags → Bool) → Line
-line name high when = record { name = name; high = high; when = when }
+abbrev pub branchLine : String → ℕ → (Flags → Bool) → Line
+branchLine name high when = record { name = name; high = high; when = when }
 
 -- the manual's OPERATION lines of format 5: "IF x = 0" is not x, "IF x = 1" is x
 abbrev pub lines : List Line
 lines
-    = line "BR" 0x01 (λ f. true)
-    ∷ line "BNE" 0x02 (λ f. not (f .z))
-    ∷ line "BEQ" 0x03 (λ f. f .z)
-    ∷ line "BGE" 0x04 (λ f. not (f .n xor f .v))
-    ∷ line "BLT" 0x05 (λ f. f .n xor f .v)
-    ∷ line "BGT" 0x06 (λ f. not (f .z || (f .n xor f .v)))
-    ∷ line "BLE" 0x07 (λ f. f .z || (f .n xor f .v))
-    ∷ line "BPL" 0x80 (λ f. not (f .n))
-    ∷ line "BMI" 0x81 (λ f. f .n)
-    ∷ line "BHI" 0x82 (λ f. not (f .c || f .z))
-    ∷ line "BLOS" 0x83 (λ f. f .c || f .z)
-    ∷ line "BVC" 0x84 (λ f. not (f .v))
-    ∷ line "BVS" 0x85 (λ f. f .v)
-    ∷ line "BCC" 0x86 (λ f. not (f .c))  -- also BHIS
-    ∷ line "BCS" 0x87 (λ f. f .c)  -- also BLO
+    = branchLine "BR" 0x01 (λ f. true)
+    ∷ branchLine "BNE" 0x02 (λ f. not (f .z))
+    ∷ branchLine "BEQ" 0x03 (λ f. f .z)
+    ∷ branchLine "BGE" 0x04 (λ f. not (f .n xor f .v))
+    ∷ branchLine "BLT" 0x05 (λ f. f .n xor f .v)
+    ∷ branchLine "BGT" 0x06 (λ f. not (f .z || (f .n xor f .v)))
+    ∷ branchLine "BLE" 0x07 (λ f. f .z || (f .n xor f .v))
+    ∷ branchLine "BPL" 0x80 (λ f. not (f .n))
+    ∷ branchLine "BMI" 0x81 (λ f. f .n)
+    ∷ branchLine "BHI" 0x82 (λ f. not (f .c || f .z))
+    ∷ branchLine "BLOS" 0x83 (λ f. f .c || f .z)
+    ∷ branchLine "BVC" 0x84 (λ f. not (f .v))
+    ∷ branchLine "BVS" 0x85 (λ f. f .v)
+    ∷ branchLine "BCC" 0x86 (λ f. not (f .c))  -- also BHIS
+    ∷ branchLine "BCS" 0x87 (λ f. f .c)  -- also BLO
     ∷ []
 
 -- the line of a high byte; there is none of another
@@ -66,7 +66,7 @@ branched op s =
 -- A STEP OF A RUNNING PROCESSOR that executes an op code of format 5: cause 0 says that it was executed, so no premise on the lines, the
 -- map or the image is needed.
 abbrev pub BranchesAsPrinted : Type 0
-BranchesAsPrinted = (settings : Settings) (m map : List ℕ) (lines : ℕ) (s : State) (t : Turn) (n : List ℕ) → Steps settings m map lines s t n
+BranchesAsPrinted = (settings : Settings) (m map : List ℕ) (lines : ℕ) (s : State) (t : Turn) (n : List ℕ) → StepCall settings m map lines s t n
     → (let op = wordAt m (s .regs .pc) in s .mode ≡ Running → t .cause ≡ Cause.OpCode → formatOf (highByte op) ≡ 5 → (t .state ≡ branched op s) × (n ≡ m))
 
 -- The same for C: a step that leaves cause 0, on the bytes that `wd16_step` leaves.

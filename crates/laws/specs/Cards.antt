@@ -47,7 +47,7 @@ pub record Sound (a : Ran) : Type 0 where
   pub unlocked : a .state .mode ≡ Locked → ⊥
 
 -- the same answer, in which no place and no address is told; the same image; the same state, image and cause after each step
-pub record Same (settings : Settings) (map big lines : List ℕ) (s : State) (m : List ℕ) (a : Ran) (m₁ : List ℕ) (q : Finished) (m₂ : List ℕ) : Type 0 where
+pub record SameRun (settings : Settings) (map big lines : List ℕ) (s : State) (m : List ℕ) (a : Ran) (m₁ : List ℕ) (q : Finished) (m₂ : List ℕ) : Type 0 where
   pub answer : q ≡ Finished.Done a
   pub noPlace : a .tally .first ≡ Never
   pub image : m₂ ≡ m₁
@@ -60,11 +60,11 @@ abbrev pub settings : Settings
 settings = record { blocks = true; powerup = 3; halt = 3; register = 0 }
 
 -- pages 0 to 3 are fitted; with the card, page 4 too
-abbrev pub bare : List ℕ
-bare = replicate 4 1 ++ replicate 252 0
+abbrev pub bareRack : List ℕ
+bareRack = replicate 4 1 ++ replicate 252 0
 
 abbrev pub card : List ℕ
-card = set bare 4 1
+card = set bareRack 4 1
 
 -- 0200 at 12, 0400 at 28, 0300 at 2A
 abbrev pub image : List ℕ
@@ -78,8 +78,8 @@ abbrev pub ranIn : End → Ran
 ranIn (end s m t) = record { state = s; tally = t }
 
 -- PC, SP, the mode and the blanks at the end
-abbrev pub seen : Ran → List ℕ
-seen a = a .state .regs .pc ∷ a .state .regs .sp ∷ modeNumber (a .state .mode) ∷ a .tally .blanks ∷ []
+abbrev pub endSeen : Ran → List ℕ
+endSeen a = a .state .regs .pc ∷ a .state .regs .sp ∷ modeNumber (a .state .mode) ∷ a .tally .blanks ∷ []
 
 -- A BLANK THAT A CARD HEALS. I0, device code 0: the table at 0400 isn't fitted, so the interrupt is dropped and its bus error goes
 -- through 12 to 0200. With page 4 the table's word, 0, leads to 0400.
@@ -106,7 +106,7 @@ RunPlugged = (settings : Settings) (map big lines : List ℕ) (s : State) (m m�
     → Plugged map big → powerWhy settings m big ≡ 0 → Sound a
     → left (finishedPage (Finished.Done a)) m₁ ≡ runPage settings m map lines s
     → left (finishedPage q) m₂ ≡ runPage settings m big lines s
-    → Same settings map big lines s m a m₁ q m₂
+    → SameRun settings map big lines s m a m₁ q m₂
 
 -- ---- A STEP: with no blank, and not locked after it
 

@@ -12,7 +12,7 @@ use Rattle.machine.specs.declared.Ran.{Ran}
 use Rattle.machine.specs.declared.Finished.{Finished}
 use Rattle.machine.specs.declared.Finished.the-variants as Finished
 use Rattle.machine.specs.Run.{noBlanks}
-use Rattle.machine.specs.Trail.{moved}
+use Rattle.machine.specs.Trail.{placeMoved}
 use Rattle.machine.specs.Counted.{orFirst}
 use mathlib.Core.Bool.{true, false, cond}
 use lib.ListN.{length}
@@ -43,12 +43,12 @@ firstTold p a b = cond (eqb p 65535) b a
 pub record Halves (n : ℕ) (first second whole : Ran) : Type 0 where
   pub state : whole .state ≡ second .state
   pub blanks : whole .tally .blanks ≡ first .tally .blanks + second .tally .blanks
-  pub firstBlank : whole .tally .first ≡ orFirst (first .tally .first) (moved n (second .tally .first))
+  pub firstBlank : whole .tally .first ≡ orFirst (first .tally .first) (placeMoved n (second .tally .first))
 
 -- the state that a run ends in; as lent where it is refused
-abbrev pub stateAfter : Finished → State → State
-stateAfter (Finished.Done a) s = a .state
-stateAfter (Finished.Refused why) s = s
+abbrev pub stateLeft : Finished → State → State
+stateLeft (Finished.Done a) s = a .state
+stateLeft (Finished.Refused why) s = s
 
 -- three runs, none of them refused
 pub record Joined (n : ℕ) (r q p : Finished) (m₂ m₃ : List ℕ) : Type 0 where
@@ -83,7 +83,7 @@ module _ (settings : Settings) (map xs ys : List ℕ) (s : State) (m : List ℕ)
   abbrev pub RunJoined : Type 0
   RunJoined = (r q p : Finished) (m₁ m₂ m₃ : List ℕ)
       → left (finishedPage r) m₁ ≡ runPage settings m map xs s
-      → left (finishedPage q) m₂ ≡ runPage settings m₁ map ys (stateAfter r s)
+      → left (finishedPage q) m₂ ≡ runPage settings m₁ map ys (stateLeft r s)
       → left (finishedPage p) m₃ ≡ runPage settings m map (xs ++ ys) s
       → Joined (length xs) r q p m₂ m₃
 

@@ -21,12 +21,12 @@ use Rattle.operand.specs.declared.Place.the-variants.{Mem}
 use Rattle.operand.specs.Operand.{Seen, decode}
 use Rattle.patchline.specs.declared.oneline.How.the-variants.{Branch, Sob, Relative}
 use Rattle.patchline.specs.Line.{isBranch, isSob, op, reaches, withLabel}
-use Rattle.laws.specs.Mark.{Steps}
+use Rattle.laws.specs.Mark.{StepCall}
 use Rattle.laws.specs.Branches.{lines, whenIn}
 
 -- a running processor's step, executed, at an even address h
 pub record At (h : ℕ) (settings : Settings) (m map : List ℕ) (line : ℕ) (s : State) (t : Turn) (n : List ℕ) : Type 0 where
-  pub call : Steps settings m map line s t n
+  pub call : StepCall settings m map line s t n
   pub runs : s .mode ≡ Running
   pub done : t .cause ≡ Cause.OpCode
   pub here : s .regs .pc ≡ h

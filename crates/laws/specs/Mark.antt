@@ -57,11 +57,11 @@ markAfter s m (Cause.LockedAt a) = s .mark
 markAfter s m Cause.Locked = s .mark
 
 -- a call of `step` that answered t and left the image n
-abbrev pub Steps : Settings → List ℕ → List ℕ → ℕ → State → Turn → List ℕ → Type 0
-Steps settings m map line s t n = left (steppedPage (Stepped.Done t)) n ≡ stepPage settings m map line s
+abbrev pub StepCall : Settings → List ℕ → List ℕ → ℕ → State → Turn → List ℕ → Type 0
+StepCall settings m map line s t n = left (steppedPage (Stepped.Done t)) n ≡ stepPage settings m map line s
 
 abbrev pub MarkAfter : Type 0
-MarkAfter = (settings : Settings) (m map : List ℕ) (line : ℕ) (s : State) (t : Turn) (n : List ℕ) → Steps settings m map line s t n
+MarkAfter = (settings : Settings) (m map : List ℕ) (line : ℕ) (s : State) (t : Turn) (n : List ℕ) → StepCall settings m map line s t n
     → t .state .mark ≡ markAfter s m (t .cause)
 
 -- ---- "Power-up clears it", whatever the power-up option
@@ -82,7 +82,7 @@ abbrev pub fromInterrupt : Cause → Bool
 fromInterrupt cause = among (2 ∷ 3 ∷ 6 ∷ []) (causeNumber cause)
 
 abbrev pub HoldsOff : Type 0
-HoldsOff = (settings : Settings) (m map : List ℕ) (line : ℕ) (s : State) (t : Turn) (n : List ℕ) → Steps settings m map line s t n
+HoldsOff = (settings : Settings) (m map : List ℕ) (line : ℕ) (s : State) (t : Turn) (n : List ℕ) → StepCall settings m map line s t n
     → s .mark ≡ true → fromInterrupt (t .cause) ≡ false
 
 -- "I3 isn't held": a running or a waiting processor does the halt option where I3 is set, marked or not: cause 1, or 9 where a save
@@ -95,7 +95,7 @@ abbrev pub runsOrWaits : Mode → Bool
 runsOrWaits mode = among (0 ∷ 1 ∷ []) (modeNumber mode)
 
 abbrev pub SwitchHeard : Type 0
-SwitchHeard = (settings : Settings) (m map : List ℕ) (line : ℕ) (s : State) (t : Turn) (n : List ℕ) → Steps settings m map line s t n
+SwitchHeard = (settings : Settings) (m map : List ℕ) (line : ℕ) (s : State) (t : Turn) (n : List ℕ) → StepCall settings m map line s t n
     → runsOrWaits (s .mode) ≡ true → bit 3 line ≡ true → fromSwitch (t .cause) ≡ true
 
 -- ---- "on ours IEN lets one more op code begin before I0 or I1 are heard": after an IEN or SAVS, under XCT too, that was done and found
@@ -110,7 +110,7 @@ abbrev pub interrupted : Cause → Bool
 interrupted cause = among (2 ∷ 3 ∷ 6 ∷ 8 ∷ []) (causeNumber cause)
 
 module _ (settings : Settings) (map : List ℕ) (m m₁ m₂ m₃ : List ℕ) (l₁ l₂ l₃ : ℕ) (s : State) (t₁ t₂ t₃ : Turn)
-    (ien : Steps settings m map l₁ s t₁ m₁) (next : Steps settings m₁ map l₂ (t₁ .state) t₂ m₂) (last : Steps settings m₂ map l₃ (t₂ .state) t₃ m₃) where
+    (ien : StepCall settings m map l₁ s t₁ m₁) (next : StepCall settings m₁ map l₂ (t₁ .state) t₂ m₂) (last : StepCall settings m₂ map l₃ (t₂ .state) t₃ m₃) where
   abbrev pub LateOnce : Type 0
   LateOnce = s .mode ≡ Running → s .i2 ≡ false → enables (executed s m) ≡ true → t₁ .cause ≡ Cause.OpCode
       → bit 3 l₂ ≡ false → bit 3 l₃ ≡ false → (bit 1 l₃ || bit 0 l₃) ≡ true

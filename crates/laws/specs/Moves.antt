@@ -14,9 +14,9 @@ use Rattle.state.specs.declared.State.{State}
 use Rattle.state.specs.declared.Settings.{Settings}
 use Rattle.state.specs.declared.Mode.the-variants.{Running}
 use Rattle.state.specs.State.{reg, heard, psOf, withSp, withPc, withFlags, withMark}
-use Rattle.format8.specs.Format8.{rowOf, element}
+use Rattle.format8.specs.Format8.{moveRow, element}
 use Rattle.opcodes.specs.Fields.{blockSource, blockDestination}
-use Rattle.format8.specs.Page.{Plain, countOf}
+use Rattle.format8.specs.Page.{Plain, elementCount}
 use Rattle.step.specs.declared.Turn.{Turn}
 use Rattle.step.specs.declared.Cause.the-variants as Cause
 use Rattle.step.specs.Xct.{trace}
@@ -31,15 +31,15 @@ use Rattle.machine.specs.Entry.{finishedPage, runPage}
 use Rattle.machine_c.specs.Layout.{stateFrom, settingsFrom}
 use Rattle.machine_c.specs.Calls.{runCall}
 use Rattle.wordbytes.specs.Words.{byteAt}
-use Rattle.laws.specs.Mark.{Steps, LentSteps}
+use Rattle.laws.specs.Mark.{StepCall, LentSteps}
 
 -- ---- runs one after another, each from where the last ended: `lines` are the line words of all, `blanks` the blanks of all
 
-pub data Runs (settings : Settings) (map : List ℕ) : State → List ℕ → List ℕ → ℕ → State → List ℕ → Type 0 where
-  none : {s : State} {m : List ℕ} → Runs settings map s m [] 0 s m
+pub data RunsOn (settings : Settings) (map : List ℕ) : State → List ℕ → List ℕ → ℕ → State → List ℕ → Type 0 where
+  none : {s : State} {m : List ℕ} → RunsOn settings map s m [] 0 s m
   runs : {s : State} {m : List ℕ} (lines rest : List ℕ) {blanks : ℕ} {s′ : State} {m′ : List ℕ} (a : Ran) (m₁ : List ℕ)
-      → left (finishedPage (Finished.Done a)) m₁ ≡ runPage settings m map lines s → Runs settings map (a .state) m₁ rest blanks s′ m′
-      → Runs settings map s m (lines ++ rest) (a .tally .blanks + blanks) s′ m′
+      → left (finishedPage (Finished.Done a)) m₁ ≡ runPage settings m map lines s → RunsOn settings map (a .state) m₁ rest blanks s′ m′
+      → RunsOn settings map s m (lines ++ rest) (a .tally .blanks + blanks) s′ m′
 
 -- the same for C, w the settings' bytes: each call is lent the state and the image that the last left
 pub data LentRuns (w map : List ℕ) : List ℕ → List ℕ → List ℕ → List ℕ → List ℕ → Type 0 where
@@ -61,8 +61,8 @@ pub record Moves (settings : Settings) (map : List ℕ) (op : ℕ) (lines : List
   pub eight : op / 512 ≡ 7
   pub plain : Plain (blockSource op) (blockDestination op)
   pub word : reg s 0 < 65536
-  pub ready : Ready map op (countOf (reg s 0)) s m
-  pub count : length lines ≡ countOf (reg s 0)
+  pub ready : Ready map op (elementCount (reg s 0)) s m
+  pub count : length lines ≡ elementCount (reg s 0)
   pub unasked : allOf quiet lines ≡ true
 
 -- One run, where R0 is up to 4,096.
@@ -74,7 +74,7 @@ RunMoves = (settings : Settings) (map : List ℕ) (op : ℕ) (lines : List ℕ) 
 -- Any number of runs, so that any count is covered.
 abbrev pub RunsMove : Type 0
 RunsMove = (settings : Settings) (map : List ℕ) (op : ℕ) (lines : List ℕ) (s : State) (m : List ℕ) (blanks : ℕ) (s′ : State) (m′ : List ℕ) → Moves settings map op lines s m
-    → Runs settings map s m lines blanks s′ m′
+    → RunsOn settings map s m lines blanks s′ m′
     → (let end = blockMove op (withMark s false) m in (s′ ≡ end .state) × (m′ ≡ end .image) × (blanks ≡ 0))
 
 -- The same for C: the state that the bytes hold.
@@ -87,7 +87,7 @@ Wd16RunsMove = (w map : List ℕ) (op : ℕ) (lines b m b′ m′ : List ℕ) �
 -- count and the addresses are those of the element that is missing; of the image only what the bus error pushed is new, so that every
 -- element before stays. (That holds of any op code's blank, whether a block move stands at PC or not.)
 abbrev pub ElementDropped : Type 0
-ElementDropped = (settings : Settings) (m map : List ℕ) (line : ℕ) (s : State) (t : Turn) (n : List ℕ) (a : ℕ) → Steps settings m map line s t n
+ElementDropped = (settings : Settings) (m map : List ℕ) (line : ℕ) (s : State) (t : Turn) (n : List ℕ) (a : ℕ) → StepCall settings m map line s t n
     → t .cause ≡ Cause.OpCodeBlank a
     → (let sp = minus (s .regs .sp) 2 in let past = plus (s .regs .pc) 2 in
     ((k : ℕ) → k < 6 → reg (t .state) k ≡ reg s k) × (n ≡ withWord (withWord m sp (psOf (heard settings line) true s)) (minus sp 2) past))
@@ -105,11 +105,11 @@ opened s m =
 pub record OneElement (settings : Settings) (map : List ℕ) (line op : ℕ) (s : State) (m : List ℕ) (t : State) (n : List ℕ) : Type 0 where
   pub moved : State
   pub image : List ℕ
-  pub once : run map (element (rowOf op) (opened s m) (blockSource op) (blockDestination op)) m ≡ value moved image
+  pub once : run map (element (moveRow op) (opened s m) (blockSource op) (blockDestination op)) m ≡ value moved image
   pub traced : run map (trace (heard settings line) moved) image ≡ value t n
 
 abbrev pub XctElement : Type 0
-XctElement = (settings : Settings) (m map : List ℕ) (line : ℕ) (s : State) (t : Turn) (n : List ℕ) → Steps settings m map line s t n
+XctElement = (settings : Settings) (m map : List ℕ) (line : ℕ) (s : State) (t : Turn) (n : List ℕ) → StepCall settings m map line s t n
     → settings .blocks ≡ true → s .mode ≡ Running → t .cause ≡ Cause.OpCode → wordAt m (s .regs .pc) ≡ 0x5
     → (let op = wordAt m (wordAt m (s .regs .sp)) in op / 512 ≡ 7 → OneElement settings map line op s m (t .state) n)
 

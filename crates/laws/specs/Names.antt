@@ -84,13 +84,13 @@ tested z result out s op = do
   give (withFlags (o .state) (result (eqb (destinationMode op) 0) (o .operand) (o .state .flags) .flags))
 
 -- format 8: words or bytes, and by what the two registers move
-abbrev pub moves : Bool → ℕ → ℕ → Outside → State → ℕ → Work State
-moves bytes i j out s op = element (rowFrom bytes i j) s (blockSource op) (blockDestination op)
+abbrev pub moveNamed : Bool → ℕ → ℕ → Outside → State → ℕ → Work State
+moveNamed bytes i j out s op = element (rowFrom bytes i j) s (blockSource op) (blockDestination op)
 
 -- ---- the mnemonics in the order of the manual's chapter 3
 
-abbrev pub lowCodes : List Named
-lowCodes
+abbrev pub lowNames : List Named
+lowNames
     = named "NOP" 1 (λ out s op. give (nop s))
     ∷ named "RESET" 1 (λ out s op. give (nop s))
     ∷ named "IEN" 1 (λ out s op. give (ien s))
@@ -162,14 +162,14 @@ higherCodes
     ∷ named "SSTS" 7 (ssts)
     ∷ named "ADC" 7 (modified word (λ inRegister d f. adcOf d f))
     ∷ named "SBC" 7 (modified word (λ inRegister d f. sbcOf d f))
-    ∷ named "MBWU" 8 (moves false 2 2)
-    ∷ named "MBWD" 8 (moves false (down 2) (down 2))
-    ∷ named "MBBU" 8 (moves true 1 1)
-    ∷ named "MBBD" 8 (moves true (down 1) (down 1))
-    ∷ named "MBWA" 8 (moves false 2 0)
-    ∷ named "MBBA" 8 (moves true 1 0)
-    ∷ named "MABW" 8 (moves false 0 2)
-    ∷ named "MABB" 8 (moves true 0 1)
+    ∷ named "MBWU" 8 (moveNamed false 2 2)
+    ∷ named "MBWD" 8 (moveNamed false (down 2) (down 2))
+    ∷ named "MBBU" 8 (moveNamed true 1 1)
+    ∷ named "MBBD" 8 (moveNamed true (down 1) (down 1))
+    ∷ named "MBWA" 8 (moveNamed false 2 0)
+    ∷ named "MBBA" 8 (moveNamed true 1 0)
+    ∷ named "MABW" 8 (moveNamed false 0 2)
+    ∷ named "MABB" 8 (moveNamed true 0 1)
     ∷ named "JSR" 9 (λ out s op. jsr out (withFlags s preset) op)
     ∷ named "LEA" 9 (λ out s op. lea out (withFlags s preset) op)
     ∷ named "ASH" 9 (λ out s op. ash (withFlags s preset) op)
@@ -193,7 +193,7 @@ higherCodes
     ∷ []
 
 abbrev pub mnemonics : List Named
-mnemonics = lowCodes ++ (map branchOf lines ++ higherCodes)
+mnemonics = lowNames ++ (map branchOf lines ++ higherCodes)
 
 -- ---- the rows of the text, beside them
 
@@ -230,12 +230,12 @@ NamesExecuted = (out : Outside) (s : State) → out .settings .blocks ≡ true �
 
 -- of every op code: the name that its text begins with (optext Line `lineText`) is the one that it is executed under. XCT is told below,
 -- and reserved words have no name
-abbrev pub placeOf : ℕ → ℕ
-placeOf row = cond (ltb row 5) row (row - 1)
+abbrev pub rowPlace : ℕ → ℕ
+rowPlace row = cond (ltb row 5) row (row - 1)
 
 abbrev pub TextExecuted : Type 0
 TextExecuted = (out : Outside) (s : State) (op : ℕ) → out .settings .blocks ≡ true → op < 65536 → isReserved op ≡ false → (op ≡ 5 → ⊥)
-    → (let n = getD mnemonics (placeOf (rowOf op)) noName in (nameOf (rowOf op) ≡ letters (n .name)) × Executed out s op n)
+    → (let n = getD mnemonics (rowPlace (rowOf op)) noName in (nameOf (rowOf op) ≡ letters (n .name)) × Executed out s op n)
 
 abbrev pub XctNamed : Type 0
 XctNamed = (nameOf 5 ≡ letters "XCT") × ((op : ℕ) → In (theRow 5) op → (out : Outside) (s : State) → begun out s op ≡ beginXct out s)

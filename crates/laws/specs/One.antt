@@ -33,12 +33,12 @@ abbrev pub uncaused : List ℕ → List ℕ
 uncaused b = set (set (set (set b 19 0) 21 0) 22 0) 23 0
 
 -- the tally of one step, by the cause and the address that it left: 5, 6 and 9 are blanks
-abbrev pub tallied : ℕ → ℕ → List ℕ
-tallied cause a = cond ((eqb cause 5 || eqb cause 6) || eqb cause 9) (tallyBytes 1 (place 0 a)) (tallyBytes 0 none)
+abbrev pub oneTally : ℕ → ℕ → List ℕ
+oneTally cause a = cond ((eqb cause 5 || eqb cause 6) || eqb cause 9) (tallyBytes 1 (place 0 a)) (tallyBytes 0 none)
 
 -- the same number and image; where it is 0, the same state but for the step's cause, which is tallied
 pub record OneCall (k j : ℕ) (b₁ t₁ m₁ b₂ m₂ : List ℕ) : Type 0 where
   pub number : k ≡ j
   pub image : m₁ ≡ m₂
   pub state : j ≡ 0 → b₁ ≡ uncaused b₂
-  pub tally : j ≡ 0 → t₁ ≡ tallied (byteAt b₂ 19) (wordAt b₂ 22)
+  pub tally : j ≡ 0 → t₁ ≡ oneTally (byteAt b₂ 19) (wordAt b₂ 22)

@@ -15,13 +15,13 @@ use Rattle.plugs.specs.declared.Channel.{Channel}
 use Rattle.plugs.specs.declared.Readings.{Readings}
 use Rattle.plugs.specs.declared.Seen.the-variants.{Nothing, Some}
 use Rattle.plugs.specs.declared.Plug.{Plug}
-use Rattle.plugs.specs.Report.{readingsOf, blanksOf, reportOf, columnOf, numberOf, Spans}
+use Rattle.plugs.specs.Report.{readingsOf, blanksOf, reportOf, columnOf, readingCount, Spans}
 use Rattle.plugs.specs.Sum.{SumIs}
 use Rattle.recorder.specs.declared.Recorder.{Recorder}
 use Rattle.recorder.specs.declared.Answer.the-variants as Answer
 use Rattle.recorder.specs.declared.Reported.{Reported}
 use Rattle.recorder.specs.declared.Reported.the-variants as Reported
-use Rattle.recorder.specs.Scan.{begun, answerPage, plugPage, reportedPage, scanOf, reportPage}
+use Rattle.recorder.specs.Scan.{newRecorder, answerPage, plugPage, reportedPage, scanOf, reportPage}
 use Rattle.recorder_c.specs.Layout.{channelsFrom, reportBytes}
 use Rattle.recorder_c.specs.Calls.{scanCall, reportCall}
 
@@ -34,7 +34,7 @@ inState s r = record { state = s; scans = r .scans; plugs = r .plugs }
 -- The recorder r has come from a fresh one by calls of `scan`; `scans` are the channels of those that were not refused, in order.
 pub data Recorded : Recorder → List (List Channel) → Type 0 where
   -- as `begin` gives it
-  fresh : (s : State) → Recorded (begun s) []
+  fresh : (s : State) → Recorded (newRecorder s) []
   -- a scan that was done: the recorder that it answers
   done : {r : Recorder} {scans : List (List Channel)} → Recorded r scans
       → (s : State) (channels : List Channel) (m map : List ℕ) (settings : Settings) (lines : List ℕ) (t : Tally) (r′ : Recorder) (m′ : List ℕ) → length channels ≡ 16
@@ -48,10 +48,10 @@ pub data Recorded : Recorder → List (List Channel) → Type 0 where
 
 -- ---- the report of a channel, by what it was in each scan
 
-pub record Reads (p : Plug) (column : List Channel) : Type 0 where
+pub record ReadsColumn (p : Plug) (column : List Channel) : Type 0 where
   -- "A channel without its card in a scan adds to its blanks and to nothing else"
   pub blanks : p .blanks ≡ blanksOf column
-  pub readings : numberOf (p .seen) ≡ length (readingsOf column)
+  pub readings : readingCount (p .seen) ≡ length (readingsOf column)
   -- "A channel with no reading has no lowest, highest or average"
   pub nothing : readingsOf column ≡ [] → p .seen ≡ Nothing
   -- "lowest, highest, and the average as sum and number, never rounded"
@@ -62,7 +62,7 @@ pub record Reports (q : Reported) (column : List Channel) : Type 0 where
   pub plug : Plug
   pub answer : q ≡ Reported.Channel plug
   pub is : plug ≡ reportOf column
-  pub reads : Reads plug column
+  pub reads : ReadsColumn plug column
 
 abbrev pub ScansReported : Type 0
 ScansReported = (r : Recorder) (scans : List (List Channel)) (k : ℕ) (q : Reported) → Recorded r scans → k < 16
@@ -76,19 +76,19 @@ ScansCounted = (r : Recorder) (scans : List (List Channel)) → Recorded r scans
 
 -- The recorder's bytes d have come from 194 zeros by calls of `wd16_scan`; the state, the tally, the image and whatever else is lent in
 -- each are any bytes.
-pub data Lent : List ℕ → List (List Channel) → Type 0 where
-  zeros : Lent (replicate 194 0) []
-  done : {d : List ℕ} {scans : List (List Channel)} → Lent d scans
+pub data LentRecorder : List ℕ → List (List Channel) → Type 0 where
+  zeros : LentRecorder (replicate 194 0) []
+  done : {d : List ℕ} {scans : List (List Channel)} → LentRecorder d scans
       → (b t m map w lines cards readings b′ t′ m′ d′ : List ℕ)
       → told 0 (b′, t′, m′, d′) ≡ scanCall b t m map w lines cards readings d
-      → Lent d′ (scans ++ (channelsFrom cards readings ∷ []))
-  turnedAway : {d : List ℕ} {scans : List (List Channel)} → Lent d scans
+      → LentRecorder d′ (scans ++ (channelsFrom cards readings ∷ []))
+  turnedAway : {d : List ℕ} {scans : List (List Channel)} → LentRecorder d scans
       → (b t m map w lines cards readings : List ℕ) (why : ℕ) (b′ t′ m′ d′ : List ℕ) → (why ≡ 0 → ⊥)
       → told why (b′, t′, m′, d′) ≡ scanCall b t m map w lines cards readings d
-      → Lent d′ scans
+      → LentRecorder d′ scans
 
 -- a call of `wd16_report` for the channel k, lent 12 bytes, is not refused and leaves the bytes of the report over that channel's column
 abbrev pub Wd16ScansReported : Type 0
-Wd16ScansReported = (d : List ℕ) (scans : List (List Channel)) (k : ℕ) (b : List ℕ) (number : ℕ) (b′ : List ℕ) → Lent d scans → k < 16 → length b ≡ 12
+Wd16ScansReported = (d : List ℕ) (scans : List (List Channel)) (k : ℕ) (b : List ℕ) (number : ℕ) (b′ : List ℕ) → LentRecorder d scans → k < 16 → length b ≡ 12
     → told number b′ ≡ reportCall d (k ∷ []) b
-    → (number ≡ 0) × (b′ ≡ reportBytes (plugPage (reportOf (columnOf k scans)))) × Reads (reportOf (columnOf k scans)) (columnOf k scans)
+    → (number ≡ 0) × (b′ ≡ reportBytes (plugPage (reportOf (columnOf k scans)))) × ReadsColumn (reportOf (columnOf k scans)) (columnOf k scans)

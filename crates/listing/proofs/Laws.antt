@@ -12,7 +12,7 @@ use lib.Dec.{ltb}
 use lib.ListN.{length, take, getD}
 use lib.Seq.{length-take-le}
 use Rattle.hexdigits.specs.Digits.{hex4}
-use Rattle.hexdigits.specs.Over.{over, Wrote}
+use Rattle.hexdigits.specs.Over.{inFrontOf, Wrote}
 use Rattle.refusal.specs.Numbers.{noStretch, textShort}
 use Rattle.refusal.specs.Page.{refused, answered, left}
 use Rattle.refusal.proofs.Laws.Page.{first-some, first-both}
@@ -29,14 +29,14 @@ use Rattle.optext.proofs.Laws.Calls.{line-written}
 use Rattle.listing.specs.declared.Found.{Found}
 use Rattle.listing.specs.declared.Found.the-variants.{Nothing, Cut, Whole}
 use Rattle.listing.specs.declared.Listed.{Listed}
-use Rattle.listing.specs.Listing.{allStand, foundAt, lineOf, movesOn, Fits, lineAt, nextAt}
+use Rattle.listing.specs.Listing.{allStand, foundAt, lineOf, movesOn, FoundFits, lineAt, nextAt}
 use Rattle.listing.specs.Calls.{lined, listedPage, badStretch, lineWhy, nextOf, lineIn, lineCall}
 use Rattle.listing.proofs.Laws.Joined.{taken-some, cond-none}
 
 -- ---- what is found
 
 module _ (map image : List ℕ) (last a : ℕ) (f : Bool) (e : f ≡ fitted map a) where
-  pub found-nothing : not f ≡ true → (Nothing ≡ foundAt map image last a) × Fits (wordAt image a) Nothing
+  pub found-nothing : not f ≡ true → (Nothing ≡ foundAt map image last a) × FoundFits (wordAt image a) Nothing
   unfolding foundAt
   found-nothing h = (rw (← e, not-true f h) refl, tt)
 
@@ -44,21 +44,21 @@ module _ (map image : List ℕ) (last a : ℕ) (f : Bool) (e : f ≡ fitted map 
     own : n ≡ taken (wordAt image a)
     own = t .0 ∙ ap taken p
 
-    pub found-whole : s ≡ true → (Whole n ≡ foundAt map image last a) × Fits (wordAt image a) (Whole n)
+    pub found-whole : s ≡ true → (Whole n ≡ foundAt map image last a) × FoundFits (wordAt image a) (Whole n)
     unfolding foundAt
     found-whole k = (rw (← e, not-false f h, ← own, ← g, k) refl, (own, t .1))
 
-    pub found-cut : s ≡ false → (Cut ≡ foundAt map image last a) × Fits (wordAt image a) Cut
+    pub found-cut : s ≡ false → (Cut ≡ foundAt map image last a) × FoundFits (wordAt image a) Cut
     unfolding foundAt
     found-cut k = (rw (← e, not-false f h, ← own, ← g, k) refl, tt)
 
-pub fits-whole : (w : ℕ) (f : Found) (n : ℕ) → Fits w f → f ≡ Whole n → (n ≡ taken w) × (n ≤ 3)
-fits-whole w f n h e = subst (λ (z : Found). Fits w z) e h
+pub fits-whole : (w : ℕ) (f : Found) (n : ℕ) → FoundFits w f → f ≡ Whole n → (n ≡ taken w) × (n ≤ 3)
+fits-whole w f n h e = subst (λ (z : Found). FoundFits w z) e h
 
-pub fits-word : (w v : ℕ) (f : Found) → w ≡ v → Fits v f → Fits w f
-fits-word w v f e h = subst (λ (z : ℕ). Fits z f) (sym e) h
+pub fits-word : (w v : ℕ) (f : Found) → w ≡ v → FoundFits v f → FoundFits w f
+fits-word w v f e h = subst (λ (z : ℕ). FoundFits z f) (sym e) h
 
-pub moves-few : (w : ℕ) (f : Found) → Fits w f → movesOn f ≤ 3
+pub moves-few : (w : ℕ) (f : Found) → FoundFits w f → movesOn f ≤ 3
 moves-few w Nothing h = omega arith
 moves-few w Cut h = omega arith
 moves-few w (Whole n) h = h .1

@@ -4,7 +4,7 @@ use mathlib.Core.Bool.{Bool, _||_, cond}
 use mathlib.Core.List.{List}
 use lib.ListN.{length}
 use lib.Dec.{eqb, ltb}
-use Rattle.hexdigits.specs.Over.{over}
+use Rattle.hexdigits.specs.Over.{inFrontOf}
 use Rattle.refusal.specs.Numbers.{noStretch, textShort}
 use Rattle.refusal.specs.Page.{Page, refused, answered, Left, left, call, first}
 use Rattle.refusal.specs.Refusal.{boardRefusal}
@@ -33,8 +33,8 @@ listedPage (Refused why) = refused why
 -- ---- refusals: 1, 2 and 3 of the image and the map; 23, an odd address, or a last below the first; 8, the text is under 52
 
 -- the longest line's own text begins at character 20, and its writer asks for 32 more
-abbrev pub room : ℕ
-room = 52
+abbrev pub lineRoom : ℕ
+lineRoom = 52
 
 abbrev pub badStretch : ℕ → ℕ → Bool
 badStretch a last = (eqb (a % 2) 1 || eqb (last % 2) 1) || ltb last a
@@ -43,7 +43,7 @@ unfoldable pub lineWhy : ℕ → List ℕ → ℕ → ℕ → ℕ → ℕ
 lineWhy size map a last text =
     first (boardRefusal size map)
     (first (cond (badStretch a last) noStretch 0)
-    (cond (ltb text room) textShort 0))
+    (cond (ltb text lineRoom) textShort 0))
 
 -- ---- the call: the line at the address a of a stretch that ends at last
 
@@ -54,7 +54,7 @@ nextOf last a = cond (ltb last a) ends (goesOn a)
 abbrev pub lineIn : List ℕ → List ℕ → ℕ → ℕ → List ℕ → Left Lined (List ℕ)
 lineIn image map a last b =
     let l = lineAt map image last a in
-    left (answered (lined (length l) (nextOf last (nextAt map image last a)))) (over l b)
+    left (answered (lined (length l) (nextOf last (nextAt map image last a)))) (inFrontOf l b)
 
 unfoldable pub lineCall : List ℕ → List ℕ → ℕ → ℕ → List ℕ → Left Lined (List ℕ)
 lineCall image map a last b = call (lineWhy (length image) map a last (length b)) (lineIn image map a last b) b

@@ -50,10 +50,10 @@ movesOn Cut = 1
 movesOn (Whole n) = n
 
 -- what is found with the first word w: a whole op code has the words that it takes, up to three
-abbrev pub Fits : ℕ → Found → Type 0
-Fits w Nothing = Unit {0}
-Fits w Cut = Unit {0}
-Fits w (Whole n) = (n ≡ taken w) × (n ≤ 3)
+abbrev pub FoundFits : ℕ → Found → Type 0
+FoundFits w Nothing = Unit {0}
+FoundFits w Cut = Unit {0}
+FoundFits w (Whole n) = (n ≡ taken w) × (n ≤ 3)
 
 module _ (map image : List ℕ) (last : ℕ) where
   unfoldable pub lineAt : ℕ → List ℕ

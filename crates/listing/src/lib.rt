@@ -58,7 +58,7 @@ fn all_stand(map: &[u8], last: usize, a: usize, n: usize) -> bool
 
 fn found_at(map: &[u8], image: &[u8], last: usize, a: usize) -> Found
     requires { ⌜ a < 65536 ⌝ }
-    ensures { λ r. ⌜ (r ≡ Spec.foundAt (now (map .entry)) (now (image .entry)) last a) × Spec.Fits (wordAt (now (image .entry)) a) r ⌝ }
+    ensures { λ r. ⌜ (r ≡ Spec.foundAt (now (map .entry)) (now (image .entry)) last a) × Spec.FoundFits (wordAt (now (image .entry)) a) r ⌝ }
 {
     if !fitted(map, a) {
         return Found::Nothing;
@@ -202,7 +202,7 @@ fn put_whole(text: &mut [u8], a: u16, w: u16, x: u16, y: u16, n: usize) -> usize
 
 // The line of what stands at the address a, where w, x and y are the words there.
 fn put_line(text: &mut [u8], a: u16, w: u16, x: u16, y: u16, found: Found) -> usize
-    requires { ⌜ (52 ≤ length (now text)) × Spec.Fits w found ⌝ }
+    requires { ⌜ (52 ≤ length (now text)) × Spec.FoundFits w found ⌝ }
     ensures { λ n. ⌜ Wrote (Spec.lineOf a (w ∷ x ∷ y ∷ []) found) (now (text .entry)) (now (text .exit)) n ⌝ }
 {
     match found {

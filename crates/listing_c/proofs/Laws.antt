@@ -7,7 +7,7 @@ use mathlib.Core.Path.{_≡_, refl, ap}
 use lib.ListN.{length, take, getD, length-append}
 use Rattle.wordbytes.specs.Words.{wordAt}
 use Rattle.refusal.specs.Page.{Page, refused, refusedAt, answered, left, call, told}
-use Rattle.hexdigits.specs.Over.{over}
+use Rattle.hexdigits.specs.Over.{inFrontOf}
 use Rattle.board.specs.Work.{fitted}
 use Rattle.benchline.specs.Line.{dashes, fields}
 use Rattle.benchline.proofs.Laws.Lengths.{fields-length}
@@ -22,7 +22,7 @@ use Rattle.listing.specs.Calls.{Lined, lined, listedPage, lineWhy, nextOf, line
 use Rattle.listing.proofs.Laws.{word-length}
 use Rattle.answer.specs.Answer.{threeWords, placeWords, answerWhy}
 use Rattle.answer.proofs.Laws.{bad, given}
-use Rattle.listing_c.specs.Calls.{lineWords, listCall}
+use Rattle.listing_c.specs.Calls.{nextWordsOf, listCall}
 
 -- ---- a line is short
 
@@ -44,7 +44,7 @@ countIn (refusedAt why place) = 0
 -- what is answered tells a short line
 told-short : (image map : List ℕ) (a last : ℕ) (b e : List ℕ) (p : Page Lined) → left p e ≡ lineCall image map a last b → countIn p < 65536
 unfolding lineCall
-told-short image map a last b e p h = by (lineWhy (length image) map a last (length b)) (over (lineAt map image last a) b) h
+told-short image map a last b e p h = by (lineWhy (length image) map a last (length b)) (inFrontOf (lineAt map image last a) b) h
   where
     by : (why : ℕ) (t : List ℕ) → left p e ≡ call why (left (answered (lined (length (lineAt map image last a)) (nextOf last (nextAt map image last a)))) t) b → countIn p < 65536
     by zero t d = let q : countIn p ≡ length (lineAt map image last a) = ap (λ z. countIn (z .page)) d in omega (arith, q, line-few map image last a)
@@ -64,17 +64,17 @@ module _ (image map : List ℕ) (a last : ℕ) (t b : List ℕ) (n : ℕ) (h : n
 
   pub list-bad : (n ≡ 0 → ⊥) → told n (t, b) ≡ listCall image map a last t b
   unfolding listCall
-  list-bad some = bad (λ p t. (t, lineWords p)) beside (λ t. (t, b)) (answerWhy b) n (lineCall image map a last t) t h some
+  list-bad some = bad (λ p t. (t, nextWordsOf p)) beside (λ t. (t, b)) (answerWhy b) n (lineCall image map a last t) t h some
 
   module _ (none : n ≡ 0) (t′ : List ℕ) (r : Listed) (e : left (listedPage r) t′ ≡ lineCall image map a last t) where
     pub goes-on : (k x : ℕ) (b′ : List ℕ) → r ≡ Line k x → b′ ≡ threeWords k x 0 → told 0 (t′, b′) ≡ listCall image map a last t b
     unfolding listCall
-    goes-on k x b′ q p = given (λ p t. (t, lineWords p)) beside (λ t. (t, b)) (answerWhy b) n (lineCall image map a last t) t h none _ (rw (← e, q, p) refl)
+    goes-on k x b′ q p = given (λ p t. (t, nextWordsOf p)) beside (λ t. (t, b)) (answerWhy b) n (lineCall image map a last t) t h none _ (rw (← e, q, p) refl)
 
     pub ended : (k : ℕ) (b′ : List ℕ) → r ≡ Last k → b′ ≡ threeWords k 0 1 → told 0 (t′, b′) ≡ listCall image map a last t b
     unfolding listCall
-    ended k b′ q p = given (λ p t. (t, lineWords p)) beside (λ t. (t, b)) (answerWhy b) n (lineCall image map a last t) t h none _ (rw (← e, q, p) refl)
+    ended k b′ q p = given (λ p t. (t, nextWordsOf p)) beside (λ t. (t, b)) (answerWhy b) n (lineCall image map a last t) t h none _ (rw (← e, q, p) refl)
 
     pub stopped : (why : ℕ) → r ≡ Refused why → told why (t′, b) ≡ listCall image map a last t b
     unfolding listCall
-    stopped why q = given (λ p t. (t, lineWords p)) beside (λ t. (t, b)) (answerWhy b) n (lineCall image map a last t) t h none _ (rw (← e, q) refl)
+    stopped why q = given (λ p t. (t, nextWordsOf p)) beside (λ t. (t, b)) (answerWhy b) n (lineCall image map a last t) t h none _ (rw (← e, q) refl)

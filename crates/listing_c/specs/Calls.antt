@@ -11,9 +11,9 @@ abbrev pub nextWords : ℕ → Next → List ℕ
 nextWords n (goesOn a) = threeWords n a 0
 nextWords n ends = threeWords n 0 1
 
-abbrev pub lineWords : Lined → List ℕ
-lineWords p = nextWords (p .count) (p .next)
+abbrev pub nextWordsOf : Lined → List ℕ
+nextWordsOf p = nextWords (p .count) (p .next)
 
 -- the text and the answer
 unfoldable pub listCall : List ℕ → List ℕ → ℕ → ℕ → List ℕ → List ℕ → Told (List ℕ × List ℕ)
-listCall image map a last t b = answering lineWords b (call (answerWhy b) (lineCall image map a last t) t)
+listCall image map a last t b = answering nextWordsOf b (call (answerWhy b) (lineCall image map a last t) t)

@@ -8,7 +8,7 @@ use native.Mathlib.Omega.{arith}
 use borrow.Author.Tests.{le-ltb, lt-ltb, le-leb, lt-leb, leb-true, ltb-false}
 use lib.Dec.{ltb, leb}
 use lib.ListN.{length, length-append, take, drop, getD}
-use Rattle.hexdigits.specs.Over.{over, Wrote, WroteAt}
+use Rattle.hexdigits.specs.Over.{inFrontOf, Wrote, WroteAt}
 use Rattle.hexdigits.proofs.Laws.Laid.{then, wrote-none, part-room}
 use borrow.Rule.Slice.PartMut.{midOf}
 use Rattle.refusal.specs.Numbers.{jobEnds, noStretch, textShort}
@@ -33,7 +33,7 @@ use Rattle.listing.specs.Calls.{Next, goesOn, ends, lined, listedPage, badStret
 use Rattle.listing.proofs.Laws.{word-length, room-there}
 use Rattle.listing.proofs.Laws as ListingLaws
 use Rattle.listing.proofs.Laws.Joined.{taken-some, cond-none, Good, good, next-further, goes-on, ends-past, listing-more, listing-end}
-use Rattle.listjob.specs.Stretch.{firstOf, lastOf, jobIn, lineEnd, ended, listingOn, listingIn, room, stretchWhy, listWhy, listedIn, listOf, Fits, Lists, endOf, movedBy, nextPage, Goes, endedAt}
+use Rattle.listjob.specs.Stretch.{firstAddress, lastAddress, jobIn, lineEnd, ended, listingOn, listingIn, stretchRoom, stretchWhy, listWhy, listedIn, listOf, LineFits, Lists, endOfLine, movedBy, nextPage, Goes, endedAt}
 use Rattle.listjob.proofs.Laws.Follow.{goes-within, next-good, other-taken}
 
 -- ---- how long a line is: 44 characters at most, and with its end 35 for each of its words
@@ -110,12 +110,12 @@ module _ (image map : List ℕ) (a last : ℕ) (b : List ℕ) (z : lineWhy (leng
 pub ended-short : (image map : List ℕ) (a last : ℕ) → length (endedAt image map a last) ≤ 45
 ended-short image map a last = omega (arith, length-append (lineAt map image last a) lineEnd, line-short map image last a)
 
-pub part-taken : (image map : List ℕ) (a last at : ℕ) (text : List ℕ) → Fits image map a last at text → lineWhy (length image) map a last (length (midOf at (length text - at) text)) ≡ 0
+pub part-taken : (image map : List ℕ) (a last at : ℕ) (text : List ℕ) → LineFits image map a last at text → lineWhy (length image) map a last (length (midOf at (length text - at) text)) ≡ 0
 part-taken image map a last at text f =
     other-taken (length image) map a last 52 a (length (midOf at (length text - at) text)) (f .none) (good (length image) map a last 52 (f .none)) (part-room at 52 text (f .there))
 
 module _ (image map : List ℕ) (a last : ℕ) where
-  pub moved-end : (at : ℕ) (r : Listed) → Goes image map a last r → endOf (movedBy at r) ≡ at + endOf r
+  pub moved-end : (at : ℕ) (r : Listed) → Goes image map a last r → endOfLine (movedBy at r) ≡ at + endOfLine r
   moved-end at (Line n next) g = refl
   moved-end at (Last n) g = refl
   moved-end at (Refused why) g = absurd (apart (sym g))
@@ -144,7 +144,7 @@ module _ (image map : List ℕ) (first last : ℕ) (start : List ℕ) where
     stretch : Good a last
     stretch = good (length image) map a last 52 (b .none)
 
-    pub begun-fits : room ≤ length start → Fits image map a last at text
+    pub begun-fits : stretchRoom ≤ length start → LineFits image map a last at text
     begun-fits h = record { none = b .none; there = omega (arith, h, k, b .low, b .size, stretch .within, stretch .even); low = omega (arith, k, b .low, stretch .within) }
 
     -- the listing from here on is a line, and the listing from the next address on
@@ -181,56 +181,56 @@ pub never-refused : {A : Type 0} (image map : List ℕ) (a last why : ℕ) → G
 never-refused image map a last why g = absurd (apart (sym g))
 
 -- what is known of an answer is known of the case that it is
-pub told-as : (image map : List ℕ) (a last at : ℕ) (b e : List ℕ) (r q : Listed) → r ≡ q → WroteAt at (endedAt image map a last) b e (endOf r) × Goes image map a last r
-    → WroteAt at (endedAt image map a last) b e (endOf q) × Goes image map a last q
-told-as image map a last at b e r q d h = subst (λ (z : Listed). WroteAt at (endedAt image map a last) b e (endOf z) × Goes image map a last z) d h
+pub told-as : (image map : List ℕ) (a last at : ℕ) (b e : List ℕ) (r q : Listed) → r ≡ q → WroteAt at (endedAt image map a last) b e (endOfLine r) × Goes image map a last r
+    → WroteAt at (endedAt image map a last) b e (endOfLine q) × Goes image map a last q
+told-as image map a last at b e r q d h = subst (λ (z : Listed). WroteAt at (endedAt image map a last) b e (endOfLine z) × Goes image map a last z) d h
 
 -- ---- refusals
 
 module _ (input : List ℕ) (text image map lines : ℕ) where
   pub why-short : text < 1146932 → textShort ≡ listWhy input text image map lines
   unfolding listWhy
-  why-short h = rw (lt-leb room text h) refl
+  why-short h = rw (lt-leb stretchRoom text h) refl
 
   module _ (h : 1146932 ≤ text) where
     pub why-cut : length input < 4 → jobEnds ≡ listWhy input text image map lines
     unfolding listWhy
-    why-cut c = rw (le-leb room text h, lt-ltb (length input) 4 c) refl
+    why-cut c = rw (le-leb stretchRoom text h, lt-ltb (length input) 4 c) refl
 
     module _ (i : 4 ≤ length input) (k : ℕ) (e : k ≡ whyRead image map lines (jobIn input)) where
       pub why-job : (k ≡ 0 → ⊥) → k ≡ listWhy input text image map lines
       unfolding listWhy
-      why-job n = rw (le-leb room text h, le-ltb (length input) 4 i, ← e) (first-some k _ n)
+      why-job n = rw (le-leb stretchRoom text h, le-ltb (length input) 4 i, ← e) (first-some k _ n)
 
-      module _ (z : k ≡ 0) (s : Bool) (b : s ≡ badStretch (firstOf input) (lastOf input)) where
+      module _ (z : k ≡ 0) (s : Bool) (b : s ≡ badStretch (firstAddress input) (lastAddress input)) where
         pub why-stretch : s ≡ true → noStretch ≡ listWhy input text image map lines
         unfolding listWhy
-        why-stretch t = rw (le-leb room text h, le-ltb (length input) 4 i, ← e, z, ← b, t) refl
+        why-stretch t = rw (le-leb stretchRoom text h, le-ltb (length input) 4 i, ← e, z, ← b, t) refl
 
         pub why-none : s ≡ false → 0 ≡ listWhy input text image map lines
         unfolding listWhy
-        why-none t = rw (le-leb room text h, le-ltb (length input) 4 i, ← e, z, ← b, t) refl
+        why-none t = rw (le-leb stretchRoom text h, le-ltb (length input) 4 i, ← e, z, ← b, t) refl
 
 -- ---- the call
 
 -- what is known where nothing is refused
 pub record Taken (input : List ℕ) (text image map lines : ℕ) : Type 0 where
-  pub there : room ≤ text
+  pub there : stretchRoom ≤ text
   pub some : 4 ≤ length input
   pub read : whyRead image map lines (jobIn input) ≡ 0
-  pub stretch : badStretch (firstOf input) (lastOf input) ≡ false
+  pub stretch : badStretch (firstAddress input) (lastAddress input) ≡ false
 
 pub taken-all : (input : List ℕ) (text image map lines : ℕ) → listWhy input text image map lines ≡ 0 → Taken input text image map lines
 unfolding listWhy
 taken-all input text image map lines e =
-    let a = first-both (printWhy room text) _ e in
+    let a = first-both (printWhy stretchRoom text) _ e in
     let b = first-both (cond (ltb (length input) 4) jobEnds 0) _ (a .1) in
     let c = first-both (whyRead image map lines (jobIn input)) _ (b .1) in
     record {
-      there = leb-true room text (told-none (leb room text) textShort (λ h. omega (arith, h)) (a .0));
+      there = leb-true stretchRoom text (told-none (leb stretchRoom text) textShort (λ h. omega (arith, h)) (a .0));
       some = ltb-false (length input) 4 (cond-none (ltb (length input) 4) jobEnds (λ h. omega (arith, h)) (b .0));
       read = c .0;
-      stretch = cond-none (badStretch (firstOf input) (lastOf input)) noStretch (λ h. omega (arith, h)) (c .1);
+      stretch = cond-none (badStretch (firstAddress input) (lastAddress input)) noStretch (λ h. omega (arith, h)) (c .1);
     }
   where
     told-none : (t : Bool) (k : ℕ) → (k ≡ 0 → ⊥) → cond t 0 k ≡ 0 → t ≡ true
@@ -254,14 +254,14 @@ module _ (input text image map lines : List ℕ) where
     pub taken-is : Taken input (length text) (length image) (length map) (length lines)
     taken-is = taken-all input (length text) (length image) (length map) (length lines) z
 
-    pub lists-is : (image′ map′ lines′ : List ℕ) (count first last : ℕ) → Filled (jobIn input) image′ map′ lines′ count → first ≡ firstOf input → last ≡ lastOf input → Lists image′ map′ first last text
+    pub lists-is : (image′ map′ lines′ : List ℕ) (count first last : ℕ) → Filled (jobIn input) image′ map′ lines′ count → first ≡ firstAddress input → last ≡ lastAddress input → Lists image′ map′ first last text
     lists-is image′ map′ lines′ count first last f p q =
         let t = taken-is in
         let board = job-board (jobIn input) (length image) (length map) (length lines) (t .read) in
-        let none = ListingLaws.why-none (length (imageOf (jobIn input))) (mapOf (jobIn input)) (firstOf input) (lastOf input) 52 (boardRefusal (length (imageOf (jobIn input))) (mapOf (jobIn input))) refl board (badStretch (firstOf input) (lastOf input)) refl (t .stretch) (omega arith) in
+        let none = ListingLaws.why-none (length (imageOf (jobIn input))) (mapOf (jobIn input)) (firstAddress input) (lastAddress input) 52 (boardRefusal (length (imageOf (jobIn input))) (mapOf (jobIn input))) refl board (badStretch (firstAddress input) (lastAddress input)) refl (t .stretch) (omega arith) in
         rw (f .image-is, f .map-is, p, q) (record { none = sym none; there = t .there })
 
-    pub list-done : (image′ map′ lines′ text′ : List ℕ) (count first last n : ℕ) → Filled (jobIn input) image′ map′ lines′ count → first ≡ firstOf input → last ≡ lastOf input
+    pub list-done : (image′ map′ lines′ text′ : List ℕ) (count first last n : ℕ) → Filled (jobIn input) image′ map′ lines′ count → first ≡ firstAddress input → last ≡ lastAddress input
         → Wrote (listingOn image′ map′ first last) text text′ n → left (answered n) (text′, image′, map′, lines′) ≡ listOf input text image map lines
     unfolding listOf listingIn
     list-done image′ map′ lines′ text′ count first last n f p q w = rw (z, w .bytes, w .count, f .image-is, f .map-is, f .lines-is, p, q) refl

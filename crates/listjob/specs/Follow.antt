@@ -5,13 +5,13 @@ use mathlib.Core.List.{List}
 use mathlib.Core.Path.{_≡_}
 use lib.ListN.{length}
 use Rattle.refusal.specs.Page.{answered, left}
-use Rattle.listing.specs.Calls.{goesOn, lined, room, lineWhy, lineCall}
+use Rattle.listing.specs.Calls.{goesOn, lined, lineRoom, lineWhy, lineCall}
 use Rattle.listing.specs.Joined.{Lines}
 
 -- the next address is not refused, in any text that has room for a line
 abbrev pub NextTaken : Type 0
 NextTaken = (image map : List ℕ) (a last n next : ℕ) (text text′ other : List ℕ)
-    → left (answered (lined n (goesOn next))) text′ ≡ lineCall image map a last text → room ≤ length other
+    → left (answered (lined n (goesOn next))) text′ ≡ lineCall image map a last text → lineRoom ≤ length other
     → lineWhy (length image) map next last (length other) ≡ 0
 
 -- from an address that is not refused the calls come to a last line, and there are no more than 32,768 lines; whatever text each is lent

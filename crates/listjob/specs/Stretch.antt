@@ -6,7 +6,7 @@ use mathlib.Core.Path.{_≡_}
 use lib.Dec.{ltb}
 use lib.ListN.{length, drop}
 use Rattle.wordbytes.specs.Words.{wordAt}
-use Rattle.hexdigits.specs.Over.{over}
+use Rattle.hexdigits.specs.Over.{inFrontOf}
 use Rattle.refusal.specs.Numbers.{jobEnds, noStretch}
 use Rattle.refusal.specs.Page.{Page, refused, answered, Left, left, call, first}
 use Rattle.job.specs.Job.{imageOf, mapOf, linesOf, whyRead}
@@ -18,11 +18,11 @@ use Rattle.listing.specs.Calls.{Next, goesOn, ends, badStretch, lineWhy, nextOf
 
 -- ---- what is read: "the two addresses, two bytes each, low first, and then a job"
 
-abbrev pub firstOf : List ℕ → ℕ
-firstOf input = wordAt input 0
+abbrev pub firstAddress : List ℕ → ℕ
+firstAddress input = wordAt input 0
 
-abbrev pub lastOf : List ℕ → ℕ
-lastOf input = wordAt input 2
+abbrev pub lastAddress : List ℕ → ℕ
+lastAddress input = wordAt input 2
 
 abbrev pub jobIn : List ℕ → List ℕ
 jobIn input = drop 4 input
@@ -40,30 +40,30 @@ abbrev pub listingOn : List ℕ → List ℕ → ℕ → ℕ → List ℕ
 listingOn image map first last = ended (listingOf first last map image)
 
 unfoldable pub listingIn : List ℕ → List ℕ
-listingIn input = listingOn (imageOf (jobIn input)) (mapOf (jobIn input)) (firstOf input) (lastOf input)
+listingIn input = listingOn (imageOf (jobIn input)) (mapOf (jobIn input)) (firstAddress input) (lastAddress input)
 
 -- ---- refusals: 8, the text is too short; 11, the addresses are cut; the job's own; 23
 
 -- a line has at most 35 characters for each of its words, its end among them; an image has 32,768 words; and a line's writer asks for 52
-abbrev pub room : ℕ
-room = 1146932
+abbrev pub stretchRoom : ℕ
+stretchRoom = 1146932
 
 abbrev pub stretchWhy : ℕ → ℕ → ℕ
 stretchWhy first last = cond (badStretch first last) noStretch 0
 
 unfoldable pub listWhy : List ℕ → ℕ → ℕ → ℕ → ℕ → ℕ
 listWhy input text image map lines =
-    first (printWhy room text)
+    first (printWhy stretchRoom text)
     (first (cond (ltb (length input) 4) jobEnds 0)
     (first (whyRead image map lines (jobIn input))
-    (stretchWhy (firstOf input) (lastOf input))))
+    (stretchWhy (firstAddress input) (lastAddress input))))
 
 -- ---- the call: the listing's length; the listing in front of the text, and the job's image, map and line words
 
 abbrev pub listedIn : List ℕ → List ℕ → Left ℕ (List ℕ × List ℕ × List ℕ × List ℕ)
 listedIn input text =
     let job = jobIn input in
-    left (answered (length (listingIn input))) (over (listingIn input) text, imageOf job, mapOf job, linesOf job)
+    left (answered (length (listingIn input))) (inFrontOf (listingIn input) text, imageOf job, mapOf job, linesOf job)
 
 unfoldable pub listOf : List ℕ → List ℕ → List ℕ → List ℕ → List ℕ → Left ℕ (List ℕ × List ℕ × List ℕ × List ℕ)
 listOf input text image map lines = call (listWhy input (length text) (length image) (length map) (length lines)) (listedIn input text) (text, image, map, lines)
@@ -71,16 +71,16 @@ listOf input text image map lines = call (listWhy input (length text) (length im
 -- ---- the words of inner functions: a line from a place of the text on, and all of a stretch
 
 -- what is asked for: the line is not refused, there is room for it, and the place is low
-pub record Fits (image map : List ℕ) (a last at : ℕ) (text : List ℕ) : Type 0 where
+pub record LineFits (image map : List ℕ) (a last at : ℕ) (text : List ℕ) : Type 0 where
   pub none : lineWhy (length image) map a last 52 ≡ 0
   pub there : at + 52 ≤ length text
-  pub low : at ≤ room
+  pub low : at ≤ stretchRoom
 
 -- where an answered line ends, and where the next is
-abbrev pub endOf : Listed → ℕ
-endOf (Line n next) = n
-endOf (Last n) = n
-endOf (Refused why) = 0
+abbrev pub endOfLine : Listed → ℕ
+endOfLine (Line n next) = n
+endOfLine (Last n) = n
+endOfLine (Refused why) = 0
 
 abbrev pub movedBy : ℕ → Listed → Listed
 movedBy at (Line n next) = Line (at + n) next
@@ -101,4 +101,4 @@ endedAt image map a last = lineAt map image last a ++ lineEnd
 -- of a stretch: its first line is not refused, and there is room for the longest listing
 pub record Lists (image map : List ℕ) (a last : ℕ) (text : List ℕ) : Type 0 where
   pub none : lineWhy (length image) map a last 52 ≡ 0
-  pub there : room ≤ length text
+  pub there : stretchRoom ≤ length text

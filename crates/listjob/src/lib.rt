@@ -33,7 +33,7 @@ fn end_at(text: &mut [u8], at: usize) -> usize
 // The line at the address a with its end, in front of the text; where it ends, and the next address.
 fn put_line(image: &[u8], map: &[u8], a: u16, last: u16, text: &mut [u8]) -> Listed
     requires { ⌜ lineWhy (length (now image)) (now map) a last (length (now text)) ≡ 0 ⌝ }
-    ensures { λ r. ⌜ Wrote (Spec.endedAt (now (image .entry)) (now (map .entry)) a last) (now (text .entry)) (now (text .exit)) (Spec.endOf r)
+    ensures { λ r. ⌜ Wrote (Spec.endedAt (now (image .entry)) (now (map .entry)) a last) (now (text .entry)) (now (text .exit)) (Spec.endOfLine r)
         × Spec.Goes (now (image .entry)) (now (map .entry)) a last r ⌝ }
 {
     match listing::list_line(image, map, a, last, text) {
@@ -45,7 +45,7 @@ fn put_line(image: &[u8], map: &[u8], a: u16, last: u16, text: &mut [u8]) -> Lis
 
 // What is told of a line that begins at a place.
 fn moved(at: usize, listed: Listed) -> Listed
-    requires { ⌜ at + Spec.endOf listed ≤ 4294967295 ⌝ }
+    requires { ⌜ at + Spec.endOfLine listed ≤ 4294967295 ⌝ }
     ensures { λ r. ⌜ r ≡ Spec.movedBy at listed ⌝ }
 {
     match listed {
@@ -57,8 +57,8 @@ fn moved(at: usize, listed: Listed) -> Listed
 
 // The same from a place of the text on.
 fn line_at(image: &[u8], map: &[u8], a: u16, last: u16, text: &mut [u8], at: usize) -> Listed
-    requires { ⌜ Spec.Fits (now image) (now map) a last at (now text) ⌝ }
-    ensures { λ r. ⌜ WroteAt at (Spec.endedAt (now (image .entry)) (now (map .entry)) a last) (now (text .entry)) (now (text .exit)) (Spec.endOf r)
+    requires { ⌜ Spec.LineFits (now image) (now map) a last at (now text) ⌝ }
+    ensures { λ r. ⌜ WroteAt at (Spec.endedAt (now (image .entry)) (now (map .entry)) a last) (now (text .entry)) (now (text .exit)) (Spec.endOfLine r)
         × Spec.Goes (now (image .entry)) (now (map .entry)) a last r ⌝ }
 {
     moved(at, put_line(image, map, a, last, &mut text[at..]))

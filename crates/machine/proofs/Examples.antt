@@ -15,7 +15,7 @@ use Rattle.step.specs.declared.Cause.the-variants as Cause
 use Rattle.step.specs.Step.{after, kindIn}
 use Rattle.step.specs.Block.{Ready}
 use Rattle.machine.specs.Trail.{trailOf}
-use Rattle.machine.specs.Block.{none, also, EndsAt, blockMove}
+use Rattle.machine.specs.Block.{none, also, TrailEndsAt, blockMove}
 use Rattle.machine.proofs.Laws.Block.{block-move}
 
 abbrev board : List ℕ
@@ -61,6 +61,6 @@ ready =
 plain : Plain 1 2
 plain = record { source-some = omega arith; source-few = omega arith; destination-some = omega arith; destination-few = omega arith }
 
-both : EndsAt (after before image Cause.Nothing) (trailOf fitted-setting board (0 ∷ 0 ∷ []) before image) (blockMove 0x0e0a before image)
+both : TrailEndsAt (after before image Cause.Nothing) (trailOf fitted-setting board (0 ∷ 0 ∷ []) before image) (blockMove 0x0e0a before image)
 unfolding before cleared withReg withMark setReg reg regOf kindIn fitted-setting
 both = block-move fitted-setting refl board 0x0e0a refl plain (0 ∷ 0 ∷ []) before image Cause.Nothing (omega arith) ready refl (also refl (also refl none))

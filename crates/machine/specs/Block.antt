@@ -6,15 +6,15 @@ use mathlib.Core.Path.{_≡_}
 use Rattle.state.specs.declared.State.{State}
 use Rattle.state.specs.declared.Settings.{Settings}
 use Rattle.state.specs.State.{heard, reg}
-use Rattle.format8.specs.Format8.{rowOf}
+use Rattle.format8.specs.Format8.{moveRow}
 use Rattle.opcodes.specs.Fields.{blockSource, blockDestination}
-use Rattle.format8.specs.Page.{countOf, imageAfter, stateAfter}
+use Rattle.format8.specs.Page.{elementCount, imageMoved, stateMoved}
 use Rattle.step.specs.declared.Cause.{Cause}
 use Rattle.step.specs.declared.Cause.the-variants as Cause
 use Rattle.step.specs.Step.{After, after}
 use Rattle.step.specs.Block.{Unheard}
 use Rattle.machine.specs.Run.{noBlanks}
-use Rattle.machine.specs.Trail.{lastOf, tallyIn}
+use Rattle.machine.specs.Trail.{lastAfter, tallyIn}
 
 -- line words in which nothing is heard
 pub data AllUnheard (settings : Settings) (hearing : Bool) : List ℕ → Type 0 where
@@ -23,13 +23,13 @@ pub data AllUnheard (settings : Settings) (hearing : Bool) : List ℕ → Type 0
 
 -- n elements as the manual's page has them: the state and the image after, with cause 0
 abbrev pub elementsOf : ℕ → ℕ → State → List ℕ → After
-elementsOf op n s m = after (stateAfter (rowOf op) (blockSource op) (blockDestination op) n s) (imageAfter (rowOf op) (blockSource op) (blockDestination op) n s m) Cause.OpCode
+elementsOf op n s m = after (stateMoved (moveRow op) (blockSource op) (blockDestination op) n s) (imageMoved (moveRow op) (blockSource op) (blockDestination op) n s m) Cause.OpCode
 
 -- THE WHOLE BLOCK MOVE: as many elements as R0 says, 65,536 where it is 0
 abbrev pub blockMove : ℕ → State → List ℕ → After
-blockMove op s m = elementsOf op (countOf (reg s 0)) s m
+blockMove op s m = elementsOf op (elementCount (reg s 0)) s m
 
 -- a trail that ends here, with no blank on it
-pub record EndsAt (b : After) (rs : List After) (e : After) : Type 0 where
-  pub last : lastOf b rs ≡ e
+pub record TrailEndsAt (b : After) (rs : List After) (e : After) : Type 0 where
+  pub last : lastAfter b rs ≡ e
   pub tally : tallyIn rs ≡ noBlanks

@@ -14,7 +14,7 @@ use Rattle.machine.specs.Run.{runOf, ranOf}
 
 -- ---- a run: the map, the image and the line words have their lengths
 
-pub record Good (map image lines : List ℕ) : Type 0 where
+pub record GoodBoard (map image lines : List ℕ) : Type 0 where
   pub lent : Lent map image
   pub few : length lines ≤ 4096
 

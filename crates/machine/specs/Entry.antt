@@ -56,8 +56,8 @@ turned a = left (answered (turnPage (record { state = a .state; cause = a .cause
 unfoldable pub stepPage : Settings → List ℕ → List ℕ → ℕ → State → Left TurnPage (List ℕ)
 stepPage settings image map line s = call (stepWhy settings image map line) (turned (stepOf map (heard settings line) s image)) image
 
-abbrev pub ended : End → Left RanPage (List ℕ)
-ended (end s m t) = left (answered (ranPage (record { state = s; tally = t }))) m
+abbrev pub runEnd : End → Left RanPage (List ℕ)
+runEnd (end s m t) = left (answered (ranPage (record { state = s; tally = t }))) m
 
 unfoldable pub runPage : Settings → List ℕ → List ℕ → List ℕ → State → Left RanPage (List ℕ)
-runPage settings image map lines s = call (runWhy settings image map lines) (ended (runOf settings map lines s image)) image
+runPage settings image map lines s = call (runWhy settings image map lines) (runEnd (runOf settings map lines s image)) image

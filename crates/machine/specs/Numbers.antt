@@ -8,7 +8,7 @@ use Rattle.state.specs.State.{modeNumber}
 use Rattle.step.specs.declared.Turn.{Turn}
 use Rattle.step.specs.declared.Told.{Told}
 use Rattle.step.specs.declared.Told.the-variants as Told
-use Rattle.step.specs.Step.{causeNumber, addressOf}
+use Rattle.step.specs.Step.{causeNumber, causeAddress}
 use Rattle.machine.specs.declared.Ran.{Ran}
 use Rattle.machine.specs.declared.First.{First}
 use Rattle.machine.specs.declared.First.the-variants.{At, Never}
@@ -16,8 +16,8 @@ use Rattle.machine.specs.declared.First.the-variants.{At, Never}
 -- ---- a state
 
 -- R0 to R5, SP and PC
-abbrev pub registers : State → List ℕ
-registers s = s .regs .r0 ∷ s .regs .r1 ∷ s .regs .r2 ∷ s .regs .r3 ∷ s .regs .r4 ∷ s .regs .r5 ∷ s .regs .sp ∷ s .regs .pc ∷ []
+abbrev pub registersOf : State → List ℕ
+registersOf s = s .regs .r0 ∷ s .regs .r1 ∷ s .regs .r2 ∷ s .regs .r3 ∷ s .regs .r4 ∷ s .regs .r5 ∷ s .regs .sp ∷ s .regs .pc ∷ []
 
 -- N 8, Z 4, V 2, C 1
 abbrev pub indicators : Flags → ℕ
@@ -32,7 +32,7 @@ pub record StatePage : Type 0 where
   pub mark : ℕ
 
 unfoldable pub statePage : State → StatePage
-statePage s = record { registers = registers s; indicators = indicators (s .flags); i2 = digit (s .i2); mode = modeNumber (s .mode); mark = digit (s .mark) }
+statePage s = record { registers = registersOf s; indicators = indicators (s .flags); i2 = digit (s .i2); mode = modeNumber (s .mode); mark = digit (s .mark) }
 
 -- ---- after a step: the state, the cause, and the address that it tells or none
 
@@ -50,7 +50,7 @@ pub record TurnPage : Type 0 where
   pub told : Address
 
 abbrev pub turnPage : Turn → TurnPage
-turnPage t = record { state = statePage (t .state); cause = causeNumber (t .cause); told = toldOf (addressOf (t .cause)) }
+turnPage t = record { state = statePage (t .state); cause = causeNumber (t .cause); told = toldOf (causeAddress (t .cause)) }
 
 -- ---- after a run: the state, the count of blanks, and the place of the first with the address that it told, or none
 
@@ -58,9 +58,9 @@ pub data Place : Type 0 where
   place : ℕ → ℕ → Place
   none : Place
 
-abbrev pub placeOf : First → Place
-placeOf (At p a) = place p a
-placeOf Never = none
+abbrev pub placePage : First → Place
+placePage (At p a) = place p a
+placePage Never = none
 
 pub record RanPage : Type 0 where
   pub state : StatePage
@@ -68,4 +68,4 @@ pub record RanPage : Type 0 where
   pub first : Place
 
 abbrev pub ranPage : Ran → RanPage
-ranPage r = record { state = statePage (r .state); blanks = r .tally .blanks; first = placeOf (r .tally .first) }
+ranPage r = record { state = statePage (r .state); blanks = r .tally .blanks; first = placePage (r .tally .first) }

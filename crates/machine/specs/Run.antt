@@ -35,14 +35,14 @@ pub data End : Type 0 where
   end : State → List ℕ → Tally → End
 
 -- the rest of a run: from a place, over the line words that are left, with the tally so far
-unfoldable pub rest : Settings → List ℕ → ℕ → List ℕ → State → List ℕ → Tally → End
-rest settings map place [] s m t = end s m t
-rest settings map place (line ∷ lines) s m t =
+unfoldable pub restOfRun : Settings → List ℕ → ℕ → List ℕ → State → List ℕ → Tally → End
+restOfRun settings map place [] s m t = end s m t
+restOfRun settings map place (line ∷ lines) s m t =
     let a = stepOf map (heard settings line) s m in
-    rest settings map (place + 1) lines (a .state) (a .image) (noted t place (blankAt (a .cause)))
+    restOfRun settings map (place + 1) lines (a .state) (a .image) (noted t place (blankAt (a .cause)))
 
 abbrev pub runOf : Settings → List ℕ → List ℕ → State → List ℕ → End
-runOf settings map lines s m = rest settings map 0 lines s m noBlanks
+runOf settings map lines s m = restOfRun settings map 0 lines s m noBlanks
 
 abbrev pub ranOf : Ran → List ℕ → End
 ranOf r m = end (r .state) m (r .tally)
@@ -61,7 +61,7 @@ pub record Ended (settings : Settings) (map lines : List ℕ) (s : State) (m : L
   pub lent : Lent map n
 
 -- and a run whose log is lent, which may hold the last step's entries after it
-pub record Logged (settings : Settings) (map lines : List ℕ) (s : State) (m : List ℕ) (r : Last) (st : Store) : Type 0 where
+pub record LoggedRun (settings : Settings) (map lines : List ℕ) (s : State) (m : List ℕ) (r : Last) (st : Store) : Type 0 where
   pub same : ranOf (r .ran) (st .image) ≡ runOf settings map lines s m
   pub cause : r .cause ≡ lastCause settings map lines s m Cause.Nothing
   pub board : Board map st

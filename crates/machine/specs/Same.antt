@@ -12,13 +12,13 @@ use Rattle.machine.specs.declared.Tally.{Tally}
 use Rattle.machine.specs.declared.First.{First}
 use Rattle.machine.specs.declared.First.the-variants.{At, Never}
 use Rattle.machine.specs.Numbers.{RanPage}
-use Rattle.machine.specs.Run.{rest, runOf, ranOf}
-use Rattle.machine.specs.Entry.{ended, stepWhy}
+use Rattle.machine.specs.Run.{restOfRun, runOf, ranOf}
+use Rattle.machine.specs.Entry.{runEnd, stepWhy}
 
 -- ---- what is right
 
 abbrev pub sameOf : Settings → List ℕ → ℕ → ℕ → State → List ℕ → Left RanPage (List ℕ)
-sameOf settings map line n s m = ended (runOf settings map (replicate n line) s m)
+sameOf settings map line n s m = runEnd (runOf settings map (replicate n line) s m)
 
 -- the refusals are a step's: there is one line word
 unfoldable pub runSamePage : Settings → List ℕ → List ℕ → ℕ → ℕ → State → Left RanPage (List ℕ)
@@ -27,21 +27,21 @@ runSamePage settings image map line n s = call (stepWhy settings image map line)
 -- ---- a part of a run
 
 -- a first blank among so many steps, and a tally of so many
-abbrev pub Among : ℕ → First → Type 0
-Among n (At p a) = p < n
-Among n Never = Unit {0}
+abbrev pub BlankAmong : ℕ → First → Type 0
+BlankAmong n (At p a) = p < n
+BlankAmong n Never = Unit {0}
 
 pub record Tallied (n : ℕ) (t : Tally) : Type 0 where
   pub few : t .blanks ≤ n
-  pub among : Among n (t .first)
+  pub among : BlankAmong n (t .first)
 
 -- what a part promises after n steps: it ends as the rest of a run over these line words, with the tally so far
 pub record Parted (settings : Settings) (map lines : List ℕ) (n : ℕ) (b : Ran) (m : List ℕ) (r : Ran) (m′ : List ℕ) : Type 0 where
-  pub same : ranOf r m′ ≡ rest settings map n lines (b .state) m (b .tally)
+  pub same : ranOf r m′ ≡ restOfRun settings map n lines (b .state) m (b .tally)
   pub tallied : Tallied (n + length lines) (r .tally)
   pub lent : Lent map m′
 
 -- what all parts promise
-pub record Same (settings : Settings) (map : List ℕ) (line n : ℕ) (s : State) (m : List ℕ) (r : Ran) (m′ : List ℕ) : Type 0 where
+pub record SameLine (settings : Settings) (map : List ℕ) (line n : ℕ) (s : State) (m : List ℕ) (r : Ran) (m′ : List ℕ) : Type 0 where
   pub same : ranOf r m′ ≡ runOf settings map (replicate n line) s m
   pub lent : Lent map m′

@@ -25,9 +25,9 @@ trailOf settings map (line ∷ lines) s m =
     a ∷ trailOf settings map lines (a .state) (a .image)
 
 -- where a trail ends: after its last step, or at b where it has none
-abbrev pub lastOf : After → List After → After
-lastOf b [] = b
-lastOf b (a ∷ rs) = lastOf a rs
+abbrev pub lastAfter : After → List After → After
+lastAfter b [] = b
+lastAfter b (a ∷ rs) = lastAfter a rs
 
 -- how many of its steps are blanks
 unfoldable pub blanksIn : List After → ℕ
@@ -35,21 +35,21 @@ blanksIn [] = 0
 blanksIn (a ∷ rs) = cond (isBlank (a .cause)) 1 0 + blanksIn rs
 
 -- the first of them: a place moved on by n steps
-abbrev pub moved : ℕ → First → First
-moved n (At p a) = At (n + p) a
-moved n Never = Never
+abbrev pub placeMoved : ℕ → First → First
+placeMoved n (At p a) = At (n + p) a
+placeMoved n Never = Never
 
 -- this step, where it is a blank, or else a later one
 abbrev pub here : Told → First → First
 here (Told.At a) later = At 0 a
-here Told.Nowhere later = moved 1 later
+here Told.Nowhere later = placeMoved 1 later
 
-unfoldable pub firstIn : List After → First
-firstIn [] = Never
-firstIn (a ∷ rs) = here (blankAt (a .cause)) (firstIn rs)
+unfoldable pub firstBlankIn : List After → First
+firstBlankIn [] = Never
+firstBlankIn (a ∷ rs) = here (blankAt (a .cause)) (firstBlankIn rs)
 
 abbrev pub tallyIn : List After → Tally
-tallyIn rs = record { blanks = blanksIn rs; first = firstIn rs }
+tallyIn rs = record { blanks = blanksIn rs; first = firstBlankIn rs }
 
 -- the cause of the step at a place
 abbrev pub causeAt : List After → ℕ → Cause

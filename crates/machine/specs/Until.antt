@@ -20,7 +20,7 @@ use Rattle.machine.specs.declared.Stop.{Stop}
 use Rattle.machine.specs.declared.Stopped.{Stopped}
 use Rattle.machine.specs.declared.Stopped.the-variants as Stopped
 use Rattle.machine.specs.declared.Until.{Until}
-use Rattle.machine.specs.Numbers.{TurnPage, turnPage, Place, placeOf}
+use Rattle.machine.specs.Numbers.{TurnPage, turnPage, Place, placePage}
 use Rattle.machine.specs.Run.{End, end, noted, runOf, lastCause}
 use Rattle.machine.specs.Entry.{runWhy}
 
@@ -67,7 +67,7 @@ pub record StopPage : Type 0 where
   pub steps : ℕ
 
 abbrev pub stopPage : Stop → StopPage
-stopPage r = record { turn = turnPage (r .turn); blanks = r .tally .blanks; first = placeOf (r .tally .first); steps = r .steps }
+stopPage r = record { turn = turnPage (r .turn); blanks = r .tally .blanks; first = placePage (r .tally .first); steps = r .steps }
 
 abbrev pub stoppedPage : Stopped → Page StopPage
 stoppedPage (Stopped.Done r) = answered (stopPage r)

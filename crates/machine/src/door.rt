@@ -11,7 +11,7 @@ ghost use Rattle.machine.specs.Door as Spec;
 
 // A run over line words.
 pub fn run(s: State, image: &mut [u8], map: &[u8], settings: Settings, lines: &[u16]) -> Ran
-    requires { ⌜ Spec.Good (now map) (now image) (now lines) ⌝ }
+    requires { ⌜ Spec.GoodBoard (now map) (now image) (now lines) ⌝ }
     ensures { λ r. ⌜ Spec.Runs settings (now (map .entry)) (now (lines .entry)) s (now (image .entry)) r (now (image .exit)) ⌝ }
 {
     let last = run_on(s, image, map, settings, lines);

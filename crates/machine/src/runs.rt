@@ -61,7 +61,7 @@ pub(crate) fn run_from(
     lines: &[u16],
 ) -> Last
     requires { ⌜ (Board (now map) (beside (now image) (now log))) × (length (now lines) ≤ 4096) ⌝ }
-    ensures { λ r. ⌜ Spec.Logged settings (now (map .entry)) (now (lines .entry)) s (now (image .entry)) r (beside (now (image .exit)) (now (log .exit))) ⌝ }
+    ensures { λ r. ⌜ Spec.LoggedRun settings (now (map .entry)) (now (lines .entry)) s (now (image .entry)) r (beside (now (image .exit)) (now (log .exit))) ⌝ }
 {
     let mut state = s;
     let mut tally = Tally {

@@ -15,8 +15,8 @@ ghost use Rattle.machine.specs.Same as Spec;
 
 // A place moved on by n steps.
 fn moved(n: u16, first: First) -> First
-    requires { ⌜ Spec.Among (65536 - n) first ⌝ }
-    ensures { λ r. ⌜ r ≡ Trail.moved n first ⌝ }
+    requires { ⌜ Spec.BlankAmong (65536 - n) first ⌝ }
+    ensures { λ r. ⌜ r ≡ Trail.placeMoved n first ⌝ }
 {
     match first {
         First::At(place, address) => First::At(n + place, address),
@@ -36,8 +36,8 @@ fn or_first(first: First, other: First) -> First
 
 // The tally of steps that follow n steps.
 fn joined(n: u16, t: Tally, u: Tally) -> Tally
-    requires { ⌜ (t .blanks + u .blanks ≤ 65535) × Spec.Among (65536 - n) (u .first) ⌝ }
-    ensures { λ r. ⌜ r ≡ Counted.joined n t u ⌝ }
+    requires { ⌜ (t .blanks + u .blanks ≤ 65535) × Spec.BlankAmong (65536 - n) (u .first) ⌝ }
+    ensures { λ r. ⌜ r ≡ Counted.tallyJoined n t u ⌝ }
 {
     let first = t.first;
     let second = u.first;
@@ -84,7 +84,7 @@ fn parts(
     steps: u16,
 ) -> Ran
     requires { ⌜ (Lent (now map) (now image)) × (now lines ≡ replicate 128 line) ⌝ }
-    ensures { λ r. ⌜ Spec.Same settings (now (map .entry)) line steps s (now (image .entry)) r (now (image .exit)) ⌝ }
+    ensures { λ r. ⌜ Spec.SameLine settings (now (map .entry)) line steps s (now (image .entry)) r (now (image .exit)) ⌝ }
 {
     let tally = Tally {
         blanks: 0,
@@ -111,7 +111,7 @@ pub(crate) fn run_same_on(
     steps: u16,
 ) -> Ran
     requires { ⌜ Lent (now map) (now image) ⌝ }
-    ensures { λ r. ⌜ Spec.Same settings (now (map .entry)) line steps s (now (image .entry)) r (now (image .exit)) ⌝ }
+    ensures { λ r. ⌜ Spec.SameLine settings (now (map .entry)) line steps s (now (image .entry)) r (now (image .exit)) ⌝ }
 {
     let lines = [line; 128];
     parts(s, image, map, settings, line, &lines, steps)

@@ -13,7 +13,7 @@ use Rattle.state.specs.declared.State.{State}
 use Rattle.state.specs.declared.Settings.{Settings}
 use Rattle.step.specs.declared.Turn.{Turn}
 use Rattle.step.specs.declared.Told.{Told}
-use Rattle.step.specs.Step.{causeNumber, addressOf}
+use Rattle.step.specs.Step.{causeNumber, causeAddress}
 use Rattle.machine.specs.declared.Ran.{Ran}
 use Rattle.machine.specs.declared.Powered.{Powered}
 use Rattle.machine.specs.declared.Powered.the-variants as Powered
@@ -24,7 +24,7 @@ use Rattle.machine.specs.declared.Finished.the-variants as Finished
 use Rattle.refusal.specs.Numbers.{noState}
 use Rattle.refusal.specs.Page.{left, told}
 use Rattle.refusal.proofs.Laws.Refusal.{neither}
-use Rattle.machine.specs.Numbers.{statePage, nowhere, toldOf, placeOf, Place}
+use Rattle.machine.specs.Numbers.{statePage, nowhere, toldOf, placePage, Place}
 use Rattle.machine.specs.Entry.{poweredPage, steppedPage, finishedPage, powerUpPage, stepPage, runPage}
 use lib.Dec.{eqb, ltb}
 use Rattle.machine.specs.declared.Stop.{Stop}
@@ -34,7 +34,7 @@ use Rattle.machine.specs.declared.Stopped.the-variants as Stopped
 use Rattle.machine.specs.Same.{runSamePage}
 use Rattle.machine.specs.Until.{stoppedPage, runUntilPage}
 use Rattle.machine_c.specs.Runs.{runSameCall, untilFrom, stopBytes, refusedUntil, runUntilCall}
-use Rattle.machine_c.specs.Layout.{bytesOf, tallyBytes, stateFrom, settingsFrom, over, notState, notTally, refusedState, refusedSettings, refusedUp, refusedStep, refusedRun, laid}
+use Rattle.machine_c.specs.Layout.{stateBytes, tallyBytes, stateFrom, settingsFrom, stateRefused, notState, notTally, refusedState, refusedSettings, refusedUp, refusedStep, refusedRun, laid}
 use Rattle.machine_c.proofs.Laws.Laid.{laid-all, laid-state, laid-tally}
 use Rattle.machine_c.specs.Calls.{powerUpCall, stepCall, runCall}
 
@@ -57,7 +57,7 @@ up-length b w e = state-length b (neither (notState b) (refusedSettings w) e .0)
 
 pub step-length : (b w : List ℕ) → refusedStep b w ≡ false → length b ≡ 24
 unfolding refusedState refusedStep
-step-length b w e = state-length b (neither (notState b) (over b) (neither (refusedState b) (refusedSettings w) e .0) .0)
+step-length b w e = state-length b (neither (notState b) (stateRefused b) (neither (refusedState b) (refusedSettings w) e .0) .0)
 
 pub run-length : (b t w : List ℕ) → refusedRun b t w ≡ false → length b ≡ 24
 unfolding refusedRun
@@ -75,7 +75,7 @@ module _ (b image map w : List ℕ) where
   up-bad e = rw e
 
   pub up-done : (b′ m : List ℕ) (g : Settings) (s : State) (r : Powered) → refusedUp b w ≡ false → g ≡ settingsFrom w → left (poweredPage r) m ≡ powerUpPage g image map
-      → r ≡ Powered.Up s → b′ ≡ laid (bytesOf (statePage s) 0 nowhere) b → told 0 (b′, m) ≡ powerUpCall b image map w
+      → r ≡ Powered.Up s → b′ ≡ laid (stateBytes (statePage s) 0 nowhere) b → told 0 (b′, m) ≡ powerUpCall b image map w
   unfolding powerUpCall
   up-done b′ m g s r e j f h d = rw (e, ← j, ← f, h, d, laid-state b s 0 nowhere (up-length b w e))
 
@@ -92,8 +92,8 @@ module _ (b image map w : List ℕ) (line : ℕ) where
   went-bad e = rw e
 
   pub went-done : (b′ m : List ℕ) (s : State) (g : Settings) (t : Turn) (r : Stepped) (k : ℕ) (at : Told) → refusedStep b w ≡ false → s ≡ stateFrom b → g ≡ settingsFrom w
-      → left (steppedPage r) m ≡ stepPage g image map line s → r ≡ Stepped.Done t → k ≡ causeNumber (t .cause) → at ≡ addressOf (t .cause)
-      → b′ ≡ laid (bytesOf (statePage (t .state)) k (toldOf at)) b → told 0 (b′, m) ≡ stepCall b image map w line
+      → left (steppedPage r) m ≡ stepPage g image map line s → r ≡ Stepped.Done t → k ≡ causeNumber (t .cause) → at ≡ causeAddress (t .cause)
+      → b′ ≡ laid (stateBytes (statePage (t .state)) k (toldOf at)) b → told 0 (b′, m) ≡ stepCall b image map w line
   unfolding stepCall
   went-done b′ m s g t r k at e f j p h c a d =
       rw (e, ← f, ← j, ← p, h, d, laid-state b (t .state) k (toldOf at) (step-length b w e), c, a)
@@ -112,11 +112,11 @@ module _ (b t image map w lines : List ℕ) where
 
   pub ended-done : (b′ t′ m : List ℕ) (s : State) (g : Settings) (ran : Ran) (r : Finished) → refusedRun b t w ≡ false → s ≡ stateFrom b → g ≡ settingsFrom w
       → left (finishedPage r) m ≡ runPage g image map lines s → r ≡ Finished.Done ran
-      → b′ ≡ laid (bytesOf (statePage (ran .state)) 0 nowhere) b → t′ ≡ laid (tallyBytes (ran .tally .blanks) (placeOf (ran .tally .first))) t
+      → b′ ≡ laid (stateBytes (statePage (ran .state)) 0 nowhere) b → t′ ≡ laid (tallyBytes (ran .tally .blanks) (placePage (ran .tally .first))) t
       → told 0 (b′, t′, m) ≡ runCall b t image map w lines
   unfolding runCall
   ended-done b′ t′ m s g ran r e f j p h d q =
-      rw (e, ← f, ← j, ← p, h, d, laid-state b (ran .state) 0 nowhere (run-length b t w e), q, laid-tally t (ran .tally .blanks) (placeOf (ran .tally .first)) (tally-length b t w e))
+      rw (e, ← f, ← j, ← p, h, d, laid-state b (ran .state) 0 nowhere (run-length b t w e), q, laid-tally t (ran .tally .blanks) (placePage (ran .tally .first)) (tally-length b t w e))
 
   pub ended-refused : (m : List ℕ) (s : State) (g : Settings) (why : ℕ) (r : Finished) → refusedRun b t w ≡ false → s ≡ stateFrom b → g ≡ settingsFrom w
       → left (finishedPage r) m ≡ runPage g image map lines s → r ≡ Finished.Refused why → told why (b, t, m) ≡ runCall b t image map w lines
@@ -132,11 +132,11 @@ module _ (b t image map w : List ℕ) (line n : ℕ) where
 
   pub same-done : (b′ t′ m : List ℕ) (s : State) (g : Settings) (ran : Ran) (r : Finished) → refusedRun b t w ≡ false → s ≡ stateFrom b → g ≡ settingsFrom w
       → left (finishedPage r) m ≡ runSamePage g image map line n s → r ≡ Finished.Done ran
-      → b′ ≡ laid (bytesOf (statePage (ran .state)) 0 nowhere) b → t′ ≡ laid (tallyBytes (ran .tally .blanks) (placeOf (ran .tally .first))) t
+      → b′ ≡ laid (stateBytes (statePage (ran .state)) 0 nowhere) b → t′ ≡ laid (tallyBytes (ran .tally .blanks) (placePage (ran .tally .first))) t
       → told 0 (b′, t′, m) ≡ runSameCall b t image map w line n
   unfolding runSameCall
   same-done b′ t′ m s g ran r e f j p h d q =
-      rw (e, ← f, ← j, ← p, h, d, laid-state b (ran .state) 0 nowhere (run-length b t w e), q, laid-tally t (ran .tally .blanks) (placeOf (ran .tally .first)) (tally-length b t w e))
+      rw (e, ← f, ← j, ← p, h, d, laid-state b (ran .state) 0 nowhere (run-length b t w e), q, laid-tally t (ran .tally .blanks) (placePage (ran .tally .first)) (tally-length b t w e))
 
   pub same-refused : (m : List ℕ) (s : State) (g : Settings) (why : ℕ) (r : Finished) → refusedRun b t w ≡ false → s ≡ stateFrom b → g ≡ settingsFrom w
       → left (finishedPage r) m ≡ runSamePage g image map line n s → r ≡ Finished.Refused why → told why (b, t, m) ≡ runSameCall b t image map w line n
@@ -166,8 +166,8 @@ module _ (b t image map w lines : List ℕ) (asked : ℕ) where
   until-bad e = rw e
 
   pub until-done : (b′ t′ m : List ℕ) (s : State) (g : Settings) (u : Until) (stop : Stop) (r : Stopped) (k : ℕ) (at : Told) → refusedUntil b t w asked ≡ false → s ≡ stateFrom b → g ≡ settingsFrom w
-      → u ≡ untilFrom asked → left (stoppedPage r) m ≡ runUntilPage g image map lines u s → r ≡ Stopped.Done stop → k ≡ causeNumber (stop .turn .cause) → at ≡ addressOf (stop .turn .cause)
-      → b′ ≡ laid (bytesOf (statePage (stop .turn .state)) k (toldOf at)) b → t′ ≡ laid (stopBytes (stop .tally .blanks) (placeOf (stop .tally .first)) (stop .steps)) t
+      → u ≡ untilFrom asked → left (stoppedPage r) m ≡ runUntilPage g image map lines u s → r ≡ Stopped.Done stop → k ≡ causeNumber (stop .turn .cause) → at ≡ causeAddress (stop .turn .cause)
+      → b′ ≡ laid (stateBytes (statePage (stop .turn .state)) k (toldOf at)) b → t′ ≡ laid (stopBytes (stop .tally .blanks) (placePage (stop .tally .first)) (stop .steps)) t
       → told 0 (b′, t′, m) ≡ runUntilCall b t image map w lines asked
   unfolding runUntilCall
   until-done b′ t′ m s g u stop r k at e f j i p h c a d q =
@@ -181,7 +181,7 @@ module _ (b t image map w lines : List ℕ) (asked : ℕ) where
         d,
         laid-state b (stop .turn .state) k (toldOf at) (until-state b t w asked e),
         q,
-        laid-stop t (stop .tally .blanks) (placeOf (stop .tally .first)) (stop .steps) (until-tally b t w asked e),
+        laid-stop t (stop .tally .blanks) (placePage (stop .tally .first)) (stop .steps) (until-tally b t w asked e),
         c,
         a,
       )

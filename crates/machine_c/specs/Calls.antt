@@ -7,16 +7,16 @@ use Rattle.refusal.specs.Numbers.{noState}
 use Rattle.refusal.specs.Page.{call, Told, reading}
 use Rattle.machine.specs.Numbers.{StatePage, nowhere, TurnPage, RanPage}
 use Rattle.machine.specs.Entry.{powerUpPage, stepPage, runPage}
-use Rattle.machine_c.specs.Layout.{bytesOf, tallyBytes, stateFrom, settingsFrom, refusedUp, refusedStep, refusedRun}
+use Rattle.machine_c.specs.Layout.{stateBytes, tallyBytes, stateFrom, settingsFrom, refusedUp, refusedStep, refusedRun}
 
 -- ---- power-up and one step: the state's bytes and the image
 
 -- the cause that a power-up leaves is 0, and it tells no address
 abbrev pub upIn : StatePage → List ℕ → List ℕ × List ℕ
-upIn p m = (bytesOf p 0 nowhere, m)
+upIn p m = (stateBytes p 0 nowhere, m)
 
 abbrev pub stepIn : TurnPage → List ℕ → List ℕ × List ℕ
-stepIn p m = (bytesOf (p .state) (p .cause) (p .told), m)
+stepIn p m = (stateBytes (p .state) (p .cause) (p .told), m)
 
 unfoldable pub powerUpCall : List ℕ → List ℕ → List ℕ → List ℕ → Told (List ℕ × List ℕ)
 powerUpCall b image map w = reading upIn (λ m. (b, m)) (call (cond (refusedUp b w) noState 0) (powerUpPage (settingsFrom w) image map) image)
@@ -26,8 +26,8 @@ stepCall b image map w line = reading stepIn (λ m. (b, m)) (call (cond (refused
 
 -- ---- a run: the state's bytes, the tally's and the image. The cause that it leaves is 0, and it tells no address but in the tally
 
-abbrev pub runIn : RanPage → List ℕ → List ℕ × List ℕ × List ℕ
-runIn p m = (bytesOf (p .state) 0 nowhere, tallyBytes (p .blanks) (p .first), m)
+abbrev pub runLaid : RanPage → List ℕ → List ℕ × List ℕ × List ℕ
+runLaid p m = (stateBytes (p .state) 0 nowhere, tallyBytes (p .blanks) (p .first), m)
 
 unfoldable pub runCall : List ℕ → List ℕ → List ℕ → List ℕ → List ℕ → List ℕ → Told (List ℕ × List ℕ × List ℕ)
-runCall b t image map w lines = reading runIn (λ m. (b, t, m)) (call (cond (refusedRun b t w) noState 0) (runPage (settingsFrom w) image map lines (stateFrom b)) image)
+runCall b t image map w lines = reading runLaid (λ m. (b, t, m)) (call (cond (refusedRun b t w) noState 0) (runPage (settingsFrom w) image map lines (stateFrom b)) image)

@@ -13,16 +13,16 @@ use Rattle.machine.specs.Back.{stateOf}
 -- ---- 24 bytes: R0 to R5, SP and PC; 16 the indicators; 17 I2; 18 the mode; 19 the cause; 20 the mark of a late IEN;
 -- 21 whether an address is told; 22 and 23 that address, 0 where there is none
 
-abbrev pub tells : Address → ℕ
-tells (address a) = 1
-tells nowhere = 0
+abbrev pub addressTold : Address → ℕ
+addressTold (address a) = 1
+addressTold nowhere = 0
 
 abbrev pub wordTold : Address → ℕ
 wordTold (address a) = a
 wordTold nowhere = 0
 
-unfoldable pub bytesOf : StatePage → ℕ → Address → List ℕ
-bytesOf p cause told = bytesIn (p .registers) ++ (p .indicators ∷ p .i2 ∷ p .mode ∷ cause ∷ p .mark ∷ tells told ∷ bytesIn (wordTold told ∷ []))
+unfoldable pub stateBytes : StatePage → ℕ → Address → List ℕ
+stateBytes p cause told = bytesIn (p .registers) ++ (p .indicators ∷ p .i2 ∷ p .mode ∷ cause ∷ p .mark ∷ addressTold told ∷ bytesIn (wordTold told ∷ []))
 
 -- R0 to R5, SP and PC from their bytes
 abbrev pub registersIn : List ℕ → List ℕ
@@ -36,14 +36,14 @@ abbrev pub stateFrom : List ℕ → State
 stateFrom b = stateOf (pageFrom b)
 
 -- refused: not 24 bytes, indicators over 15, I2 over 1, a mode over 5, a cause over 9, a mark over 1, byte 21 over 1
-abbrev pub over : List ℕ → Bool
-over b = ((((ltb 15 (byteAt b 16) || ltb 1 (byteAt b 17)) || ltb 5 (byteAt b 18)) || ltb 9 (byteAt b 19)) || ltb 1 (byteAt b 20)) || ltb 1 (byteAt b 21)
+abbrev pub stateRefused : List ℕ → Bool
+stateRefused b = ((((ltb 15 (byteAt b 16) || ltb 1 (byteAt b 17)) || ltb 5 (byteAt b 18)) || ltb 9 (byteAt b 19)) || ltb 1 (byteAt b 20)) || ltb 1 (byteAt b 21)
 
 abbrev pub notState : List ℕ → Bool
 notState b = not (eqb (length b) 24)
 
 unfoldable pub refusedState : List ℕ → Bool
-refusedState b = notState b || over b
+refusedState b = notState b || stateRefused b
 
 -- ---- 6 bytes: the blanks; the place of the first, FFFF where there is none; the address that it told, 0 where there is none
 

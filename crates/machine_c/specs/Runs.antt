@@ -11,13 +11,13 @@ use Rattle.machine.specs.declared.Until.{Until}
 use Rattle.machine.specs.Numbers.{Place}
 use Rattle.machine.specs.Same.{runSamePage}
 use Rattle.machine.specs.Until.{StopPage, runUntilPage}
-use Rattle.machine_c.specs.Layout.{bytesOf, placeNumber, placeTold, stateFrom, settingsFrom, refusedStep, refusedRun}
-use Rattle.machine_c.specs.Calls.{runIn}
+use Rattle.machine_c.specs.Layout.{stateBytes, placeNumber, placeTold, stateFrom, settingsFrom, refusedStep, refusedRun}
+use Rattle.machine_c.specs.Calls.{runLaid}
 
 -- ---- over one line word: as a run's
 
 unfoldable pub runSameCall : List ℕ → List ℕ → List ℕ → List ℕ → List ℕ → ℕ → ℕ → Told (List ℕ × List ℕ × List ℕ)
-runSameCall b t image map w line n = reading runIn (λ m. (b, t, m)) (call (cond (refusedRun b t w) noState 0) (runSamePage (settingsFrom w) image map line n (stateFrom b)) image)
+runSameCall b t image map w line n = reading runLaid (λ m. (b, t, m)) (call (cond (refusedRun b t w) noState 0) (runSamePage (settingsFrom w) image map line n (stateFrom b)) image)
 
 -- ---- until something happens
 
@@ -35,7 +35,7 @@ refusedUntil b t w asked = (refusedStep b w || not (eqb (length t) 8)) || ltb 15
 
 -- the state has the cause of the last step and the address that it tells
 abbrev pub stopIn : StopPage → List ℕ → List ℕ × List ℕ × List ℕ
-stopIn p m = (bytesOf (p .turn .state) (p .turn .cause) (p .turn .told), stopBytes (p .blanks) (p .first) (p .steps), m)
+stopIn p m = (stateBytes (p .turn .state) (p .turn .cause) (p .turn .told), stopBytes (p .blanks) (p .first) (p .steps), m)
 
 unfoldable pub runUntilCall : List ℕ → List ℕ → List ℕ → List ℕ → List ℕ → List ℕ → ℕ → Told (List ℕ × List ℕ × List ℕ)
 runUntilCall b t image map w lines asked =

@@ -47,7 +47,7 @@ fn mode_of(n: u8) -> Mode
 
 // Whether bytes 16 to 21 hold more than they may.
 fn over(b: &[u8]) -> bool
-    ensures { λ r. ⌜ r ≡ Spec.over (now (b .entry)) ⌝ }
+    ensures { λ r. ⌜ r ≡ Spec.stateRefused (now (b .entry)) ⌝ }
 {
     (15 < byte_at(b, 16))
         | (1 < byte_at(b, 17))
@@ -132,7 +132,7 @@ pub fn state_from(b: &[u8]) -> State
 
 // 1 where an address is told.
 fn tells(told: Told) -> u8
-    ensures { λ r. ⌜ r ≡ Spec.tells (Page.toldOf told) ⌝ }
+    ensures { λ r. ⌜ r ≡ Spec.addressTold (Page.toldOf told) ⌝ }
 {
     match told {
         Told::Nowhere => 0,
@@ -152,7 +152,7 @@ fn word_told(told: Told) -> u16
 
 // The bytes of a state, of the cause that led to it and of the address that it tells.
 fn state_bytes(s: State, cause: u8, told: Told) -> [u8; 24]
-    ensures { λ r. ⌜ r ≡ Spec.bytesOf (Page.statePage s) cause (Page.toldOf told) ⌝ }
+    ensures { λ r. ⌜ r ≡ Spec.stateBytes (Page.statePage s) cause (Page.toldOf told) ⌝ }
 {
     let mode = s.mode;
     let address = word_told(told);
@@ -186,7 +186,7 @@ fn state_bytes(s: State, cause: u8, told: Told) -> [u8; 24]
 
 // The same over a lent buffer of 24 bytes; another is left as lent.
 pub fn put_state(b: &mut [u8], s: State, cause: u8, told: Told)
-    ensures { λ _. ⌜ now (b .exit) ≡ Spec.laid (Spec.bytesOf (Page.statePage s) cause (Page.toldOf told)) (now (b .entry)) ⌝ }
+    ensures { λ _. ⌜ now (b .exit) ≡ Spec.laid (Spec.stateBytes (Page.statePage s) cause (Page.toldOf told)) (now (b .entry)) ⌝ }
 {
     if b.len() != 24 {
         return;
@@ -197,7 +197,7 @@ pub fn put_state(b: &mut [u8], s: State, cause: u8, told: Told)
 
 // The place of the first blank, FFFF where there is none.
 pub(crate) fn place_of(first: First) -> u16
-    ensures { λ r. ⌜ r ≡ Spec.placeNumber (Page.placeOf first) ⌝ }
+    ensures { λ r. ⌜ r ≡ Spec.placeNumber (Page.placePage first) ⌝ }
 {
     match first {
         First::At(place, _) => place,
@@ -207,7 +207,7 @@ pub(crate) fn place_of(first: First) -> u16
 
 // The address that the first blank told, 0 where there is none.
 pub(crate) fn place_told(first: First) -> u16
-    ensures { λ r. ⌜ r ≡ Spec.placeTold (Page.placeOf first) ⌝ }
+    ensures { λ r. ⌜ r ≡ Spec.placeTold (Page.placePage first) ⌝ }
 {
     match first {
         First::At(_, address) => address,
@@ -217,7 +217,7 @@ pub(crate) fn place_told(first: First) -> u16
 
 // The blanks, the place of the first and the address that it told.
 fn tally_bytes(t: Tally) -> [u8; 6]
-    ensures { λ r. ⌜ r ≡ Spec.tallyBytes (t .blanks) (Page.placeOf (t .first)) ⌝ }
+    ensures { λ r. ⌜ r ≡ Spec.tallyBytes (t .blanks) (Page.placePage (t .first)) ⌝ }
 {
     let first = t.first;
     let place = place_of(first);
@@ -234,7 +234,7 @@ fn tally_bytes(t: Tally) -> [u8; 6]
 
 // The same over a lent buffer of 6 bytes; another is left as lent.
 pub fn put_tally(b: &mut [u8], t: Tally)
-    ensures { λ _. ⌜ now (b .exit) ≡ Spec.laid (Spec.tallyBytes (t .blanks) (Page.placeOf (t .first))) (now (b .entry)) ⌝ }
+    ensures { λ _. ⌜ now (b .exit) ≡ Spec.laid (Spec.tallyBytes (t .blanks) (Page.placePage (t .first))) (now (b .entry)) ⌝ }
 {
     if b.len() != 6 {
         return;

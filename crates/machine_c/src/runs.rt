@@ -77,7 +77,7 @@ fn refused_until(b: &[u8], t: &[u8], w: &[u8], asked: u8) -> bool
 
 // The blanks, the place of the first, the address that it told, and the steps.
 fn stop_bytes(t: Tally, steps: u16) -> [u8; 8]
-    ensures { λ r. ⌜ r ≡ Spec.stopBytes (t .blanks) (Page.placeOf (t .first)) steps ⌝ }
+    ensures { λ r. ⌜ r ≡ Spec.stopBytes (t .blanks) (Page.placePage (t .first)) steps ⌝ }
 {
     let first = t.first;
     let place = place_of(first);
@@ -96,7 +96,7 @@ fn stop_bytes(t: Tally, steps: u16) -> [u8; 8]
 
 // The same over a lent buffer of 8 bytes; another is left as lent.
 fn put_stop(b: &mut [u8], t: Tally, steps: u16)
-    ensures { λ _. ⌜ now (b .exit) ≡ Layout.laid (Spec.stopBytes (t .blanks) (Page.placeOf (t .first)) steps) (now (b .entry)) ⌝ }
+    ensures { λ _. ⌜ now (b .exit) ≡ Layout.laid (Spec.stopBytes (t .blanks) (Page.placePage (t .first)) steps) (now (b .entry)) ⌝ }
 {
     if b.len() != 8 {
         return;

@@ -24,8 +24,8 @@ incrementOf word k = 2
 incrementOf byte k = cond (ltb k 6) 1 2
 
 -- With PC, modes 6 and 7 add the PC that stands after their offset.
-abbrev pub baseOf : ℕ → ℕ → ℕ → ℕ
-baseOf k r pc = cond (eqb k 7) (plus pc 2) r
+abbrev pub indexBase : ℕ → ℕ → ℕ → ℕ
+indexBase k r pc = cond (eqb k 7) (plus pc 2) r
 
 -- at an address stands the operand's; the register `which` moves to v
 unfoldable pub deferred : ℕ → ℕ → ℕ → Work Place
@@ -64,13 +64,13 @@ module _ (step k r pc : ℕ) where
   unfoldable pub indexed : Work Place
   indexed = do
     x ← load pc
-    give (Mem (plus (baseOf k r pc) x) 7 (plus pc 2))
+    give (Mem (plus (indexBase k r pc) x) 7 (plus pc 2))
 
   -- @X(REG): the register plus the next word is the address of the address
   unfoldable pub indexedDeferred : Work Place
   indexedDeferred = do
     x ← load pc
-    deferred (plus (baseOf k r pc) x) 7 (plus pc 2)
+    deferred (plus (indexBase k r pc) x) 7 (plus pc 2)
 
   -- modes 0 to 7
   unfoldable pub locate : ℕ → Work Place

@@ -63,7 +63,7 @@ pub fn byte_step(k: u16) -> u16
 }
 
 fn base(k: u16, r: u16, pc: u16) -> u16
-    ensures { λ b. ⌜ b ≡ Spec.baseOf k r pc ⌝ }
+    ensures { λ b. ⌜ b ≡ Spec.indexBase k r pc ⌝ }
 {
     if k == 7 { plus(pc, 2) } else { r }
 }

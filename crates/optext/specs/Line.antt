@@ -149,12 +149,12 @@ unfoldable pub wordText : ℕ → List ℕ
 wordText w = rowText wordRow w 0 0
 
 -- the line in the word's own row
-unfoldable pub lineText : ℕ → ℕ → ℕ → List ℕ
-lineText w x y = rowText (rowOf w) w x y
+unfoldable pub opText : ℕ → ℕ → ℕ → List ℕ
+opText w x y = rowText (rowOf w) w x y
 
 -- the number of words of an op code, and the text of the op code that begins a list of words
 unfoldable pub taken : ℕ → ℕ
 taken w = 1 + takes (firstOf (rowOf w)) w + takes (secondOf (rowOf w)) w
 
 unfoldable pub textOf : List ℕ → List ℕ
-textOf ws = lineText (getD ws 0 0) (getD ws 1 0) (getD ws (1 + takes (firstOf (rowOf (getD ws 0 0))) (getD ws 0 0)) 0)
+textOf ws = opText (getD ws 0 0) (getD ws 1 0) (getD ws (1 + takes (firstOf (rowOf (getD ws 0 0))) (getD ws 0 0)) 0)

@@ -207,11 +207,11 @@ kindAs c =
     (cond (eqb c (code "W")) Word
     None)))))))))))
 
-abbrev pub lineOf : Row → List ℕ
-lineOf r =
+abbrev pub rowBytes : Row → List ℕ
+rowBytes r =
     getD (r .name) 0 32 ∷ getD (r .name) 1 32 ∷ getD (r .name) 2 32 ∷ getD (r .name) 3 32 ∷ getD (r .name) 4 32
     ∷ (hex4 (r .base) ++ (letterOf (r .first) ∷ letterOf (r .second) ∷ []))
 
-abbrev pub flat : List Row → List ℕ
-flat [] = []
-flat (r ∷ rs) = lineOf r ++ flat rs
+abbrev pub tableBytes : List Row → List ℕ
+tableBytes [] = []
+tableBytes (r ∷ rs) = rowBytes r ++ tableBytes rs

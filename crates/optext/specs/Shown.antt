@@ -10,19 +10,19 @@ use lib.ListN.{length}
 abbrev pub other : ℕ → ℕ → Bool
 other c x = not (eqb x c)
 
-pub record Other (c x : ℕ) : Type 0 where
+pub record OtherLetter (c x : ℕ) : Type 0 where
   pub is : T (other c x)
 
 pub data Without (c : ℕ) : List ℕ → Type 0 where
   none : Without c []
-  more : {x : ℕ} {t : List ℕ} → Other c x → Without c t → Without c (x ∷ t)
+  more : {x : ℕ} {t : List ℕ} → OtherLetter c x → Without c t → Without c (x ∷ t)
 
-abbrev pub lastOf : ℕ → List ℕ → ℕ
-lastOf d [] = d
-lastOf d (x ∷ t) = lastOf x t
+abbrev pub lastLetter : ℕ → List ℕ → ℕ
+lastLetter d [] = d
+lastLetter d (x ∷ t) = lastLetter x t
 
 -- a text that stands in a line as it is
 pub record Stands (t : List ℕ) : Type 0 where
   pub size : length t ≤ 32
   pub colon : Without 58 t
-  pub ending : Other 32 (lastOf 0 t)
+  pub ending : OtherLetter 32 (lastLetter 0 t)

@@ -8,7 +8,7 @@ use native.Mathlib.Omega.{arith}
 use lib.ListN.{length, take, getD, length-take}
 use lib.Seq.{sets, length-take-le}
 use borrow.Author.Tests.{eq-eqb, ne-eqb, lt-ltb, le-ltb}
-use Rattle.hexdigits.specs.Over.{over}
+use Rattle.hexdigits.specs.Over.{inFrontOf}
 use Rattle.hexdigits.proofs.Laws.Laid.{over-sets}
 use Rattle.wordbytes.specs.Words.{wordAt, low, high, bytesIn}
 use Rattle.refusal.specs.Numbers.{wordsOdd, outputShort}
@@ -25,7 +25,7 @@ use Rattle.optext.specs.Answer.{writtenPage, writeOf, Writes, readPage}
 use Rattle.optext.specs.Words.{Accepts, RefusedText, Reads}
 use Rattle.optext.proofs.Laws.Theorems.{len-3}
 use Rattle.optext.proofs.Laws.Calls.{lined}
-use Rattle.optext_c.specs.Calls.{lent, wordsIn, lentWhy, lineWords, writeCall, readIn, ReadCall}
+use Rattle.optext_c.specs.Calls.{lent, wordsIn, lentWhy, textWords, writeCall, wordsRead, ReadCall}
 
 -- ---- the words that are lent
 
@@ -67,7 +67,7 @@ odd-some e = omega (arith, e)
 module _ (b t a : List ℕ) where
   lent-bad : (n : ℕ) → n ≡ lentWhy a b → (n ≡ 0 → ⊥) → told n (t, a) ≡ writeCall b t a
   unfolding writeCall
-  lent-bad n h some = bad (λ p o. (o, lineWords p)) (λ column o. (o, placeWords column)) (λ o. (o, a)) (lentWhy a b) n (writeOf (wordsIn b) t) t h some
+  lent-bad n h some = bad (λ p o. (o, textWords p)) (λ column o. (o, placeWords column)) (λ o. (o, a)) (lentWhy a b) n (writeOf (wordsIn b) t) t h some
 
   pub write-21 : (n : ℕ) → n ≡ answerWhy a → (n ≡ 0 → ⊥) → told n (t, a) ≡ writeCall b t a
   write-21 n h some = lent-bad n (lent-21 a b n h some) some
@@ -75,7 +75,7 @@ module _ (b t a : List ℕ) where
   pub write-38 : answerWhy a ≡ 0 → (length b % 2 ≡ 0 → ⊥) → told wordsOdd (t, a) ≡ writeCall b t a
   write-38 h k = lent-bad wordsOdd (lent-38 a b h k) odd-some
 
-  pub written : (ws e : List ℕ) (r r′ : Written) → answerWhy a ≡ 0 → length b % 2 ≡ 0 → ws ≡ wordsIn b → Writes ws t r e → r ≡ r′ → answering lineWords a (left (writtenPage r′) e) ≡ writeCall b t a
+  pub written : (ws e : List ℕ) (r r′ : Written) → answerWhy a ≡ 0 → length b % 2 ≡ 0 → ws ≡ wordsIn b → Writes ws t r e → r ≡ r′ → answering textWords a (left (writtenPage r′) e) ≡ writeCall b t a
   unfolding writeCall
   written ws e r r′ h k q w d = rw (lent-none a b h k, ← q, ← w .met, ← d) refl
 
@@ -87,14 +87,14 @@ module _ (b t a : List ℕ) where
 
 -- the first n of three words, stored byte by byte
 module _ (b : List ℕ) (n w x y : ℕ) (h : 6 ≤ length b) where
-  pub put-1 : n ≡ 1 → {l u : ℕ} → l ≡ low w → u ≡ high w → sets b 0 (l ∷ u ∷ []) ≡ over (bytesIn (take n (w ∷ x ∷ y ∷ []))) b
+  pub put-1 : n ≡ 1 → {l u : ℕ} → l ≡ low w → u ≡ high w → sets b 0 (l ∷ u ∷ []) ≡ inFrontOf (bytesIn (take n (w ∷ x ∷ y ∷ []))) b
   put-1 q e f = rw (q, e, f) (over-sets (low w ∷ high w ∷ []) b (omega arith))
 
-  pub put-2 : n ≡ 2 → {l u l′ u′ : ℕ} → l ≡ low w → u ≡ high w → l′ ≡ low x → u′ ≡ high x → sets b 0 (l ∷ u ∷ l′ ∷ u′ ∷ []) ≡ over (bytesIn (take n (w ∷ x ∷ y ∷ []))) b
+  pub put-2 : n ≡ 2 → {l u l′ u′ : ℕ} → l ≡ low w → u ≡ high w → l′ ≡ low x → u′ ≡ high x → sets b 0 (l ∷ u ∷ l′ ∷ u′ ∷ []) ≡ inFrontOf (bytesIn (take n (w ∷ x ∷ y ∷ []))) b
   put-2 q e f e′ f′ = rw (q, e, f, e′, f′) (over-sets (low w ∷ high w ∷ low x ∷ high x ∷ []) b (omega arith))
 
   pub put-3 : n ≡ 3 → {l u l′ u′ l″ u″ : ℕ} → l ≡ low w → u ≡ high w → l′ ≡ low x → u′ ≡ high x → l″ ≡ low y → u″ ≡ high y
-      → sets b 0 (l ∷ u ∷ l′ ∷ u′ ∷ l″ ∷ u″ ∷ []) ≡ over (bytesIn (take n (w ∷ x ∷ y ∷ []))) b
+      → sets b 0 (l ∷ u ∷ l′ ∷ u′ ∷ l″ ∷ u″ ∷ []) ≡ inFrontOf (bytesIn (take n (w ∷ x ∷ y ∷ []))) b
   put-3 q e f e′ f′ e″ f″ = rw (q, e, f, e′, f′, e″, f″) (over-sets (low w ∷ high w ∷ low x ∷ high x ∷ low y ∷ high y ∷ []) b (omega arith))
 
 -- an op code has one to three words
@@ -122,7 +122,7 @@ module _ (t b a : List ℕ) where
     page = answered 0;
     words = [];
     reads = λ z. absurd (some (h ∙ z));
-    leaves = bad (λ n e. (over (bytesIn (take n e)) b, threeWords n 0 0)) (λ column e. (b, placeWords column)) (λ e. (b, a)) (lentWhy a b) n (left (answered 0) []) (wordsIn b) h some;
+    leaves = bad (λ n e. (inFrontOf (bytesIn (take n e)) b, threeWords n 0 0)) (λ column e. (b, placeWords column)) (λ e. (b, a)) (lentWhy a b) n (left (answered 0) []) (wordsIn b) h some;
   }
 
   pub read-21 : (n : ℕ) → n ≡ answerWhy a → (n ≡ 0 → ⊥) → ReadCall t b a (told n (b, a))
@@ -131,7 +131,7 @@ module _ (t b a : List ℕ) where
   pub read-38 : answerWhy a ≡ 0 → (length b % 2 ≡ 0 → ⊥) → ReadCall t b a (told wordsOdd (b, a))
   read-38 h k = lent-read wordsOdd (lent-38 a b h k) odd-some
 
-  read-with : (p : Page ℕ) (e : List ℕ) (x : Told (List ℕ × List ℕ)) → answerWhy a ≡ 0 → length b % 2 ≡ 0 → Reads p t (wordsIn b) e → x ≡ readIn b a (left p e) → ReadCall t b a x
+  read-with : (p : Page ℕ) (e : List ℕ) (x : Told (List ℕ × List ℕ)) → answerWhy a ≡ 0 → length b % 2 ≡ 0 → Reads p t (wordsIn b) e → x ≡ wordsRead b a (left p e) → ReadCall t b a x
   read-with p e x h k q l = record { page = p; words = e; reads = λ z. q; leaves = rw (lent-none a b h k) l }
 
   words-short : length b < 6 → length (wordsIn b) < 3
@@ -149,7 +149,7 @@ module _ (t b a : List ℕ) where
 
   -- what it answers is what is left
   pub read-done : (ws e b′ a′ : List ℕ) (r : ReadBack) (n : ℕ) → answerWhy a ≡ 0 → length b % 2 ≡ 0 → ws ≡ wordsIn b → Reads (readPage r) t ws e → r ≡ Words n → length e ≡ 3
-      → b′ ≡ over (bytesIn (take n (getD e 0 0 ∷ getD e 1 0 ∷ getD e 2 0 ∷ []))) b → a′ ≡ threeWords n 0 0 → ReadCall t b a (told 0 (b′, a′))
+      → b′ ≡ inFrontOf (bytesIn (take n (getD e 0 0 ∷ getD e 1 0 ∷ getD e 2 0 ∷ []))) b → a′ ≡ threeWords n 0 0 → ReadCall t b a (told 0 (b′, a′))
   read-done ws e b′ a′ r n h k q p d l u v =
       read-with (readPage (Words n)) e (told 0 (b′, a′)) h k (subst (λ (z : List ℕ). Reads (readPage (Words n)) t z e) q (subst (λ (z : ReadBack). Reads (readPage z) t ws e) d p)) (rw (u, v, len-3 e l) refl)
 

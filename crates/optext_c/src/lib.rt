@@ -11,10 +11,10 @@ ghost use mathlib.Core.Path.{_≡_};
 ghost use mathlib.Core.List.{[], _∷_};
 ghost use Prim.Native.Nat.{_/_, _≤_, _<_};
 ghost use lib.ListN.{length, take};
-ghost use Rattle.hexdigits.specs.Over.{over};
+ghost use Rattle.hexdigits.specs.Over.{inFrontOf};
 ghost use Rattle.wordbytes.specs.Words.{bytesIn};
 ghost use Rattle.refusal.specs.Page.{told};
-ghost use Rattle.answer.specs.Answer.{threeWords, placeWords, Room};
+ghost use Rattle.answer.specs.Answer.{threeWords, placeWords, SixBytes};
 ghost use Rattle.optext_c.specs.Calls as Spec;
 
 // The text's own refusals: no words, a needed next word is missing.
@@ -33,7 +33,7 @@ const EARLY_END: u8 = 32;
 
 // The answer's three words.
 fn put_answer(answer: &mut [u8], a: usize, b: usize, c: usize)
-    requires { ⌜ Room (now answer) × (a < 65536) × (b < 65536) × (c < 65536) ⌝ }
+    requires { ⌜ SixBytes (now answer) × (a < 65536) × (b < 65536) × (c < 65536) ⌝ }
     ensures { λ _. ⌜ now (answer .exit) ≡ threeWords a b c ⌝ }
 {
     answer::put(answer, a as u16, b as u16, c as u16);
@@ -79,7 +79,7 @@ pub extern "C" fn wd16_write_text(words: &[u8], text: &mut [u8], answer: &mut [u
 // The first n of three words, in front of the bytes.
 fn put_words(out: &mut [u8], w: u16, x: u16, y: u16, n: usize)
     requires { ⌜ (6 ≤ length (now out)) × (1 ≤ n) × (n ≤ 3) ⌝ }
-    ensures { λ _. ⌜ now (out .exit) ≡ over (bytesIn (take n (w ∷ x ∷ y ∷ []))) (now (out .entry)) ⌝ }
+    ensures { λ _. ⌜ now (out .exit) ≡ inFrontOf (bytesIn (take n (w ∷ x ∷ y ∷ []))) (now (out .entry)) ⌝ }
 {
     out[0] = low(w);
     out[1] = high(w);
@@ -97,7 +97,7 @@ fn put_words(out: &mut [u8], w: u16, x: u16, y: u16, n: usize)
 
 // A refusal with its column.
 fn refused_at(answer: &mut [u8], column: usize, why: u8) -> u8
-    requires { ⌜ Room (now answer) × (column < 65536) ⌝ }
+    requires { ⌜ SixBytes (now answer) × (column < 65536) ⌝ }
     ensures { λ r. ⌜ (r ≡ why) × (now (answer .exit) ≡ placeWords column) ⌝ }
 {
     put_answer(answer, 0, 0, column);

@@ -9,7 +9,7 @@ use Rattle.optext.specs.Line.{textOf}
 use Rattle.optext.specs.Column.{Whole, IsText}
 use Rattle.optext.specs.Read.{opOf}
 use Rattle.patchline.specs.Line.{opIn}
-use Rattle.assembler.specs.Source.{countOf, textAt, originAt}
+use Rattle.assembler.specs.Source.{lineCount, textAt, originAt}
 use Rattle.refusal.specs.Page.{answered, left, told}
 use Rattle.assembler.specs.Answer.{asmOf}
 use Rattle.assembler_c.specs.Call.{assembleCall}
@@ -29,19 +29,19 @@ pub record Gives (s : List ℕ) (i : ℕ) (bytes ws : List ℕ) : Type 0 where
   pub next : originAt s (suc i) ≡ originAt s i + 2 * length ws
 
 -- at an address there is one word
-abbrev pub OneWord : Type 0
-OneWord = (s out : List ℕ) (n : ℕ) (out′ : List ℕ) → left (answered n) out′ ≡ asmOf s out → (a w v : ℕ) → Has out′ a w → Has out′ a v → w ≡ v
+abbrev pub OneWordAt : Type 0
+OneWordAt = (s out : List ℕ) (n : ℕ) (out′ : List ℕ) → left (answered n) out′ ≡ asmOf s out → (a w v : ℕ) → Has out′ a w → Has out′ a v → w ≡ v
 
 -- ---- a line that 01's reader takes, of a source that is assembled
 
 abbrev pub ReaderGives : Type 0
 ReaderGives = (s out : List ℕ) (n : ℕ) (out′ : List ℕ) → left (answered n) out′ ≡ asmOf s out
-    → (i : ℕ) (ws : List ℕ) → i < countOf s → Whole ws → textOf ws ≡ textAt s i → Gives s i out′ ws
+    → (i : ℕ) (ws : List ℕ) → i < lineCount s → Whole ws → textOf ws ≡ textAt s i → Gives s i out′ ws
 
 -- the same for C
 abbrev pub Wd16ReaderGives : Type 0
 Wd16ReaderGives = (s out b out′ b′ : List ℕ) → told {B = List ℕ × List ℕ} 0 (out′, b′) ≡ assembleCall s out b
-    → (i : ℕ) (ws : List ℕ) → i < countOf s → Whole ws → textOf ws ≡ textAt s i → Gives s i out′ ws
+    → (i : ℕ) (ws : List ℕ) → i < lineCount s → Whole ws → textOf ws ≡ textAt s i → Gives s i out′ ws
 
 -- ---- what the assembler takes a text for is the text's own meaning: the op code whose text it is, and none where it is none's
 

@@ -11,10 +11,10 @@ use Rattle.optext.specs.Line.{wordText, textOf}
 use Rattle.listing.specs.declared.Found.{Found}
 use Rattle.listing.specs.declared.Found.the-variants.{Nothing, Cut, Whole}
 use Rattle.listing.specs.Listing.{stands, wordsAt, foundAt, line, nextAt, listingOf}
-use Rattle.assembler.specs.Section.{entryOf, sectionOf}
-use Rattle.patchlaws.specs.Pieces.{Piece, linesOf}
+use Rattle.assembler.specs.Section.{sectionEntry, sectionOf}
+use Rattle.patchlaws.specs.Pieces.{Piece, pieceLines}
 use mathlib.Core.Path.{_≡_}
-use Rattle.assembler.specs.Answer.{written, asmOf}
+use Rattle.assembler.specs.Answer.{sectionWritten, asmOf}
 use Rattle.patchlaws.specs.Padded.{sourceOf}
 
 -- ---- the pieces of a listing
@@ -36,7 +36,7 @@ module _ (map image : List ℕ) (last : ℕ) where
   -- the fitted words of the stretch with their addresses, as the entries of a section
   unfoldable pub wordsFrom : ℕ → ℕ → List ℕ
   wordsFrom zero a = []
-  wordsFrom (suc n) a = cond (stands map last a) (entryOf a (wordAt image a) ∷ wordsFrom n (a + 2)) (wordsFrom n (a + 2))
+  wordsFrom (suc n) a = cond (stands map last a) (sectionEntry a (wordAt image a) ∷ wordsFrom n (a + 2)) (wordsFrom n (a + 2))
 
 unfoldable pub piecesOf : ℕ → ℕ → List ℕ → List ℕ → List Piece
 piecesOf first last map image = piecesFrom map image last 32768 first
@@ -61,5 +61,5 @@ module _ (first last : ℕ) (map image : List ℕ) where
     -- not over 1,024 lines and the output is long enough
     abbrev pub ListingAgain : Type 0
     ListingAgain = (out : List ℕ) → length (piecesOf first last map image) ≤ 512 → 12290 ≤ length out
-        → asmOf (sourceOf (linesOf (piecesOf first last map image))) out
-        ≡ written (sectionOf (fittedWords first last map image)) out
+        → asmOf (sourceOf (pieceLines (piecesOf first last map image))) out
+        ≡ sectionWritten (sectionOf (fittedWords first last map image)) out

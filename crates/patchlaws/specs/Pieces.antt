@@ -7,9 +7,9 @@ use Rattle.optext.specs.Read.{opOf}
 use Rattle.optext.specs.Shown.{Stands}
 use Rattle.patchline.specs.declared.oneline.How.the-variants.{Plain}
 use Rattle.patchline.specs.Line.{says, saidOf}
-use Rattle.assembler.specs.Section.{entryOf, sectionOf}
+use Rattle.assembler.specs.Section.{sectionEntry, sectionOf}
 use Rattle.patchlaws.specs.Again.{originLine}
-use Rattle.assembler.specs.Answer.{written, asmOf}
+use Rattle.assembler.specs.Answer.{sectionWritten, asmOf}
 use Rattle.patchlaws.specs.Padded.{sourceOf}
 
 -- ---- pieces: words from an address on, and the text that gives them
@@ -19,36 +19,36 @@ pub record Piece : Type 0 where
   pub words : List ℕ
   pub text : List ℕ
 
-abbrev pub endOf : Piece → ℕ
-endOf p = p .at + 2 * length (p .words)
+abbrev pub pieceEnd : Piece → ℕ
+pieceEnd p = p .at + 2 * length (p .words)
 
 -- two lines a piece
-unfoldable pub linesOf : List Piece → List (List ℕ)
-linesOf [] = []
-linesOf (p ∷ ps) = originLine (p .at) ∷ p .text ∷ linesOf ps
+unfoldable pub pieceLines : List Piece → List (List ℕ)
+pieceLines [] = []
+pieceLines (p ∷ ps) = originLine (p .at) ∷ p .text ∷ pieceLines ps
 
 -- the words with their addresses, as the entries of a section
-abbrev pub entriesFrom : ℕ → List ℕ → List ℕ
-entriesFrom a [] = []
-entriesFrom a (w ∷ ws) = entryOf a w ∷ entriesFrom (a + 2) ws
+abbrev pub entriesOfWords : ℕ → List ℕ → List ℕ
+entriesOfWords a [] = []
+entriesOfWords a (w ∷ ws) = sectionEntry a w ∷ entriesOfWords (a + 2) ws
 
-unfoldable pub entriesOf : List Piece → List ℕ
-entriesOf [] = []
-entriesOf (p ∷ ps) = entriesFrom (p .at) (p .words) ++ entriesOf ps
+unfoldable pub entriesOfPieces : List Piece → List ℕ
+entriesOfPieces [] = []
+entriesOfPieces (p ∷ ps) = entriesOfWords (p .at) (p .words) ++ entriesOfPieces ps
 
 -- one to three words from an even address on, and a text that says them
-pub record Good (p : Piece) : Type 0 where
+pub record GoodPiece (p : Piece) : Type 0 where
   pub even : p .at % 2 ≡ 0
   pub some : 1 ≤ length (p .words)
   pub few : length (p .words) ≤ 3
-  pub within : endOf p ≤ 65536
+  pub within : pieceEnd p ≤ 65536
   pub stands : Stands (p .text)
   pub said : saidOf (p .text) ≡ says Plain (opOf (p .words))
 
 -- each from the end of the one before on
 unfoldable pub Rise : ℕ → List Piece → Type 0
 Rise low [] = Unit {0}
-Rise low (p ∷ ps) = (low ≤ p .at) × Good p × Rise (endOf p) ps
+Rise low (p ∷ ps) = (low ≤ p .at) × GoodPiece p × Rise (pieceEnd p) ps
 
 -- ---- the source of the pieces
 
@@ -58,4 +58,4 @@ module _ (ps : List Piece) (r : Rise 0 ps) where
   -- THE SECTION OF THE PIECES IS THEIR WORDS
   abbrev pub PiecesAgain : Type 0
   PiecesAgain = (out : List ℕ) → 12290 ≤ length out → length ps ≤ 512
-      → asmOf (sourceOf (linesOf ps)) out ≡ written (sectionOf (entriesOf ps)) out
+      → asmOf (sourceOf (pieceLines ps)) out ≡ sectionWritten (sectionOf (entriesOfPieces ps)) out

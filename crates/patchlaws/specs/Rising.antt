@@ -3,8 +3,8 @@ use mathlib.Core.Path.{_≡_}
 use mathlib.Core.List.{List, [], _∷_}
 use Prim.Native.Nat.{ℕ, _+_, _/_, _%_, _≤_, _<_}
 use mathlib.Core.Bool.{false}
-use Rattle.assembler.specs.Source.{countOf, misplaced}
-use Rattle.assembler.specs.Section.{placed}
+use Rattle.assembler.specs.Source.{lineCount, misplaced}
+use Rattle.assembler.specs.Section.{wordsPlaced}
 
 -- an entry's address
 abbrev pub addressIn : ℕ → ℕ
@@ -18,4 +18,4 @@ Rises low (e ∷ l) = (low ≤ addressIn e) × (addressIn e % 2 ≡ 0) × (addre
 -- ---- all lines
 
 abbrev pub PlacedRises : Type 0
-PlacedRises = (s : List ℕ) → ((k : ℕ) → k < countOf s → misplaced s k ≡ false) → Rises 0 (placed s (countOf s))
+PlacedRises = (s : List ℕ) → ((k : ℕ) → k < lineCount s → misplaced s k ≡ false) → Rises 0 (wordsPlaced s (lineCount s))

@@ -7,7 +7,7 @@ use mathlib.Core.List.{List, _++_}
 use lib.ListN.{drop}
 use Rattle.wordbytes.specs.Words.{wordAt}
 use Rattle.job.specs.declared.Section.the-variants as section
-use Rattle.job.specs.Job.{whyEntries, whyCount, next}
+use Rattle.job.specs.Job.{whyEntries, whyCount, afterSection}
 use Rattle.refusal.specs.Page.{answered}
 use Rattle.assembler.specs.Answer.{assembled, asmOf}
 
@@ -22,4 +22,4 @@ AtMostUnfitted why = (why ≡ 0) ⊎ (why ≡ addressUnfitted)
 -- THE SECTION IS TAKEN: wherever it stands in a job, and whatever stands around it
 abbrev pub SectionTaken : Type 0
 SectionTaken = (s out : List ℕ) (n : ℕ) → asmOf s out .page ≡ answered n → (input map rest : List ℕ) (at : ℕ) → drop at input ≡ assembled s ++ rest
-    → (whyCount section.Words input at ≡ 0) × AtMostUnfitted (whyEntries section.Words input (wordAt input at) (at + 2) 0 map) × (next section.Words input at ≡ at + n)
+    → (whyCount section.Words input at ≡ 0) × AtMostUnfitted (whyEntries section.Words input (wordAt input at) (at + 2) 0 map) × (afterSection section.Words input at ≡ at + n)

@@ -12,35 +12,35 @@ use lib.Dec.{eqb}
 use lib.ListN.{length, take, drop, getD, length-append, length-take, length-drop, List·getD-eq-default}
 use lib.Seq.{take-all}
 use Rattle.hexdigits.specs.Digits.{letters, hex4}
-use Rattle.hexdigits.specs.Over.{over, Left, left, written}
+use Rattle.hexdigits.specs.Over.{inFrontOf, TextLeft, textLeft, written}
 use Rattle.optext.specs.declared.Op.{Op}
 use Rattle.optext.specs.Digits.{unHex4}
-use Rattle.optext.specs.Read.{same}
+use Rattle.optext.specs.Read.{sameText}
 use Rattle.optext.proofs.Laws.Choose.{lt-cases, bool-cases, first-le}
-use Rattle.patchline.specs.Text.{partOf, endFrom, gives, isName, pastOf, placeOf, isAt, nameIn, labelOf}
-use Rattle.patchline.specs.Line.{operandsAt, commaAt, firstIn, secondIn, bare, atOf, labelIn, filledIn, aliasOf, tailOf, filled, isDirective, opIn, says, op, saidOf, saidWith, isBranch, isSob}
+use Rattle.patchline.specs.Text.{slice, paddingFrom, gives, isName, pastOf, findFrom, isAt, nameIn, labelOf}
+use Rattle.patchline.specs.Line.{operandsAt, commaAt, firstIn, secondIn, bareOperand, atOf, labelIn, filledIn, aliasOf, tailOf, filled, isDirective, opIn, says, op, saidOf, saidWith, isBranch, isSob}
 use Rattle.patchline.specs.declared.oneline.How.the-variants.{Origin, Plain}
 use Rattle.patchline.specs.declared.oneline.Said.{Said}
 
 -- parts of a text
-pub part-none : (a e : ℕ) (t : List ℕ) → e ≤ a → [] ≡ partOf a e t
+pub part-none : (a e : ℕ) (t : List ℕ) → e ≤ a → [] ≡ slice a e t
 part-none a e t h =
     let z : e - a ≡ 0 = omega arith in
     rw z refl
 
-pub part-all : (a e : ℕ) (t u : List ℕ) → u ≡ drop a t → length u ≤ e - a → u ≡ partOf a e t
+pub part-all : (a e : ℕ) (t u : List ℕ) → u ≡ drop a t → length u ≤ e - a → u ≡ slice a e t
 part-all a e t u q h = q ∙ sym (take-all (e - a) (drop a t) (rw q at h))
 
 -- where the padding begins
-pub end-here : (t : List ℕ) (i b : ℕ) → 0 < i → b ≡ getD t (i - 1) 0 → (b ≡ 32 → ⊥) → i ≡ endFrom i t
-unfolding endFrom
+pub end-here : (t : List ℕ) (i b : ℕ) → 0 < i → b ≡ getD t (i - 1) 0 → (b ≡ 32 → ⊥) → i ≡ paddingFrom i t
+unfolding paddingFrom
 end-here t zero b h e n = absurd (omega arith)
 end-here t (suc i) b h e n =
     let z : suc i - 1 ≡ i = omega arith in
     rw (ne-eqb (getD t i 0) 32 (λ q. n ((rw z at e) ∙ q))) refl
 
-pub end-step : (t : List ℕ) (i b : ℕ) → 0 < i → b ≡ getD t (i - 1) 0 → b ≡ 32 → endFrom i t ≡ endFrom (i - 1) t
-unfolding endFrom
+pub end-step : (t : List ℕ) (i b : ℕ) → 0 < i → b ≡ getD t (i - 1) 0 → b ≡ 32 → paddingFrom i t ≡ paddingFrom (i - 1) t
+unfolding paddingFrom
 end-step t zero b h e n = absurd (omega arith)
 end-step t (suc i) b h e n =
     let z : suc i - 1 ≡ i = omega arith in
@@ -53,7 +53,7 @@ and-no false = refl
 
 pub gives-short : (u l : List ℕ) → length l ≤ length u → false ≡ gives u l
 unfolding gives
-gives-short u l h = rw (List·getD-eq-default l 0 h) (sym (and-no (same (take (length u) l) u)))
+gives-short u l h = rw (List·getD-eq-default l 0 h) (sym (and-no (sameText (take (length u) l) u)))
 
 -- a line's label
 module _ (l : List ℕ) (n : ℕ) (e : n ≡ pastOf 90 l) where
@@ -83,60 +83,60 @@ label-six l = ⊎-elim (λ p. rw p (omega arith)) (λ p. rw p (go (gives (nameIn
     go false h = omega arith
 
 -- where operands begin
-pub place-le : (c : ℕ) (t : List ℕ) (i r : ℕ) → r ≡ placeOf c t i → r ≤ i + (length t - i)
-unfolding placeOf
+pub place-le : (c : ℕ) (t : List ℕ) (i r : ℕ) → r ≡ findFrom c t i → r ≤ i + (length t - i)
+unfolding findFrom
 place-le c t i r e = rw e (first-le (isAt c t) (length t - i) i)
 
-pub part-le : (a e : ℕ) (t : List ℕ) → length (partOf a e t) ≤ length t
+pub part-le : (a e : ℕ) (t : List ℕ) → length (slice a e t) ≤ length t
 part-le a e t = simp (length-take, length-drop) (omega arith)
 
-pub part-few : (e : ℕ) (t : List ℕ) → length (partOf 0 e t) ≤ e
+pub part-few : (e : ℕ) (t : List ℕ) → length (slice 0 e t) ≤ e
 part-few e t = simp (length-take, length-drop) (omega arith)
 
 -- an operand
-pub label-in-yes : (o u : List ℕ) → u ≡ bare o → isName u ≡ true → u ≡ labelIn o
+pub label-in-yes : (o u : List ℕ) → u ≡ bareOperand o → isName u ≡ true → u ≡ labelIn o
 unfolding labelIn
 label-in-yes o u e p = rw (← e, p) refl
 
-pub label-in-no : (o u : List ℕ) → u ≡ bare o → isName u ≡ false → [] ≡ labelIn o
+pub label-in-no : (o u : List ℕ) → u ≡ bareOperand o → isName u ≡ false → [] ≡ labelIn o
 unfolding labelIn
 label-in-no o u e p = rw (← e, p) refl
 
-pub filled-label : (d o : List ℕ) → isName (bare o) ≡ true → filledIn d o ≡ partOf 0 (atOf o) o ++ d
+pub filled-label : (d o : List ℕ) → isName (bareOperand o) ≡ true → filledIn d o ≡ slice 0 (atOf o) o ++ d
 unfolding filledIn
 filled-label d o p = rw p refl
 
-pub filled-plain : (d o : List ℕ) → isName (bare o) ≡ false → filledIn d o ≡ o
+pub filled-plain : (d o : List ℕ) → isName (bareOperand o) ≡ false → filledIn d o ≡ o
 unfolding filledIn
 filled-plain d o p = rw p refl
 
 pub filled-in-le : (d o : List ℕ) → length (filledIn d o) ≤ length o + length d
 filled-in-le d o =
-    ⊎-elim (λ p. rw (filled-plain d o p) (omega arith)) (λ p. rw (filled-label d o p, length-append) (yes (part-le 0 (atOf o) o))) (bool-cases (isName (bare o)))
+    ⊎-elim (λ p. rw (filled-plain d o p) (omega arith)) (λ p. rw (filled-label d o p, length-append) (yes (part-le 0 (atOf o) o))) (bool-cases (isName (bareOperand o)))
   where
-    yes : length (partOf 0 (atOf o) o) ≤ length o → length (partOf 0 (atOf o) o) + length d ≤ length o + length d
+    yes : length (slice 0 (atOf o) o) ≤ length o → length (slice 0 (atOf o) o) + length d ≤ length o + length d
     yes h = omega arith
 
 -- aliases
 module _ (h : List ℕ) where
-  pub alias-1 : same h (letters "BHIS ") ≡ true → aliasOf h ≡ letters "BCC "
+  pub alias-1 : sameText h (letters "BHIS ") ≡ true → aliasOf h ≡ letters "BCC "
   unfolding aliasOf
   alias-1 a = rw a refl
 
-  pub alias-2 : same h (letters "BHIS ") ≡ false → same h (letters "BLO ") ≡ true → aliasOf h ≡ letters "BCS "
+  pub alias-2 : sameText h (letters "BHIS ") ≡ false → sameText h (letters "BLO ") ≡ true → aliasOf h ≡ letters "BCS "
   unfolding aliasOf
   alias-2 a b = rw (a, b) refl
 
-  pub alias-3 : same h (letters "BHIS ") ≡ false → same h (letters "BLO ") ≡ false → same h (letters "CALL ") ≡ true → aliasOf h ≡ letters "JSR PC,"
+  pub alias-3 : sameText h (letters "BHIS ") ≡ false → sameText h (letters "BLO ") ≡ false → sameText h (letters "CALL ") ≡ true → aliasOf h ≡ letters "JSR PC,"
   unfolding aliasOf
   alias-3 a b c = rw (a, b, c) refl
 
-  pub alias-4 : same h (letters "BHIS ") ≡ false → same h (letters "BLO ") ≡ false → same h (letters "CALL ") ≡ false → same h (letters "JMP ") ≡ true
+  pub alias-4 : sameText h (letters "BHIS ") ≡ false → sameText h (letters "BLO ") ≡ false → sameText h (letters "CALL ") ≡ false → sameText h (letters "JMP ") ≡ true
       → aliasOf h ≡ letters "LEA PC,"
   unfolding aliasOf
   alias-4 a b c d = rw (a, b, c, d) refl
 
-  pub alias-5 : same h (letters "BHIS ") ≡ false → same h (letters "BLO ") ≡ false → same h (letters "CALL ") ≡ false → same h (letters "JMP ") ≡ false
+  pub alias-5 : sameText h (letters "BHIS ") ≡ false → sameText h (letters "BLO ") ≡ false → sameText h (letters "CALL ") ≡ false → sameText h (letters "JMP ") ≡ false
       → aliasOf h ≡ h
   unfolding aliasOf
   alias-5 a b c d = rw (a, b, c, d) refl
@@ -144,10 +144,10 @@ module _ (h : List ℕ) where
   pub alias-le : length (aliasOf h) ≤ length h + 7
   unfolding aliasOf
   alias-le =
-      pick (same h (letters "BHIS ")) (letters "BCC ") _ (omega arith)
-      (pick (same h (letters "BLO ")) (letters "BCS ") _ (omega arith)
-      (pick (same h (letters "CALL ")) (letters "JSR PC,") _ (omega arith)
-      (pick (same h (letters "JMP ")) (letters "LEA PC,") h (omega arith) (omega arith))))
+      pick (sameText h (letters "BHIS ")) (letters "BCC ") _ (omega arith)
+      (pick (sameText h (letters "BLO ")) (letters "BCS ") _ (omega arith)
+      (pick (sameText h (letters "CALL ")) (letters "JSR PC,") _ (omega arith)
+      (pick (sameText h (letters "JMP ")) (letters "LEA PC,") h (omega arith) (omega arith))))
     where
       pick : (b : Bool) (u v : List ℕ) → length u ≤ length h + 7 → length v ≤ length h + 7 → length (cond b u v) ≤ length h + 7
       pick true u v p q = p
@@ -204,7 +204,7 @@ first-in-le t = part-le (operandsAt t) (commaAt t) t
 pub filled-le : (d t : List ℕ) → length t ≤ 33 → length d ≤ 8 → length (filled d t) ≤ 123
 unfolding filled
 filled-le d t h k =
-    let a = alias-le (partOf 0 (operandsAt t) t) in
+    let a = alias-le (slice 0 (operandsAt t) t) in
     let b = part-le 0 (operandsAt t) t in
     let c = filled-in-le d (firstIn t) in
     let e = first-in-le t in
@@ -220,6 +220,6 @@ said-with-le f o p q = pick (isBranch (f .a)) _ _ p (pick (isSob (f .a)) _ _ p (
     pick false x y p q = q
 
 -- four digits where four zeros stood
-pub four-digits : (x n : ℕ) (e : List ℕ) → left n e ≡ written (hex4 x) (0 ∷ 0 ∷ 0 ∷ 0 ∷ []) → e ≡ hex4 x
-unfolding written over hex4
-four-digits x n e q = ap (λ (z : Left). z .bytes) q
+pub four-digits : (x n : ℕ) (e : List ℕ) → textLeft n e ≡ written (hex4 x) (0 ∷ 0 ∷ 0 ∷ 0 ∷ []) → e ≡ hex4 x
+unfolding written inFrontOf hex4
+four-digits x n e q = ap (λ (z : TextLeft). z .bytes) q

@@ -9,27 +9,27 @@ use native.Mathlib.Omega.{arith}
 use lib.ListN.{length, drop, length-append, length-take, length-drop}
 use lib.Seq.{length-take-le}
 use Rattle.hexdigits.specs.Digits.{letters}
-use Rattle.optext.specs.Line.{lineText}
+use Rattle.optext.specs.Line.{opText}
 use Rattle.optext.specs.Guess.{guessOf}
 use Rattle.optext.specs.Words.{wordsOf}
 use Rattle.optext.proofs.Laws.Longest.{line-le}
-use Rattle.optext.specs.Read.{same, readFrom, readOf}
+use Rattle.optext.specs.Read.{sameText, readFrom, wordsOfText}
 use Rattle.optext.proofs.Laws.Read.{same-eq}
 use Rattle.optext.proofs.Laws.Choose.{lt-cases, bool-cases}
 use Rattle.patchline.proofs.Laws.Search.{first-ge}
-use Rattle.patchline.specs.Text.{partOf, placeOf, isAt, isName}
-use Rattle.patchline.specs.Line.{operandsAt, commaAt, firstIn, secondIn, bare, atOf, filledIn, aliasOf, tailOf, filled, opIn, op}
+use Rattle.patchline.specs.Text.{slice, findFrom, isAt, isName}
+use Rattle.patchline.specs.Line.{operandsAt, commaAt, firstIn, secondIn, bareOperand, atOf, filledIn, aliasOf, tailOf, filled, opIn, op}
 use Rattle.patchline.proofs.Laws.{name-six, filled-label, filled-plain, tail-some, tail-none}
 
 -- no op code has a text over 24
-read-long : (s : List ℕ) → 24 < length s → readOf s ≡ []
-unfolding readOf readFrom
-read-long s h = go (same line s) refl
+read-long : (s : List ℕ) → 24 < length s → wordsOfText s ≡ []
+unfolding wordsOfText readFrom
+read-long s h = go (sameText line s) refl
   where
     line : List ℕ
-    line = lineText (guessOf s .w) (guessOf s .x) (guessOf s .y)
+    line = opText (guessOf s .w) (guessOf s .x) (guessOf s .y)
 
-    go : (b : Bool) → same line s ≡ b → cond b (wordsOf (guessOf s .w) (guessOf s .x) (guessOf s .y)) [] ≡ []
+    go : (b : Bool) → sameText line s ≡ b → cond b (wordsOf (guessOf s .w) (guessOf s .x) (guessOf s .y)) [] ≡ []
     go true e = absurd (let z = ap length (same-eq line s e) in let k = line-le (guessOf s .w) (guessOf s .x) (guessOf s .y) in omega arith)
     go false e = refl
 
@@ -42,50 +42,50 @@ alias-ge h =
     (pick (letters "CALL ") (letters "JSR PC,") _ (omega arith)
     (pick (letters "JMP ") (letters "LEA PC,") h (omega arith) (omega arith))))
   where
-    pick : (a u v : List ℕ) → length a ≤ length u + 1 → length h ≤ length v + 1 → length h ≤ length (cond (same h a) u v) + 1
-    pick a u v p q = ⊎-elim (λ e. rw e q) (λ e. rw e (let z = ap length (same-eq h a e) in omega arith)) (bool-cases (same h a))
+    pick : (a u v : List ℕ) → length a ≤ length u + 1 → length h ≤ length v + 1 → length h ≤ length (cond (sameText h a) u v) + 1
+    pick a u v p q = ⊎-elim (λ e. rw e q) (λ e. rw e (let z = ap length (same-eq h a e) in omega arith)) (bool-cases (sameText h a))
 
-name-ge : (d o : List ℕ) → 2 ≤ length d → length (bare o) ≤ 6 → length o ≤ length (partOf 0 (atOf o) o ++ d) + 4
-unfolding bare
+name-ge : (d o : List ℕ) → 2 ≤ length d → length (bareOperand o) ≤ 6 → length o ≤ length (slice 0 (atOf o) o ++ d) + 4
+unfolding bareOperand
 name-ge d o h k =
     let j : length o - atOf o ≤ 6 = simp length-drop at k in
     simp (length-append, length-take, length-drop) (omega arith)
 
 filled-in-ge : (d o : List ℕ) → 2 ≤ length d → length o ≤ length (filledIn d o) + 4
-filled-in-ge d o h = ⊎-elim (λ p. rw (filled-plain d o p) (omega arith)) (λ p. rw (filled-label d o p) (name-ge d o h (name-six (bare o) p))) (bool-cases (isName (bare o)))
+filled-in-ge d o h = ⊎-elim (λ p. rw (filled-plain d o p) (omega arith)) (λ p. rw (filled-label d o p) (name-ge d o h (name-six (bareOperand o) p))) (bool-cases (isName (bareOperand o)))
 
 -- a text is its mnemonic and its operands, with a comma between two
 comma-ge : (t : List ℕ) → operandsAt t ≤ commaAt t
-unfolding commaAt placeOf
+unfolding commaAt findFrom
 comma-ge t = first-ge (isAt 44 t) (length t - operandsAt t) (operandsAt t)
 
-part-length : (a e : ℕ) (t : List ℕ) → e ≤ length t → length (partOf a e t) ≡ e - a
+part-length : (a e : ℕ) (t : List ℕ) → e ≤ length t → length (slice a e t) ≡ e - a
 part-length a e t h = length-take-le (e - a) (drop a t) (simp length-drop (omega arith))
 
-parts-two : (t : List ℕ) → commaAt t < length t → length t ≤ length (partOf 0 (operandsAt t) t) + length (firstIn t) + suc (length (secondIn t))
+parts-two : (t : List ℕ) → commaAt t < length t → length t ≤ length (slice 0 (operandsAt t) t) + length (firstIn t) + suc (length (secondIn t))
 unfolding firstIn secondIn
 parts-two t h =
     let g = comma-ge t in
     rw (part-length 0 (operandsAt t) t (omega arith), part-length (operandsAt t) (commaAt t) t (omega arith), length-drop (commaAt t + 1) t) (omega arith)
 
-parts-one : (t : List ℕ) → length t ≤ commaAt t → length t ≤ length (partOf 0 (operandsAt t) t) + length (firstIn t)
+parts-one : (t : List ℕ) → length t ≤ commaAt t → length t ≤ length (slice 0 (operandsAt t) t) + length (firstIn t)
 unfolding firstIn
 parts-one t h = simp (length-take, length-drop) (omega arith)
 
-tail-ge : (d t : List ℕ) → 2 ≤ length d → length t ≤ length (partOf 0 (operandsAt t) t) + length (firstIn t) + length (tailOf d t) + 4
+tail-ge : (d t : List ℕ) → 2 ≤ length d → length t ≤ length (slice 0 (operandsAt t) t) + length (firstIn t) + length (tailOf d t) + 4
 tail-ge d t h = ⊎-elim (λ k. rw (tail-some d t k) (two (parts-two t k) (filled-in-ge d (secondIn t) h))) (λ k. rw (tail-none d t k) (one (parts-one t k))) (lt-cases (commaAt t) (length t))
   where
-    two : length t ≤ length (partOf 0 (operandsAt t) t) + length (firstIn t) + suc (length (secondIn t)) → length (secondIn t) ≤ length (filledIn d (secondIn t)) + 4
-        → length t ≤ length (partOf 0 (operandsAt t) t) + length (firstIn t) + suc (length (filledIn d (secondIn t))) + 4
+    two : length t ≤ length (slice 0 (operandsAt t) t) + length (firstIn t) + suc (length (secondIn t)) → length (secondIn t) ≤ length (filledIn d (secondIn t)) + 4
+        → length t ≤ length (slice 0 (operandsAt t) t) + length (firstIn t) + suc (length (filledIn d (secondIn t))) + 4
     two p q = omega arith
 
-    one : length t ≤ length (partOf 0 (operandsAt t) t) + length (firstIn t) → length t ≤ length (partOf 0 (operandsAt t) t) + length (firstIn t) + 0 + 4
+    one : length t ≤ length (slice 0 (operandsAt t) t) + length (firstIn t) → length t ≤ length (slice 0 (operandsAt t) t) + length (firstIn t) + 0 + 4
     one p = omega arith
 
 filled-ge : (d t : List ℕ) → 2 ≤ length d → length t ≤ length (filled d t) + 9
 unfolding filled
 filled-ge d t h =
-    let a = alias-ge (partOf 0 (operandsAt t) t) in
+    let a = alias-ge (slice 0 (operandsAt t) t) in
     let b = filled-in-ge d (firstIn t) h in
     let c = tail-ge d t h in
     simp length-append (omega arith)

@@ -7,22 +7,22 @@ use lib.ListN.{length, drop, getD}
 use Rattle.hexdigits.specs.Digits.{letters, hex4}
 use Rattle.optext.specs.declared.Op.{Op}
 use Rattle.optext.specs.Digits.{unHex4}
-use Rattle.optext.specs.Read.{same, readOf, opOf}
+use Rattle.optext.specs.Read.{sameText, wordsOfText, opOf}
 use Rattle.wordmath.specs.Address.{plus, minus}
-use Rattle.patchline.specs.Text.{partOf, placeOf, isName}
+use Rattle.patchline.specs.Text.{slice, findFrom, isName}
 use Rattle.patchline.specs.declared.oneline.How.{How}
 use Rattle.patchline.specs.declared.oneline.How.the-variants.{Unknown, Origin, Plain, Branch, Sob, Relative}
 use Rattle.patchline.specs.declared.oneline.Said.{Said}
 
 -- mnemonic with its space, first operand, second operand after the comma
 unfoldable pub operandsAt : List ℕ → ℕ
-operandsAt t = placeOf 32 t 0 + 1
+operandsAt t = findFrom 32 t 0 + 1
 
 unfoldable pub commaAt : List ℕ → ℕ
-commaAt t = placeOf 44 t (operandsAt t)
+commaAt t = findFrom 44 t (operandsAt t)
 
 unfoldable pub firstIn : List ℕ → List ℕ
-firstIn t = partOf (operandsAt t) (commaAt t) t
+firstIn t = slice (operandsAt t) (commaAt t) t
 
 unfoldable pub secondIn : List ℕ → List ℕ
 secondIn t = drop (commaAt t + 1) t
@@ -31,37 +31,37 @@ secondIn t = drop (commaAt t + 1) t
 abbrev pub atOf : List ℕ → ℕ
 atOf o = cond (eqb (getD o 0 0) 64) 1 0
 
-unfoldable pub bare : List ℕ → List ℕ
-bare o = drop (atOf o) o
+unfoldable pub bareOperand : List ℕ → List ℕ
+bareOperand o = drop (atOf o) o
 
 unfoldable pub labelIn : List ℕ → List ℕ
-labelIn o = cond (isName (bare o)) (bare o) []
+labelIn o = cond (isName (bareOperand o)) (bareOperand o) []
 
 -- the operand with digits d where its label stands
 unfoldable pub filledIn : List ℕ → List ℕ → List ℕ
-filledIn d o = cond (isName (bare o)) (partOf 0 (atOf o) o ++ d) o
+filledIn d o = cond (isName (bareOperand o)) (slice 0 (atOf o) o ++ d) o
 
 -- "the manual's aliases BHIS, BLO, CALL and JMP"
 unfoldable pub aliasOf : List ℕ → List ℕ
 aliasOf h =
-    cond (same h (letters "BHIS ")) (letters "BCC ")
-    (cond (same h (letters "BLO ")) (letters "BCS ")
-    (cond (same h (letters "CALL ")) (letters "JSR PC,")
-    (cond (same h (letters "JMP ")) (letters "LEA PC,") h)))
+    cond (sameText h (letters "BHIS ")) (letters "BCC ")
+    (cond (sameText h (letters "BLO ")) (letters "BCS ")
+    (cond (sameText h (letters "CALL ")) (letters "JSR PC,")
+    (cond (sameText h (letters "JMP ")) (letters "LEA PC,") h)))
 
 -- the text with digits d for its labels
 unfoldable pub tailOf : List ℕ → List ℕ → List ℕ
 tailOf d t = cond (ltb (commaAt t) (length t)) (44 ∷ filledIn d (secondIn t)) []
 
 unfoldable pub filled : List ℕ → List ℕ → List ℕ
-filled d t = (aliasOf (partOf 0 (operandsAt t) t) ++ filledIn d (firstIn t)) ++ tailOf d t
+filled d t = (aliasOf (slice 0 (operandsAt t) t) ++ filledIn d (firstIn t)) ++ tailOf d t
 
 -- a directive and four digits
 unfoldable pub isNumber : List ℕ → Bool
-isNumber t = same t (hex4 (unHex4 t))
+isNumber t = sameText t (hex4 (unHex4 t))
 
 unfoldable pub isDirective : List ℕ → List ℕ → Bool
-isDirective name t = same (partOf 0 (length name) t) name && isNumber (drop (length name) t)
+isDirective name t = sameText (slice 0 (length name) t) name && isNumber (drop (length name) t)
 
 -- format 5, and SOB
 abbrev pub isBranch : ℕ → Bool
@@ -79,7 +79,7 @@ op n a = record { count = n; a = a; b = 0; c = 0 }
 
 -- the op code whose text this is, of no words where it is none's
 unfoldable pub opIn : List ℕ → Op
-opIn t = opOf (readOf t)
+opIn t = opOf (wordsOfText t)
 
 unfoldable pub saidWith : Op → Op → Said
 saidWith field offset =

@@ -77,7 +77,7 @@ fn at(o: &[u8]) -> usize
 }
 
 fn bare(o: &[u8]) -> &[u8]
-    ensures { λ r. ⌜ now r ≡ Spec.bare (now (o .entry)) ⌝ }
+    ensures { λ r. ⌜ now r ≡ Spec.bareOperand (now (o .entry)) ⌝ }
 {
     after(o, at(o))
 }

@@ -5,21 +5,21 @@ ghost use Prim.Native.Nat.{_≤_, _<_};
 ghost use lib.Dec.{leb};
 ghost use lib.ListN.{length, drop, getD};
 ghost use Rattle.optext.specs.Read as Read;
-ghost use Rattle.patchline.specs.Text.{partOf, isAt, placeOf, isPast, pastOf, isRegister, isName, endFrom, shown, restFrom, labelOf, restOf};
+ghost use Rattle.patchline.specs.Text.{slice, isAt, findFrom, isPast, pastOf, isRegister, isName, paddingFrom, withoutPadding, restFrom, labelOf, restOf};
 ghost use Rattle.patchline.specs.Text as Spec;
 use optext::reading::after;
 use wordbytes::byte_at;
 
 // Do two texts have the same bytes?
 pub(crate) fn same(a: &[u8], b: &[u8]) -> bool
-    ensures { λ r. ⌜ r ≡ Read.same (now (a .entry)) (now (b .entry)) ⌝ }
+    ensures { λ r. ⌜ r ≡ Read.sameText (now (a .entry)) (now (b .entry)) ⌝ }
 {
     check::same(a, b)
 }
 
 // What stands from a place on, up to another.
 pub(crate) fn part(t: &[u8], a: usize, e: usize) -> &[u8]
-    ensures { λ r. ⌜ now r ≡ partOf a e (now (t .entry)) ⌝ }
+    ensures { λ r. ⌜ now r ≡ slice a e (now (t .entry)) ⌝ }
 {
     let u = after(t, a);
     let n = u.len();
@@ -42,7 +42,7 @@ fn is_at(c: u8, t: &[u8], k: usize) -> bool
 
 // The first place of a byte from a place on, or the end.
 pub(crate) fn place(c: u8, t: &[u8], from: usize) -> usize
-    ensures { λ r. ⌜ (r ≡ placeOf c (now (t .entry)) from) ⌝ }
+    ensures { λ r. ⌜ (r ≡ findFrom c (now (t .entry)) from) ⌝ }
 {
     let mut i = from;
     while i < t.len() {
@@ -125,7 +125,7 @@ pub fn label(line: &[u8]) -> &[u8]
 
 // Where the padding begins.
 fn end(t: &[u8]) -> usize
-    ensures { λ r. ⌜ (r ≡ endFrom (length (now (t .entry))) (now (t .entry))) × (r ≤ length (now (t .entry))) ⌝ }
+    ensures { λ r. ⌜ (r ≡ paddingFrom (length (now (t .entry))) (now (t .entry))) × (r ≤ length (now (t .entry))) ⌝ }
 {
     let mut i = t.len();
     while 0 < i {
@@ -139,7 +139,7 @@ fn end(t: &[u8]) -> usize
 
 // A text without its padding.
 fn unpadded(t: &[u8]) -> &[u8]
-    ensures { λ r. ⌜ now r ≡ shown (now (t .entry)) ⌝ }
+    ensures { λ r. ⌜ now r ≡ withoutPadding (now (t .entry)) ⌝ }
 {
     let n = end(t);
     &t[..n]

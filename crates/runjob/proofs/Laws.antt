@@ -19,14 +19,14 @@ use Rattle.machine.specs.Entry.{finishedPage}
 use Rattle.machine.proofs.Laws.Back.{ran-one}
 use Rattle.job.specs.Job.{linesAt, imageOf, mapOf, linesOf, lineWords, Filled, whyRead}
 use Rattle.job.proofs.Laws.Sound.{job-taken}
-use Rattle.hexdigits.specs.Over.{over}
+use Rattle.hexdigits.specs.Over.{inFrontOf}
 use Rattle.benchline.specs.declared.Printed.{Printed}
 use Rattle.benchline.specs.Line.{printedPage, printOf}
 use Rattle.benchline.proofs.Laws.{line-length}
 use Rattle.benchline.proofs.Laws.Printed.{printed-fits}
 use Rattle.endline.specs.Report.{endOn, benchBoard, endText}
 use Rattle.runjob.specs.declared.Begun.{Begun}
-use Rattle.runjob.specs.Bench.{upOf, Accepted, Begins, runIn, ranAt, jobRun, lineAt, benchOf}
+use Rattle.runjob.specs.Bench.{upOf, Accepted, RunBegins, runIn, ranAt, jobRun, endLine, benchOf}
 
 -- ---- the beginning: the buffers of an accepted job have their lengths, and its line words are few
 
@@ -57,7 +57,7 @@ module _ (input image map lines : List ℕ) where
   unfolding jobRun
   job-refused why e n = call-refused (whyRead (length image) (length map) (length lines) input) (ranAt input (runIn input)) (image, map, lines) why e n
 
-  pub job-done : {b : Begun} {i m l : List ℕ} (ran : Ran) (n : List ℕ) → whyRead (length image) (length map) (length lines) input ≡ 0 → Begins input b i m l
+  pub job-done : {b : Begun} {i m l : List ℕ} (ran : Ran) (n : List ℕ) → whyRead (length image) (length map) (length lines) input ≡ 0 → RunBegins input b i m l
       → ranOf ran n ≡ runOf benchBoard m (take (b .count) l) (b .state) i → left (answered (ranPage ran)) (n, m, l) ≡ jobRun input image map lines
   unfolding jobRun runIn lineWords
   job-done {b} {i} {m} {l} ran n none h e =
@@ -82,7 +82,7 @@ module _ (input text image map lines : List ℕ) where
     bench-refused why d =
         let t = call-told (whyRead (length image) (length map) (length lines) input) (ranAt input (runIn input)) (image, map, lines) (end-answer input (runIn input)) (ap (λ z. left (finishedPage z) (i, m, l)) (sym d) ∙ e) in
         rw (ap (λ z. z .0) (t .2), ap (λ z. z .1) (t .2), ap (λ z. z .2) (t .2), le-leb 61 (length text) room)
-        (call-refused (whyRead (length image) (length map) (length lines) input) (lineAt input text (runIn input)) (text, image, map, lines) why (t .0) (t .1))
+        (call-refused (whyRead (length image) (length map) (length lines) input) (endLine input text (runIn input)) (text, image, map, lines) why (t .0) (t .1))
 
     pub bench-done : (ran : Ran) (p : Printed) (text′ : List ℕ) → r ≡ Finished.Done ran → left (printedPage p) text′ ≡ printOf (endText ran) text
         → left (printedPage p) (text′, i, m, l) ≡ benchOf input text image map lines
@@ -93,7 +93,7 @@ module _ (input text image map lines : List ℕ) where
         let line = w ∙ printed-fits (endText ran) text fits in
         rw (ap (λ z. z .page) line, ap (λ z. z .lent) line, le-leb 61 (length text) room, h .0) (at (runIn input) (h .1))
       where
-        at : (x : End) → left (answered (ranPage ran)) (i, m, l) ≡ ranAt input x → left (answered (length (endText ran))) (over (endText ran) text, i, m, l) ≡ lineAt input text x
+        at : (x : End) → left (answered (ranPage ran)) (i, m, l) ≡ ranAt input x → left (answered (length (endText ran))) (inFrontOf (endText ran) text, i, m, l) ≡ endLine input text x
         at (end s n t) q =
             let same : ran ≡ record { state = s; tally = t } = ran-one ran (record { state = s; tally = t }) (answered-one (ap (λ z. z .page) q)) in
             let buffers = ap (λ z. z .lent) q in

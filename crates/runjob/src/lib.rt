@@ -12,7 +12,7 @@ ghost use lib.ListN.{length, take};
 ghost use Rattle.refusal.specs.Page.{left};
 ghost use Rattle.benchline.specs.Line.{printedPage};
 ghost use Rattle.machine.specs.Entry.{finishedPage};
-ghost use Rattle.machine.specs.Door.{Good, Runs};
+ghost use Rattle.machine.specs.Door.{GoodBoard, Runs};
 ghost use Rattle.endline.specs.Report.{benchBoard};
 ghost use Rattle.runjob.specs.Bench as Spec;
 
@@ -25,7 +25,7 @@ pub struct Begun {
 // Reads a job that is known not to be refused into the lent buffers, and powers up bench's board.
 pub fn begin(input: &[u8], image: &mut [u8], map: &mut [u8], lines: &mut [u16]) -> Begun
     requires { ⌜ Spec.Accepted (now input) (now image) (now map) (now lines) ⌝ }
-    ensures { λ r. ⌜ Spec.Begins (now (input .entry)) r (now (image .exit)) (now (map .exit)) (now (lines .exit)) ⌝ }
+    ensures { λ r. ⌜ Spec.RunBegins (now (input .entry)) r (now (image .exit)) (now (map .exit)) (now (lines .exit)) ⌝ }
 {
     let count = job::fill(input, image, map, lines);
     let state = step::power(image, map, bench_board());
@@ -34,7 +34,7 @@ pub fn begin(input: &[u8], image: &mut [u8], map: &mut [u8], lines: &mut [u16]) 
 
 // Runs over the first line words of the buffer, on bench's board.
 fn run_first(s: State, image: &mut [u8], map: &[u8], lines: &[u16], count: u16) -> Ran
-    requires { ⌜ (count ≤ length (now lines)) × Good (now map) (now image) (take count (now lines)) ⌝ }
+    requires { ⌜ (count ≤ length (now lines)) × GoodBoard (now map) (now image) (take count (now lines)) ⌝ }
     ensures { λ r. ⌜ Runs benchBoard (now (map .entry)) (take count (now (lines .entry))) s (now (image .entry)) r (now (image .exit)) ⌝ }
 {
     let n = count as usize;

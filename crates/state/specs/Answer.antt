@@ -20,11 +20,11 @@ pub record Taken : Type 0 where
   pub state : State
   pub word : ℕ
 
-abbrev pub taken : State → ℕ → Taken
-taken s v = record { state = s; word = v }
+abbrev pub takenWord : State → ℕ → Taken
+takenWord s v = record { state = s; word = v }
 
 abbrev pub tookAs : Took → Store → Now Taken
-tookAs (Took.Word s v) st = good (taken s v) st
+tookAs (Took.Word s v) st = good (takenWord s v) st
 tookAs (Took.Blank a) st = gone a st
 
 -- ---- a write that was not answered ends the work there

@@ -8,7 +8,7 @@ use Rattle.state.specs.declared.Outside.{Outside}
 use Rattle.state.specs.declared.Mode.the-variants.{Running}
 use Rattle.state.specs.State.{reg, withReg, withSp, withPc, withI2, withMode, withMark, withStatus, psOf}
 use Rattle.wordmath.specs.Address.{plus, minus}
-use Rattle.state.specs.Answer.{Taken, taken}
+use Rattle.state.specs.Answer.{Taken, takenWord}
 
 -- ↓ SP, @SP ← v
 unfoldable pub push : State → ℕ → Work State
@@ -26,7 +26,7 @@ pushReg s k = do
 unfoldable pub pop : State → Work Taken
 pop s = do
   v ← load (s .regs .sp)
-  give (taken (withSp s (plus (s .regs .sp) 2)) v)
+  give (takenWord (withSp s (plus (s .regs .sp) 2)) v)
 
 -- REG ← @SP, SP ↑: SP moves after the register is written, so a popped SP moves on by 2
 unfoldable pub popReg : State → ℕ → Work State
@@ -44,7 +44,7 @@ popStatus s = do
 unfoldable pub fetch : State → Work Taken
 fetch s = do
   v ← load (s .regs .pc)
-  give (taken (withPc s (plus (s .regs .pc) 2)) v)
+  give (takenWord (withPc s (plus (s .regs .pc) 2)) v)
 
 -- PC ← (loc at)
 unfoldable pub fromLoc : State → ℕ → Work State

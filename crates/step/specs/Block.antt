@@ -9,7 +9,7 @@ use Rattle.state.specs.declared.State.{State}
 use Rattle.state.specs.declared.Outside.{Outside}
 use Rattle.state.specs.declared.Mode.the-variants.{Running}
 use Rattle.state.specs.State.{reg}
-use Rattle.format8.specs.Format8.{rowOf}
+use Rattle.format8.specs.Format8.{moveRow}
 use Rattle.opcodes.specs.Fields.{blockSource, blockDestination}
 use Rattle.format8.specs.Page.{sourceBy, destinationBy, along}
 use Rattle.step.specs.declared.Kind.the-variants.{OpCode}
@@ -20,10 +20,10 @@ use Rattle.step.specs.Step.{kindIn}
 
 -- the source's address at the element k from here on, and the destination's
 abbrev pub readsAt : ℕ → State → ℕ → ℕ
-readsAt op s k = along (sourceBy (rowOf op) (blockSource op) (blockDestination op)) k (reg s (blockSource op))
+readsAt op s k = along (sourceBy (moveRow op) (blockSource op) (blockDestination op)) k (reg s (blockSource op))
 
 abbrev pub writesAt : ℕ → State → ℕ → ℕ
-writesAt op s k = along (destinationBy (rowOf op) (blockSource op) (blockDestination op)) k (reg s (blockDestination op))
+writesAt op s k = along (destinationBy (moveRow op) (blockSource op) (blockDestination op)) k (reg s (blockDestination op))
 
 -- A running state at the op code with n elements to go, on an image where none of them meets a blank or writes over the op code.
 pub record Ready (map : List ℕ) (op n : ℕ) (s : State) (m : List ℕ) : Type 0 where

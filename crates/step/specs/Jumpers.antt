@@ -13,7 +13,7 @@ use Rattle.state.specs.declared.Mode.the-variants.{Running, Waiting, PowerHalt,
 use Rattle.state.specs.State.{withMode, cleared}
 use Rattle.step.specs.declared.Kind.{Kind}
 use Rattle.step.specs.declared.Kind.the-variants.{OpCode, HaltEnd, Restarts, Waits, Stuck}
-use Rattle.step.specs.Step.{After, orElse, raised, hears, workOf, causeOf, errorOf}
+use Rattle.step.specs.Step.{After, orAt, raised, hears, workOf, causeOf, errorOf}
 
 pub record Eleven (settings : Settings) : Type 0 where
   pub powerup : settings .powerup ≡ 3
@@ -44,7 +44,7 @@ plainKindIn Saved hearing out = Stuck
 abbrev pub plainStepOf : List ℕ → Outside → State → List ℕ → After
 plainStepOf map out s m =
     let k = plainKindIn (s .mode) (hears s) out in
-    orElse (run map (workOf k out s) m) (causeOf k) (errorOf map k out s m)
+    orAt (run map (workOf k out s) m) (causeOf k) (errorOf map k out s m)
 
 -- ---- the power-up
 

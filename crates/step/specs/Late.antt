@@ -24,5 +24,5 @@ pub record Asks (out : Outside) : Type 0 where
   pub asks : (out .i1 || out .i0) ≡ true
 
 -- the interrupt that is heard
-abbrev pub heard : Outside → Kind
-heard out = cond (out .i1) NonVectored Vectored
+abbrev pub interruptHeard : Outside → Kind
+interruptHeard out = cond (out .i1) NonVectored Vectored

@@ -10,15 +10,15 @@ use Rattle.state.specs.State.{reg, withReg, withMode, withStatus, psOf}
 use Rattle.wordmath.specs.Address.{twice}
 
 -- register k has place k; the ninth is that of PS
-abbrev pub placeOf : ℕ → ℕ
-placeOf k = twice k
+abbrev pub savePlace : ℕ → ℕ
+savePlace k = twice k
 
 unfoldable pub keep : State → ℕ → Work (Unit {0})
-keep s k = Work.store (placeOf k) (reg s k)
+keep s k = Work.store (savePlace k) (reg s k)
 
 unfoldable pub pickUp : State → ℕ → Work State
 pickUp s k = do
-  v ← load (placeOf k)
+  v ← load (savePlace k)
   give (withReg s k v)
 
 -- R0 to R5, SP, PC
@@ -48,12 +48,12 @@ pickUpRegisters s = do
 unfoldable pub save : Outside → State → Work State
 save out s = do
   keepRegisters s
-  Work.store (placeOf 8) (psOf out false s)
+  Work.store (savePlace 8) (psOf out false s)
   give (withMode s Saved)
 
 -- Picked up, PS as if popped, and running.
 unfoldable pub restore : State → Work State
 restore s = do
   s ← pickUpRegisters s
-  ps ← load (placeOf 8)
+  ps ← load (savePlace 8)
   give (withMode (withStatus s ps) Running)

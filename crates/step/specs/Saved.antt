@@ -7,17 +7,17 @@ use Rattle.board.specs.Work.{withWord}
 use Rattle.state.specs.declared.State.{State}
 use Rattle.state.specs.declared.Outside.{Outside}
 use Rattle.state.specs.State.{reg, psOf}
-use Rattle.step.specs.Places.{placeOf}
+use Rattle.step.specs.Places.{savePlace}
 
 -- ---- the image after a save
 
 -- the first n registers at their places
 unfoldable pub keptIn : ℕ → State → List ℕ → List ℕ
 keptIn zero s m = m
-keptIn (suc n) s m = withWord (keptIn n s m) (placeOf n) (reg s n)
+keptIn (suc n) s m = withWord (keptIn n s m) (savePlace n) (reg s n)
 
 abbrev pub savedIn : Outside → State → List ℕ → List ℕ
-savedIn out s m = withWord (keptIn 8 s m) (placeOf 8) (psOf out false s)
+savedIn out s m = withWord (keptIn 8 s m) (savePlace 8) (psOf out false s)
 
 -- the registers are words, and page 0 lies in the image
 pub record Words (s : State) (m : List ℕ) : Type 0 where

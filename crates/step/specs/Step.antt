@@ -124,8 +124,8 @@ ofCause Cause.Locked = causeRow 8 Nowhere Nowhere  -- locked before, or by the o
 abbrev pub causeNumber : Cause → ℕ
 causeNumber cause = ofCause cause .number
 
-abbrev pub addressOf : Cause → Told
-addressOf cause = ofCause cause .address
+abbrev pub causeAddress : Cause → Told
+causeAddress cause = ofCause cause .address
 
 abbrev pub blankAt : Cause → Told
 blankAt cause = ofCause cause .blank
@@ -192,19 +192,19 @@ abbrev pub after : State → List ℕ → Cause → After
 after s m k = record { state = s; image = m; cause = k }
 
 -- what the work came to, or what is done where it was not answered at a
-abbrev pub orElse : Came State → Cause → (ℕ → After) → After
-orElse (value s m) cause other = after s m cause
-orElse (blank a) cause other = other a
+abbrev pub orAt : Came State → Cause → (ℕ → After) → After
+orAt (value s m) cause other = after s m cause
+orAt (blank a) cause other = other a
 
 -- All work is dropped; the bus error's trap; if that too is not answered, all is as before but the mode, which is locked.
 -- The address told is the one that the dropped work reached, before bit 0 is dropped, and never the trap's.
 unfoldable pub errorOf : List ℕ → Kind → Outside → State → List ℕ → ℕ → After
-errorOf map k out s m a = orElse (run map (busError k out s) m) (errorCauseOf k a) (λ _. after (withMode s Locked) m (LockedAt a))
+errorOf map k out s m a = orAt (run map (busError k out s) m) (errorCauseOf k a) (λ _. after (withMode s Locked) m (LockedAt a))
 
 unfoldable pub stepOf : List ℕ → Outside → State → List ℕ → After
 stepOf map out s m =
     let k = kindOf s out in
-    orElse (run map (workOf k out s) m) (causeOf k) (errorOf map k out s m)
+    orAt (run map (workOf k out s) m) (causeOf k) (errorOf map k out s m)
 
 -- ---- power-up: the option's work on a cleared state and a quiet line
 

@@ -4,7 +4,7 @@ use mathlib.Core.List.{List, [], _∷_, _++_}
 use mathlib.Core.Path.{_≡_}
 use lib.ListN.{getD}
 use Rattle.board.specs.Work.{Work, Came, value, blank, run}
-use Rattle.board.specs.Exec.{Store, Board, count}
+use Rattle.board.specs.Exec.{Store, Board, logCount}
 use Rattle.state.specs.declared.State.{State}
 use Rattle.state.specs.declared.Outside.{Outside}
 use Rattle.step.specs.declared.Kind.{Kind}
@@ -47,11 +47,11 @@ entries (suc n) l = entries n l ++ (getD l (n * 2 + 1) 0 ∷ [])
 
 -- of all its entries
 abbrev pub addresses : List ℕ → List ℕ
-addresses l = entries (count l) l
+addresses l = entries (logCount l) l
 
 -- ---- what a step promises that leaves its log
 
-pub record Logged (map : List ℕ) (a : After) (ws : List ℕ) (r : Turn) (st : Store) : Type 0 where
+pub record LoggedStep (map : List ℕ) (a : After) (ws : List ℕ) (r : Turn) (st : Store) : Type 0 where
   pub turn : turnOf r (st .image) ≡ a
   pub wrote : addresses (st .log) ≡ ws
   pub board : Board map st

@@ -105,7 +105,7 @@ pub fn blank_at(cause: Cause) -> Told
 
 // The address that a step tells: that of a blank, and that of a lock-up which is newly met.
 pub fn address_of(cause: Cause) -> Told
-    ensures { λ r. ⌜ r ≡ Spec.addressOf cause ⌝ }
+    ensures { λ r. ⌜ r ≡ Spec.causeAddress cause ⌝ }
 {
     match cause {
         Cause::OpCode => Told::Nowhere,

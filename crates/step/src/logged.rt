@@ -41,7 +41,7 @@ pub(crate) fn dropped(
     a: u16,
 ) -> Turn
     requires { ⌜ Board (now map) (beside (now image) (now log)) ⌝ }
-    ensures { λ r. ⌜ Spec.Logged (now (map .entry)) (errorOf (now (map .entry)) k out s (undone (beside (now (image .entry)) (now (log .entry)))) a)
+    ensures { λ r. ⌜ Spec.LoggedStep (now (map .entry)) (errorOf (now (map .entry)) k out s (undone (beside (now (image .entry)) (now (log .entry)))) a)
         (Spec.errorWrites (now (map .entry)) k out s (undone (beside (now (image .entry)) (now (log .entry))))) r (beside (now (image .exit)) (now (log .exit))) ⌝ }
 {
     board::rollback(image, log);
@@ -61,7 +61,7 @@ pub(crate) fn dropped(
 // One step, with a log that may hold an earlier step's entries. After it the log's entries are what the step wrote.
 pub fn step(s: State, image: &mut [u8], map: &[u8], log: &mut [u16; 32], out: Outside) -> Turn
     requires { ⌜ Board (now map) (beside (now image) (now log)) ⌝ }
-    ensures { λ r. ⌜ Spec.Logged (now (map .entry)) (stepOf (now (map .entry)) out s (now (image .entry)))
+    ensures { λ r. ⌜ Spec.LoggedStep (now (map .entry)) (stepOf (now (map .entry)) out s (now (image .entry)))
         (Spec.stepWrites (now (map .entry)) out s (now (image .entry))) r (beside (now (image .exit)) (now (log .exit))) ⌝ }
 {
     let k = kind_of(s, out);

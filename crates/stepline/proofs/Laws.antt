@@ -40,7 +40,7 @@ use Rattle.step.specs.Step.{kindOf, isCode, stepOf, turnOf}
 use Rattle.step.specs.Written.{entries, stepWrites}
 use Rattle.stepline.specs.declared.Shown.{Shown}
 use Rattle.stepline.specs.declared.Shown.the-variants as Shown
-use Rattle.stepline.specs.Shown.{column, columns, figures, writesText, tab, codeText, lineOf, stepText, showWhy, shownAs, showOf, shownPage}
+use Rattle.stepline.specs.Shown.{column, columns, figures, writesText, tab, codeText, stepLine, stepText, showWhy, shownAs, showOf, shownPage}
 use Rattle.stepline.specs.Shown as Spec
 
 -- ---- columns
@@ -62,21 +62,21 @@ columns-more values n = rw (add-one n) refl
 
 -- ---- words
 
-pub pair-length : (m : List ℕ) (a : ℕ) → length (Spec.wordText m a) ≡ 10
+pub pair-length : (m : List ℕ) (a : ℕ) → length (Spec.writtenWord m a) ≡ 10
 pair-length m a =
     length-append (column (a / 2 * 2)) (column (wordAt m (a / 2 * 2)))
     ∙ omega (arith, column-length (a / 2 * 2), column-length (wordAt m (a / 2 * 2)))
 
-writes-snoc : (m xs : List ℕ) (a : ℕ) → writesText m (xs ++ (a ∷ [])) ≡ writesText m xs ++ Spec.wordText m a
+writes-snoc : (m xs : List ℕ) (a : ℕ) → writesText m (xs ++ (a ∷ [])) ≡ writesText m xs ++ Spec.writtenWord m a
 unfolding writesText
-writes-snoc m [] a = append-nil (Spec.wordText m a)
-writes-snoc m (b ∷ xs) a = rw (writes-snoc m xs a) (sym (append-assoc (Spec.wordText m b) (writesText m xs) (Spec.wordText m a)))
+writes-snoc m [] a = append-nil (Spec.writtenWord m a)
+writes-snoc m (b ∷ xs) a = rw (writes-snoc m xs a) (sym (append-assoc (Spec.writtenWord m b) (writesText m xs) (Spec.writtenWord m a)))
 
 pub writes-none : (m l b : List ℕ) → Wrote (writesText m (entries 0 l)) b b 0
 unfolding writesText entries
 writes-none m l b = wrote-none b
 
-pub writes-more : (m l : List ℕ) (i : ℕ) → writesText m (entries i l) ++ Spec.wordText m (getD l (i * 2 + 1) 0) ≡ writesText m (entries (i + 1) l)
+pub writes-more : (m l : List ℕ) (i : ℕ) → writesText m (entries i l) ++ Spec.writtenWord m (getD l (i * 2 + 1) 0) ≡ writesText m (entries (i + 1) l)
 unfolding entries
 writes-more m l i = rw (add-one i) (sym (writes-snoc m (entries i l) (getD l (i * 2 + 1) 0)))
 
@@ -86,7 +86,7 @@ writes-length m l zero = refl
 writes-length m l (suc n) =
     let a = getD l (n * 2 + 1) 0 in
     ap length (writes-snoc m (entries n l) a)
-    ∙ length-append (writesText m (entries n l)) (Spec.wordText m a)
+    ∙ length-append (writesText m (entries n l)) (Spec.writtenWord m a)
     ∙ omega (arith, writes-length m l n, pair-length m a)
 
 -- ---- what stands at PC
@@ -190,7 +190,7 @@ module _ (settings : Settings) (image map : List ℕ) (line number : ℕ) (s : S
 
   -- the line of the turn, the image and the addresses that the step came to
   pub shown-is : (r : Turn) (n : ℕ) (m e ws : List ℕ) → turnOf r m ≡ stepOf map (heard settings line) s image → ws ≡ stepWrites map (heard settings line) s image
-      → Wrote (lineOf settings map line number s image (turnOf r m) ws) b e n
+      → Wrote (stepLine settings map line number s image (turnOf r m) ws) b e n
       → left (shownPage (Shown.Line n r)) (m, e) ≡ shownAs (stepOf map (heard settings line) s image) (stepText settings map line number s image) b
   unfolding stepText
   shown-is r n m e ws d q w = rw (← d, ← q, w .bytes, w .count) refl
@@ -201,7 +201,7 @@ module _ (settings : Settings) (image map : List ℕ) (line number : ℕ) (s : S
       → values ≡ figures settings map number line s (r .state) (r .cause)
       → Wrote (codeText map code s image) b b1 n1 → WroteAt n1 tab b1 b2 n2 → WroteAt n2 (columns values 15) b2 b3 n3 → WroteAt n3 (writesText m ws) b3 e n
       → left (shownPage (Shown.Line n r)) (m, e) ≡ shownAs (stepOf map (heard settings line) s image) (stepText settings map line number s image) b
-  unfolding lineOf
+  unfolding stepLine
   line-is r out k code values m ws b1 b2 b3 e n1 n2 n3 n ho hk hc turn wrote hv w1 w2 w3 w4 =
       let code-is : code ≡ isCode (kindOf s (heard settings line)) = hc ∙ ap isCode (hk ∙ ap (λ (o : Outside). kindOf s o) ho) in
       shown-is r n m e ws (turn ∙ ap (λ (o : Outside). stepOf map o s image) ho) (wrote ∙ ap (λ (o : Outside). stepWrites map o s image) ho)

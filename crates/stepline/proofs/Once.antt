@@ -8,9 +8,9 @@ use Rattle.step.specs.declared.Turn.{Turn}
 use Rattle.machine.proofs.Laws.Back.{turn-one}
 use Rattle.stepline.specs.declared.Shown.{Shown}
 use Rattle.stepline.specs.declared.Shown.the-variants.{Line, Refused}
-use Rattle.stepline.specs.Shown.{ShownPage, shown, shownPage}
+use Rattle.stepline.specs.Shown.{ShownPage, stepShown, shownPage}
 
-line-one : (n k : ℕ) (t u : Turn) → shown n t ≡ shown k u → Line n t ≡ Line k u
+line-one : (n k : ℕ) (t u : Turn) → stepShown n t ≡ stepShown k u → Line n t ≡ Line k u
 line-one n k t u e =
     let size : n ≡ k = ap (λ (p : ShownPage). p .count) e in
     let same : t ≡ u = turn-one t u (ap (λ (p : ShownPage). p .turn) e) in

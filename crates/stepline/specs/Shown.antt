@@ -7,7 +7,7 @@ use mathlib.Core.List.{List, [], _∷_, _++_}
 use lib.ListN.{length, getD}
 use lib.Dec.{eqb, ltb}
 use Rattle.hexdigits.specs.Digits.{hexOf}
-use Rattle.hexdigits.specs.Over.{over}
+use Rattle.hexdigits.specs.Over.{inFrontOf}
 use Rattle.wordbytes.specs.Words.{byteAt, wordAt}
 use Rattle.state.specs.declared.State.{State}
 use Rattle.state.specs.declared.Settings.{Settings}
@@ -16,7 +16,7 @@ use Rattle.step.specs.declared.Turn.{Turn}
 use Rattle.step.specs.declared.Cause.{Cause}
 use Rattle.step.specs.declared.Told.{Told}
 use Rattle.step.specs.declared.Told.the-variants.{Nowhere, At}
-use Rattle.step.specs.Step.{After, kindOf, isCode, causeNumber, addressOf, stepOf}
+use Rattle.step.specs.Step.{After, kindOf, isCode, causeNumber, causeAddress, stepOf}
 use Rattle.step.specs.Written.{stepWrites}
 use Rattle.refusal.specs.Numbers.{textShort}
 use Rattle.refusal.specs.Page.{Page, refused, answered, Left, left, call, first}
@@ -54,9 +54,9 @@ columns values (suc n) = columns values n ++ column (getD values n 0)
 abbrev pub changed : ℕ → ℕ → ℕ
 changed before after = cond (eqb before after) none after
 
-abbrev pub told : Told → ℕ
-told Nowhere = none
-told (At a) = a
+abbrev pub causeWord : Told → ℕ
+causeWord Nowhere = none
+causeWord (At a) = a
 
 -- the map's byte for the page of that address
 abbrev pub pageTold : List ℕ → Told → ℕ
@@ -86,19 +86,19 @@ figures settings map number line s t cause =
     ∷ changed (status settings s) (status settings t)
     ∷ changed (mode s) (mode t)
     ∷ causeNumber cause
-    ∷ told (addressOf cause)
-    ∷ pageTold map (addressOf cause)
+    ∷ causeWord (causeAddress cause)
+    ∷ pageTold map (causeAddress cause)
     ∷ []
 
 -- ---- the words that were written
 
 -- a word access drops bit 0 of its address, and a byte is shown with its word
-abbrev pub wordText : List ℕ → ℕ → List ℕ
-wordText m a = column (a / 2 * 2) ++ column (wordAt m (a / 2 * 2))
+abbrev pub writtenWord : List ℕ → ℕ → List ℕ
+writtenWord m a = column (a / 2 * 2) ++ column (wordAt m (a / 2 * 2))
 
 unfoldable pub writesText : List ℕ → List ℕ → List ℕ
 writesText m [] = []
-writesText m (a ∷ xs) = wordText m a ++ writesText m xs
+writesText m (a ∷ xs) = writtenWord m a ++ writesText m xs
 
 -- ---- the line
 
@@ -110,42 +110,42 @@ unfoldable pub codeText : List ℕ → Bool → State → List ℕ → List ℕ
 codeText map code s m = cond code (lineAt map m 65534 (s .regs .pc / 2 * 2)) []
 
 -- of a step from the state s and the image m that came to `a` and wrote at the addresses ws
-unfoldable pub lineOf : Settings → List ℕ → ℕ → ℕ → State → List ℕ → After → List ℕ → List ℕ
-lineOf settings map line number s m a ws =
+unfoldable pub stepLine : Settings → List ℕ → ℕ → ℕ → State → List ℕ → After → List ℕ → List ℕ
+stepLine settings map line number s m a ws =
     ((codeText map (isCode (kindOf s (heard settings line))) s m ++ tab) ++ columns (figures settings map number line s (a .state) (a .cause)) 15) ++ writesText (a .image) ws
 
 unfoldable pub stepText : Settings → List ℕ → ℕ → ℕ → State → List ℕ → List ℕ
 stepText settings map line number s m =
     let out = heard settings line in
-    lineOf settings map line number s m (stepOf map out s m) (stepWrites map out s m)
+    stepLine settings map line number s m (stepOf map out s m) (stepWrites map out s m)
 
 -- ---- the call
 
 -- a listing's line has at most 52 characters, a tab one, the columns 75, and fifteen words at most are written
-abbrev pub room : ℕ
-room = 278
+abbrev pub stepRoom : ℕ
+stepRoom = 278
 
 -- 1, 2, 3, 35 or 5; 8, the text is under 278
 unfoldable pub showWhy : Settings → ℕ → List ℕ → ℕ → ℕ → ℕ
 showWhy settings size map line text =
     first (stepRefusal size map (settings .powerup) (settings .halt) (settings .register) line)
-    (cond (ltb text room) textShort 0)
+    (cond (ltb text stepRoom) textShort 0)
 
 -- the line's length, and what the step answers
 pub record ShownPage : Type 0 where
   pub count : ℕ
   pub turn : TurnPage
 
-abbrev pub shown : ℕ → Turn → ShownPage
-shown n t = record { count = n; turn = turnPage t }
+abbrev pub stepShown : ℕ → Turn → ShownPage
+stepShown n t = record { count = n; turn = turnPage t }
 
 abbrev pub shownPage : Shown → Page ShownPage
-shownPage (Shown.Line n t) = answered (shown n t)
+shownPage (Shown.Line n t) = answered (stepShown n t)
 shownPage (Shown.Refused why) = refused why
 
 -- the image after the step; the line at the front of the text, and the rest of it as it was
 abbrev pub shownAs : After → List ℕ → List ℕ → Left ShownPage (List ℕ × List ℕ)
-shownAs a t b = left (answered (shown (length t) (record { state = a .state; cause = a .cause }))) (a .image, over t b)
+shownAs a t b = left (answered (stepShown (length t) (record { state = a .state; cause = a .cause }))) (a .image, inFrontOf t b)
 
 unfoldable pub showOf : Settings → List ℕ → List ℕ → ℕ → ℕ → State → List ℕ → Left ShownPage (List ℕ × List ℕ)
 showOf settings image map line number s b =

@@ -17,7 +17,7 @@ ghost use mathlib.Core.Path.{_≡_};
 ghost use Prim.Native.Nat.{_+_, _*_, _≤_};
 ghost use lib.ListN.{length};
 ghost use Rattle.hexdigits.specs.Over.{Wrote, WroteAt};
-ghost use Rattle.board.specs.Exec.{Board, Lent, beside, count};
+ghost use Rattle.board.specs.Exec.{Board, Lent, beside, logCount};
 ghost use Rattle.state.specs.State.{heard};
 ghost use Rattle.step.specs.Step.{causeNumber, stepOf};
 ghost use Rattle.step.specs.Written.{addresses};
@@ -101,7 +101,7 @@ fn changed(before: u16, after: u16) -> u32
 }
 
 fn told(address: Told) -> u32
-    ensures { λ r. ⌜ r ≡ Spec.told address ⌝ }
+    ensures { λ r. ⌜ r ≡ Spec.causeWord address ⌝ }
 {
     match address {
         Told::Nowhere => NONE,
@@ -175,7 +175,7 @@ fn figures(
 // The even address of an access, and the word there.
 fn put_word(out: &mut [u8], image: &[u8], a: u16) -> usize
     requires { ⌜ 10 ≤ length (now out) ⌝ }
-    ensures { λ n. ⌜ Wrote (Spec.wordText (now (image .entry)) a) (now (out .entry)) (now (out .exit)) n ⌝ }
+    ensures { λ n. ⌜ Wrote (Spec.writtenWord (now (image .entry)) a) (now (out .entry)) (now (out .exit)) n ⌝ }
 {
     let at = a / 2 * 2;
     let n = put_column(out, at as u32);
@@ -184,14 +184,14 @@ fn put_word(out: &mut [u8], image: &[u8], a: u16) -> usize
 
 fn word_text_at(text: &mut [u8], at: usize, image: &[u8], a: u16) -> usize
     requires { ⌜ at + 10 ≤ length (now text) ⌝ }
-    ensures { λ n. ⌜ WroteAt at (Spec.wordText (now (image .entry)) a) (now (text .entry)) (now (text .exit)) n ⌝ }
+    ensures { λ n. ⌜ WroteAt at (Spec.writtenWord (now (image .entry)) a) (now (text .entry)) (now (text .exit)) n ⌝ }
 {
     at + put_word(&mut text[at..], image, a)
 }
 
 // The words at the log's addresses, one after the other.
 fn put_writes(text: &mut [u8], image: &[u8], log: &[u16; 32]) -> usize
-    requires { ⌜ (150 ≤ length (now text)) × (length (now log) ≡ 32) × (count (now log) ≤ 15) ⌝ }
+    requires { ⌜ (150 ≤ length (now text)) × (length (now log) ≡ 32) × (logCount (now log) ≤ 15) ⌝ }
     ensures { λ n. ⌜ Wrote (Spec.writesText (now (image .entry)) (addresses (now (log .entry)))) (now (text .entry)) (now (text .exit)) n ⌝ }
 {
     let entries = log[0] as usize;
@@ -205,7 +205,7 @@ fn put_writes(text: &mut [u8], image: &[u8], log: &[u16; 32]) -> usize
 }
 
 fn writes_at(text: &mut [u8], at: usize, image: &[u8], log: &[u16; 32]) -> usize
-    requires { ⌜ (at + 150 ≤ length (now text)) × (length (now log) ≡ 32) × (count (now log) ≤ 15) ⌝ }
+    requires { ⌜ (at + 150 ≤ length (now text)) × (length (now log) ≡ 32) × (logCount (now log) ≤ 15) ⌝ }
     ensures { λ n. ⌜ WroteAt at (Spec.writesText (now (image .entry)) (addresses (now (log .entry)))) (now (text .entry)) (now (text .exit)) n ⌝ }
 {
     at + put_writes(&mut text[at..], image, log)

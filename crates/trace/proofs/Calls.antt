@@ -8,7 +8,7 @@ use lib.ListN.{length, take}
 use lib.Seq.{sets, sets-eq, length-take-le}
 use borrow.Author.Tests.{le-leb, lt-leb}
 use Rattle.wordbytes.specs.Words.{wordAt, bytesIn}
-use Rattle.hexdigits.specs.Over.{over}
+use Rattle.hexdigits.specs.Over.{inFrontOf}
 use Rattle.step.specs.Step.{After}
 use Rattle.refusal.specs.Numbers.{outputShort}
 use Rattle.refusal.specs.Page.{refused, answered, left}
@@ -17,7 +17,7 @@ use Rattle.job.specs.Job.{linesAt, mapOf, linesOf, lineWords, whyRead}
 use Rattle.job.proofs.Laws.Sound.{lines-length}
 use Rattle.endline.specs.Report.{benchBoard}
 use Rattle.runjob.specs.declared.Begun.{Begun}
-use Rattle.runjob.specs.Bench.{upOf, Begins}
+use Rattle.runjob.specs.Bench.{upOf, RunBegins}
 use Rattle.trace.specs.declared.Verdict.{Verdict}
 use Rattle.trace.specs.Trace.{entriesOf, stepsOf, rightTrace, imageAfter, joined, traceBytes, toldIn, whyTrace, compared, verdictOf, verdictPage, checkOf, longest, madeOf, makeOf}
 use Rattle.trace.proofs.Laws.Bytes.{trace-length}
@@ -25,7 +25,7 @@ use Rattle.trace.specs.Walk.{trail, imageOn}
 
 -- ---- from where a job begins
 
-module _ (input : List ℕ) {b : Begun} {i m l : List ℕ} (h : Begins input b i m l) where
+module _ (input : List ℕ) {b : Begun} {i m l : List ℕ} (h : RunBegins input b i m l) where
   begun-trail : trail m (take (b .count) l) (b .state) i ≡ stepsOf input
   unfolding stepsOf lineWords
   begun-trail = rw (h .mapIs, h .linesIs, h .countIs) (ap (λ u. trail (mapOf input) (take (wordAt input (linesAt input)) (linesOf input)) (u .state) (u .image)) (h .powered))
@@ -50,7 +50,7 @@ module _ (input t image map lines : List ℕ) where
   check-cut zero j e n = absurd (n refl)
   check-cut (suc why) j e n = rw (j, ← e)
 
-  pub check-done : {b : Begun} {i m l : List ℕ} (n : List ℕ) (v : Verdict) → whyRead (length image) (length map) (length lines) input ≡ 0 → whyTrace t ≡ 0 → Begins input b i m l
+  pub check-done : {b : Begun} {i m l : List ℕ} (n : List ℕ) (v : Verdict) → whyRead (length image) (length map) (length lines) input ≡ 0 → whyTrace t ≡ 0 → RunBegins input b i m l
       → (v ≡ compared 0 (entriesOf (trail m (take (b .count) l) (b .state) i)) (toldIn t)) × (n ≡ imageOn m (take (b .count) l) (b .state) i)
       → left (answered (verdictPage v)) (n, m, l) ≡ checkOf input t image map lines
   unfolding checkOf
@@ -80,8 +80,8 @@ module _ (input : List ℕ) (few : wordAt input (linesAt input) ≤ length (line
   unfolding traceBytes
   right-bytes = ap (λ n. bytesIn (n ∷ joined (rightTrace input))) (sym right-count)
 
-  in-front : (out : List ℕ) → longest ≤ length out → sets out 0 (bytesIn (wordAt input (linesAt input) ∷ joined (rightTrace input))) ≡ over (traceBytes (rightTrace input)) out
-  unfolding over
+  in-front : (out : List ℕ) → longest ≤ length out → sets out 0 (bytesIn (wordAt input (linesAt input) ∷ joined (rightTrace input))) ≡ inFrontOf (traceBytes (rightTrace input)) out
+  unfolding inFrontOf
   in-front out l =
       let size = right-length in
       let most = lines-length input in
@@ -102,12 +102,12 @@ module _ (input out image map lines : List ℕ) where
   unfolding makeOf
   make-answered j h = rw (j, le-leb longest (length out) h)
 
-  pub make-done : {b : Begun} {i m l : List ℕ} (n out′ : List ℕ) → whyRead (length image) (length map) (length lines) input ≡ 0 → Begins input b i m l → longest ≤ length out
+  pub make-done : {b : Begun} {i m l : List ℕ} (n out′ : List ℕ) → whyRead (length image) (length map) (length lines) input ≡ 0 → RunBegins input b i m l → longest ≤ length out
       → (out′ ≡ sets out 0 (bytesIn (b .count ∷ joined (entriesOf (trail m (take (b .count) l) (b .state) i))))) × (n ≡ imageOn m (take (b .count) l) (b .state) i)
       → left (answered (2 + b .count * 20)) (out′, n, m, l) ≡ makeOf input out image map lines
   make-done {b} n out′ j h k e =
       let few = begun-few input h in
-      let bytes : out′ ≡ over (traceBytes (rightTrace input)) out = e .0 ∙ rw (begun-trail input h, h .countIs) (in-front input few out k) in
+      let bytes : out′ ≡ inFrontOf (traceBytes (rightTrace input)) out = e .0 ∙ rw (begun-trail input h, h .countIs) (in-front input few out k) in
       let size : 2 + b .count * 20 ≡ length (traceBytes (rightTrace input)) = rw (h .countIs) (sym (right-length input few)) in
       let there : n ≡ imageAfter input = e .1 ∙ begun-image input h in
       rw (bytes, size, there, h .mapIs, h .linesIs) (make-answered j k)

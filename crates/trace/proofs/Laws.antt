@@ -18,10 +18,10 @@ use Rattle.step.specs.declared.Cause.{Cause}
 use Rattle.step.specs.declared.Cause.the-variants as Cause
 use Rattle.step.specs.Step.{After, after, up}
 use Rattle.refusal.specs.Numbers.{traceCut}
-use Rattle.machine.specs.Trail.{trailOf, lastOf}
+use Rattle.machine.specs.Trail.{trailOf, lastAfter}
 use Rattle.trace.specs.declared.Verdict.{Verdict}
 use Rattle.trace.specs.declared.Verdict.the-variants.{Accepted, Wrong, Missing, Extra}
-use Rattle.trace.specs.Trace.{entryOf, entriesOf, joined, wordsFrom, entriesFrom, toldIn, whyTrace, orElse, differ, compared}
+use Rattle.trace.specs.Trace.{entryOf, entriesOf, joined, wordsFrom, entriesFrom, toldIn, whyTrace, orElse, firstWrong, compared}
 use Rattle.trace.proofs.Laws.Bytes.{bytes-append, bytes-length, right-ten}
 use Rattle.trace.specs.Walk.{toldFrom, stepVerdict, stepped, trail, imageOn, upAfter}
 
@@ -51,16 +51,16 @@ words-at t at (suc n) (suc k) h = let e : at + 2 + k * 2 ≡ at + suc k * 2 = om
 -- ---- field by field
 
 module _ (step k : ℕ) (xs ys : List ℕ) where
-  pub differ-more : k < length xs → k < length ys → getD xs k 0 ≡ getD ys k 0 → differ step (k + 1) (drop (k + 1) xs) (drop (k + 1) ys) ≡ differ step k (drop k xs) (drop k ys)
-  unfolding differ
+  pub differ-more : k < length xs → k < length ys → getD xs k 0 ≡ getD ys k 0 → firstWrong step (k + 1) (drop (k + 1) xs) (drop (k + 1) ys) ≡ firstWrong step k (drop k xs) (drop k ys)
+  unfolding firstWrong
   differ-more h l e = rw (add-one k, drop-cons xs k 0 h, drop-cons ys k 0 l, eq-eqb (getD xs k 0) (getD ys k 0) e, add-one k)
 
-  pub differ-here : k < length xs → k < length ys → (getD xs k 0 ≡ getD ys k 0 → ⊥) → Wrong step k (getD xs k 0) ≡ differ step k (drop k xs) (drop k ys)
-  unfolding differ
+  pub differ-here : k < length xs → k < length ys → (getD xs k 0 ≡ getD ys k 0 → ⊥) → Wrong step k (getD xs k 0) ≡ firstWrong step k (drop k xs) (drop k ys)
+  unfolding firstWrong
   differ-here h l n = rw (drop-cons xs k 0 h, drop-cons ys k 0 l, ne-eqb (getD xs k 0) (getD ys k 0) n)
 
-  pub differ-end : k ≡ length xs → Accepted ≡ differ step k (drop k xs) (drop k ys)
-  unfolding differ
+  pub differ-end : k ≡ length xs → Accepted ≡ firstWrong step k (drop k xs) (drop k ys)
+  unfolding firstWrong
   differ-end e = rw (e, drop-length xs)
 
 -- ---- step by step
@@ -96,11 +96,11 @@ pub told-missing : (t right : List ℕ) (step : ℕ) → wordAt t 0 ≤ step →
 unfolding toldFrom entriesFrom
 told-missing t right step h = let z : wordAt t 0 - step ≡ 0 = omega arith in rw z
 
-pub told-there : (t right : List ℕ) (step at : ℕ) → step < wordAt t 0 → at ≡ 2 + step * 20 → differ step 0 right (wordsFrom t at 10) ≡ stepVerdict step right (toldFrom t step)
+pub told-there : (t right : List ℕ) (step at : ℕ) → step < wordAt t 0 → at ≡ 2 + step * 20 → firstWrong step 0 right (wordsFrom t at 10) ≡ stepVerdict step right (toldFrom t step)
 unfolding toldFrom entriesFrom
 told-there t right step at h e = split (wordAt t 0 - step) (omega arith)
   where
-    split : (n : ℕ) → 0 < n → differ step 0 right (wordsFrom t at 10) ≡ stepVerdict step right (entriesFrom t (2 + step * 20) n)
+    split : (n : ℕ) → 0 < n → firstWrong step 0 right (wordsFrom t at 10) ≡ stepVerdict step right (entriesFrom t (2 + step * 20) n)
     split zero h = absurd (omega arith)
     split (suc n) h = rw e
 
@@ -133,14 +133,14 @@ module _ (map lines : List ℕ) (i : ℕ) (s : State) (m : List ℕ) where
       let a = stepped map (getD lines i 0) s m in
       ap (λ u. imageOn map (drop (i + 1) lines) (u .state) (u .image)) e
       ∙ any-cause (trail map (drop (i + 1) lines) (a .state) (a .image)) (a .state) (a .image) Cause.Nothing (a .cause)
-      ∙ sym (ap (λ z. lastOf (after s m Cause.Nothing) z .image) (trail-more h))
+      ∙ sym (ap (λ z. lastAfter (after s m Cause.Nothing) z .image) (trail-more h))
     where
-      any-cause : (rs : List After) (s : State) (m : List ℕ) (c d : Cause) → lastOf (after s m c) rs .image ≡ lastOf (after s m d) rs .image
+      any-cause : (rs : List After) (s : State) (m : List ℕ) (c d : Cause) → lastAfter (after s m c) rs .image ≡ lastAfter (after s m d) rs .image
       any-cause [] s m c d = refl
       any-cause (a ∷ rs) s m c d = refl
 
   pub image-none : i ≡ length lines → imageOn map (drop i lines) s m ≡ m
-  image-none e = ap (λ z. lastOf (after s m Cause.Nothing) z .image) (trail-none e)
+  image-none e = ap (λ z. lastAfter (after s m Cause.Nothing) z .image) (trail-none e)
 
   -- and what a trace is found to be from there on
   pub judge-more : (t : List ℕ) (s′ : State) (m′ : List ℕ) (found found′ v : Verdict) → i < length lines → up s′ m′ ≡ upAfter (stepped map (getD lines i 0) s m)

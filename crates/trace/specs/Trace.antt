@@ -9,11 +9,11 @@ use Rattle.state.specs.declared.State.{State}
 use Rattle.state.specs.State.{modeNumber, psOf, heard}
 use Rattle.step.specs.declared.Cause.the-variants as Cause
 use Rattle.step.specs.Step.{After, after}
-use Rattle.hexdigits.specs.Over.{over}
+use Rattle.hexdigits.specs.Over.{inFrontOf}
 use Rattle.refusal.specs.Numbers.{outputShort, traceCut}
 use Rattle.refusal.specs.Page.{Page, refused, answered, Left, left, call, first}
-use Rattle.machine.specs.Numbers.{registers}
-use Rattle.machine.specs.Trail.{trailOf, lastOf}
+use Rattle.machine.specs.Numbers.{registersOf}
+use Rattle.machine.specs.Trail.{trailOf, lastAfter}
 use Rattle.job.specs.Job.{mapOf, linesOf, lineWords, whyRead}
 use Rattle.endline.specs.Report.{benchBoard}
 use Rattle.runjob.specs.Bench.{upOf}
@@ -28,7 +28,7 @@ use Rattle.trace.specs.declared.Made.the-variants as Made
 
 -- R0 to R5, SP, PC, PS with bits 15 and 14 clear, as it is formed on a quiet line; the mode
 unfoldable pub entryOf : State → List ℕ
-entryOf s = registers s ++ (psOf (heard benchBoard 0) false s % 16384 ∷ modeNumber (s .mode) ∷ [])
+entryOf s = registersOf s ++ (psOf (heard benchBoard 0) false s % 16384 ∷ modeNumber (s .mode) ∷ [])
 
 -- one for each step
 unfoldable pub entriesOf : List After → List (List ℕ)
@@ -47,7 +47,7 @@ abbrev pub startOf : List ℕ → After
 startOf input = after (upOf input .state) (upOf input .image) Cause.Nothing
 
 unfoldable pub imageAfter : List ℕ → List ℕ
-imageAfter input = lastOf (startOf input) (stepsOf input) .image
+imageAfter input = lastAfter (startOf input) (stepsOf input) .image
 
 -- ---- as bytes: the count, then the fields of each entry, all two bytes, low first
 
@@ -89,10 +89,10 @@ orElse (Missing step) later = Missing step
 orElse (Extra step) later = Extra step
 
 -- a step's first wrong field from field k on, and what is right there
-unfoldable pub differ : ℕ → ℕ → List ℕ → List ℕ → Verdict
-differ step k [] told = Accepted
-differ step k (x ∷ right) [] = Accepted
-differ step k (x ∷ right) (y ∷ told) = cond (eqb x y) (differ step (k + 1) right told) (Wrong step k x)
+unfoldable pub firstWrong : ℕ → ℕ → List ℕ → List ℕ → Verdict
+firstWrong step k [] told = Accepted
+firstWrong step k (x ∷ right) [] = Accepted
+firstWrong step k (x ∷ right) (y ∷ told) = cond (eqb x y) (firstWrong step (k + 1) right told) (Wrong step k x)
 
 -- from a step on, the entries that are right and those that are told: the first wrong step, with its first wrong field; where one list
 -- is shorter, the first missing or extra step
@@ -100,7 +100,7 @@ unfoldable pub compared : ℕ → List (List ℕ) → List (List ℕ) → Verdic
 compared step [] [] = Accepted
 compared step [] (e ∷ told) = Extra step
 compared step (r ∷ right) [] = Missing step
-compared step (r ∷ right) (e ∷ told) = orElse (differ step 0 r e) (compared (step + 1) right told)
+compared step (r ∷ right) (e ∷ told) = orElse (firstWrong step 0 r e) (compared (step + 1) right told)
 
 abbrev pub verdictOf : List ℕ → List ℕ → Verdict
 verdictOf input t = compared 0 (rightTrace input) (toldIn t)
@@ -156,7 +156,7 @@ whyMake input out image map lines = first (whyRead image map lines input) (cond 
 abbrev pub madeOf : List ℕ → List ℕ → Left ℕ (List ℕ × List ℕ × List ℕ × List ℕ)
 madeOf input out =
     let t = traceBytes (rightTrace input) in
-    left (answered (length t)) (over t out, imageAfter input, mapOf input, linesOf input)
+    left (answered (length t)) (inFrontOf t out, imageAfter input, mapOf input, linesOf input)
 
 unfoldable pub makeOf : List ℕ → List ℕ → List ℕ → List ℕ → List ℕ → Left ℕ (List ℕ × List ℕ × List ℕ × List ℕ)
 makeOf input out image map lines = call (whyMake input (length out) (length image) (length map) (length lines)) (madeOf input out) (out, image, map, lines)

@@ -6,11 +6,11 @@ use Rattle.state.specs.declared.State.{State}
 use Rattle.state.specs.State.{heard}
 use Rattle.step.specs.declared.Cause.the-variants as Cause
 use Rattle.step.specs.Step.{After, after, stepOf, Up, up}
-use Rattle.machine.specs.Trail.{trailOf, lastOf}
+use Rattle.machine.specs.Trail.{trailOf, lastAfter}
 use Rattle.endline.specs.Report.{benchBoard}
 use Rattle.trace.specs.declared.Verdict.{Verdict}
 use Rattle.trace.specs.declared.Verdict.the-variants.{Missing}
-use Rattle.trace.specs.Trace.{entriesFrom, differ}
+use Rattle.trace.specs.Trace.{entriesFrom, firstWrong}
 
 -- what a trace tells from a step on
 unfoldable pub toldFrom : List ℕ → ℕ → List (List ℕ)
@@ -19,7 +19,7 @@ toldFrom t step = entriesFrom t (2 + step * 20) (wordAt t 0 - step)
 -- a step's own part of the verdict: it is missing, or its first wrong field
 abbrev pub stepVerdict : ℕ → List ℕ → List (List ℕ) → Verdict
 stepVerdict step right [] = Missing step
-stepVerdict step right (e ∷ told) = differ step 0 right e
+stepVerdict step right (e ∷ told) = firstWrong step 0 right e
 
 -- one step on bench's board; the steps over line words; the image where they end
 abbrev pub stepped : List ℕ → ℕ → State → List ℕ → After
@@ -29,7 +29,7 @@ abbrev pub trail : List ℕ → List ℕ → State → List ℕ → List After
 trail map lines s m = trailOf benchBoard map lines s m
 
 abbrev pub imageOn : List ℕ → List ℕ → State → List ℕ → List ℕ
-imageOn map lines s m = lastOf (after s m Cause.Nothing) (trail map lines s m) .image
+imageOn map lines s m = lastAfter (after s m Cause.Nothing) (trail map lines s m) .image
 
 -- a step's state and image
 abbrev pub upAfter : After → Up

@@ -16,7 +16,7 @@ ghost use Rattle.wordbytes.specs.Words.{low, high, bytesIn};
 ghost use Rattle.board.specs.Exec.{Board, beside};
 ghost use Rattle.step.specs.Step.{up};
 ghost use Rattle.refusal.specs.Page.{left};
-ghost use Rattle.machine.specs.Door.{Good};
+ghost use Rattle.machine.specs.Door.{GoodBoard};
 ghost use Rattle.trace.specs.Trace as Spec;
 ghost use Rattle.trace.specs.Walk as Walk;
 
@@ -94,7 +94,7 @@ fn or_else(found: Verdict, later: Verdict) -> Verdict
 // The first wrong field of the entry that is told at a place.
 fn entry_verdict(step: u16, entry: [u16; 10], trace: &[u8], at: usize) -> Verdict
     requires { ⌜ (at < 4294967296) × (length entry ≡ 10) ⌝ }
-    ensures { λ r. ⌜ r ≡ Spec.differ step 0 entry (Spec.wordsFrom (now (trace .entry)) at 10) ⌝ }
+    ensures { λ r. ⌜ r ≡ Spec.firstWrong step 0 entry (Spec.wordsFrom (now (trace .entry)) at 10) ⌝ }
 {
     let mut field: usize = 0;
     while field < 10 {
@@ -129,7 +129,7 @@ fn end_verdict(steps: u16, trace: &[u8]) -> Verdict
 
 // Steps over the line words, all of them, and holds the trace against each step; its first fault stays.
 fn judge_steps(s: State, image: &mut [u8], map: &[u8], lines: &[u16], trace: &[u8]) -> Verdict
-    requires { ⌜ Good (now map) (now image) (now lines) ⌝ }
+    requires { ⌜ GoodBoard (now map) (now image) (now lines) ⌝ }
     ensures { λ r. ⌜ (r ≡ Spec.compared 0 (Spec.entriesOf (Walk.trail (now (map .entry)) (now (lines .entry)) s (now (image .entry)))) (Spec.toldIn (now (trace .entry))))
         × (now (image .exit) ≡ Walk.imageOn (now (map .entry)) (now (lines .entry)) s (now (image .entry))) ⌝ }
 {
@@ -154,7 +154,7 @@ fn judge_first(
     count: u16,
     trace: &[u8],
 ) -> Verdict
-    requires { ⌜ (count ≤ length (now lines)) × Good (now map) (now image) (take count (now lines)) ⌝ }
+    requires { ⌜ (count ≤ length (now lines)) × GoodBoard (now map) (now image) (take count (now lines)) ⌝ }
     ensures { λ r. ⌜ (r ≡ Spec.compared 0 (Spec.entriesOf (Walk.trail (now (map .entry)) (take count (now (lines .entry))) s (now (image .entry)))) (Spec.toldIn (now (trace .entry))))
         × (now (image .exit) ≡ Walk.imageOn (now (map .entry)) (take count (now (lines .entry))) s (now (image .entry))) ⌝ }
 {
@@ -235,7 +235,7 @@ fn put_entry(out: &mut [u8], at: usize, entry: [u16; 10])
 
 // Steps over the line words and puts an entry after each.
 fn put_steps(s: State, image: &mut [u8], map: &[u8], lines: &[u16], out: &mut [u8])
-    requires { ⌜ Good (now map) (now image) (now lines) ⌝ }
+    requires { ⌜ GoodBoard (now map) (now image) (now lines) ⌝ }
     ensures { λ _. ⌜ (now (out .exit) ≡ sets (now (out .entry)) 2 (bytesIn (Spec.joined (Spec.entriesOf (Walk.trail (now (map .entry)) (now (lines .entry)) s (now (image .entry)))))))
         × (now (image .exit) ≡ Walk.imageOn (now (map .entry)) (now (lines .entry)) s (now (image .entry))) ⌝ }
 {
@@ -251,7 +251,7 @@ fn put_steps(s: State, image: &mut [u8], map: &[u8], lines: &[u16], out: &mut [u
 
 // The count, then the entries.
 fn put_all(s: State, image: &mut [u8], map: &[u8], lines: &[u16], count: u16, out: &mut [u8])
-    requires { ⌜ Good (now map) (now image) (now lines) ⌝ }
+    requires { ⌜ GoodBoard (now map) (now image) (now lines) ⌝ }
     ensures { λ _. ⌜ (now (out .exit) ≡ sets (now (out .entry)) 0 (bytesIn (count ∷ Spec.joined (Spec.entriesOf (Walk.trail (now (map .entry)) (now (lines .entry)) s (now (image .entry)))))))
         × (now (image .exit) ≡ Walk.imageOn (now (map .entry)) (now (lines .entry)) s (now (image .entry))) ⌝ }
 {
@@ -261,7 +261,7 @@ fn put_all(s: State, image: &mut [u8], map: &[u8], lines: &[u16], count: u16, ou
 
 // The same over the first line words of the buffer.
 fn put_first(s: State, image: &mut [u8], map: &[u8], lines: &[u16], count: u16, out: &mut [u8])
-    requires { ⌜ (count ≤ length (now lines)) × Good (now map) (now image) (take count (now lines)) ⌝ }
+    requires { ⌜ (count ≤ length (now lines)) × GoodBoard (now map) (now image) (take count (now lines)) ⌝ }
     ensures { λ _. ⌜ (now (out .exit) ≡ sets (now (out .entry)) 0 (bytesIn (count ∷ Spec.joined (Spec.entriesOf (Walk.trail (now (map .entry)) (take count (now (lines .entry))) s (now (image .entry)))))))
         × (now (image .exit) ≡ Walk.imageOn (now (map .entry)) (take count (now (lines .entry))) s (now (image .entry))) ⌝ }
 {

@@ -3,13 +3,13 @@ use trace::Checked;
 use trace::Verdict;
 ghost use mathlib.Core.Path.{_≡_};
 ghost use Rattle.refusal.specs.Page.{told};
-ghost use Rattle.answer.specs.Answer.{Room};
+ghost use Rattle.answer.specs.Answer.{SixBytes};
 ghost use Rattle.trace.specs.Trace.{verdictPage};
 ghost use Rattle.trace_c.specs.Calls as Spec;
 
 // The kind, the step and the field.
 fn put_verdict(b: &mut [u8], found: Verdict)
-    requires { ⌜ Room (now b) ⌝ }
+    requires { ⌜ SixBytes (now b) ⌝ }
     ensures { λ _. ⌜ now (b .exit) ≡ Spec.verdictWords (verdictPage found) ⌝ }
 {
     match found {

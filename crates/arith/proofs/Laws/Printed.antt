@@ -4,7 +4,7 @@ use mathlib.Core.List.{List, [], _∷_, map}
 use mathlib.Core.Path.{_≡_, refl}
 use Prim.Native.Nat.{ℕ}
 use Rattle.wordmath.specs.declared.Flags.{Flags}
-use Rattle.arith.specs.Branch.{_xor_, taken}
+use Rattle.arith.specs.Branch.{_xor_, branchTaken}
 
 -- the high bytes 00 to 07 and 80 to 87, counted through; 00 is no branch and stands beside BR
 abbrev pub numbers : List ℕ
@@ -48,5 +48,5 @@ turned true = refl
 turned false = refl
 
 -- on every high byte and all indicators a branch is taken just when the manual's line says so
-pub as-printed : (f : Flags) → map (λ k. taken k f) numbers ≡ printed f
+pub as-printed : (f : Flags) → map (λ k. branchTaken k f) numbers ≡ printed f
 as-printed f = simp (kept, turned) refl

@@ -10,8 +10,8 @@ use Rattle.refusal.specs.Numbers.{outputShort, sourceLines}
 use Rattle.refusal.specs.Page.{refused, refusedAt, answered, Left, left, call, first}
 use Rattle.assembler.specs.declared.source.Fault.{Fault}
 use Rattle.assembler.specs.declared.source.Fault.the-variants.{Text, Given, Missing, Place, Far}
-use Rattle.assembler.specs.Source.{countOf, lowest}
-use Rattle.assembler.specs.Answer.{faults, numberOf, sourceWhy, written, checked, longestSection, assembled, asmOf}
+use Rattle.assembler.specs.Source.{lineCount, lowest}
+use Rattle.assembler.specs.Answer.{faults, faultNumber, sourceWhy, sectionWritten, checked, longestSection, assembled, asmOf}
 use Rattle.assembler.specs.Labels.{labelsOf, labelFaults, mostLabels, labelsPage}
 use Rattle.assembler.specs.Ends.{faultWhy, assembleWhy, labelsWhy, tellsLine, FaultLine}
 
@@ -22,13 +22,13 @@ pub data Ends (s out : List ℕ) (why : ℕ) (x : Left ℕ (List ℕ)) : Type 0 
   atLine : (line : ℕ) → FaultLine s why line → x ≡ left (refusedAt why line) out → Ends s out why x
 
 module _ (s out bytes : List ℕ) where
-  checked-ends : (fs : List Fault) → Ends s out (faultWhy fs s) (checked fs s (written bytes out) out)
+  checked-ends : (fs : List Fault) → Ends s out (faultWhy fs s) (checked fs s (sectionWritten bytes out) out)
   unfolding faultWhy checked
   checked-ends [] = done refl (length bytes) refl
-  checked-ends (f ∷ fs) = by (ltb (lowest f s) (countOf s)) (checked-ends fs)
+  checked-ends (f ∷ fs) = by (ltb (lowest f s) (lineCount s)) (checked-ends fs)
     where
-      by : (has : Bool) → Ends s out (faultWhy fs s) (checked fs s (written bytes out) out)
-          → Ends s out (cond has (numberOf f) (faultWhy fs s)) (cond has (left (refusedAt (numberOf f) (lowest f s)) out) (checked fs s (written bytes out) out))
+      by : (has : Bool) → Ends s out (faultWhy fs s) (checked fs s (sectionWritten bytes out) out)
+          → Ends s out (cond has (faultNumber f) (faultWhy fs s)) (cond has (left (refusedAt (faultNumber f) (lowest f s)) out) (checked fs s (sectionWritten bytes out) out))
       by true h = atLine (lowest f s) (record { fault = f; numberIs = refl; lineIs = refl }) refl
       by false h = h
 
@@ -39,7 +39,7 @@ module _ (s out bytes : List ℕ) where
   -- 10 and 36 tell no line
   source-alone : (room size : ℕ) → tellsLine (sourceWhy room s size) ≡ false
   unfolding sourceWhy
-  source-alone room size = by (ltb size room) (eqb (length s % 32) 0) (ltb 1024 (countOf s))
+  source-alone room size = by (ltb size room) (eqb (length s % 32) 0) (ltb 1024 (lineCount s))
     where
       by : (short whole many : Bool) → tellsLine (first (cond short outputShort 0) (first (cond whole 0 sourceLines) (cond many sourceLines 0))) ≡ false
       by true whole many = refl
@@ -47,8 +47,8 @@ module _ (s out bytes : List ℕ) where
       by false true true = refl
       by false true false = refl
 
-  source-ends : (room : ℕ) (fs : List Fault) → Ends s out (first (sourceWhy room s (length out)) (faultWhy fs s)) (call (sourceWhy room s (length out)) (checked fs s (written bytes out) out) out)
-  source-ends room fs = call-ends (sourceWhy room s (length out)) (faultWhy fs s) (checked fs s (written bytes out) out) (source-alone room (length out)) (checked-ends fs)
+  source-ends : (room : ℕ) (fs : List Fault) → Ends s out (first (sourceWhy room s (length out)) (faultWhy fs s)) (call (sourceWhy room s (length out)) (checked fs s (sectionWritten bytes out) out) out)
+  source-ends room fs = call-ends (sourceWhy room s (length out)) (faultWhy fs s) (checked fs s (sectionWritten bytes out) out) (source-alone room (length out)) (checked-ends fs)
 
 pub assemble-ends : (s out : List ℕ) → Ends s out (assembleWhy s out) (asmOf s out)
 unfolding asmOf
@@ -58,7 +58,7 @@ pub labels-ends : (s out : List ℕ) → Ends s out (labelsWhy s out) (labelsPag
 unfolding labelsPage
 labels-ends s out = source-ends s out (labelsOf s) mostLabels labelFaults
 
-fault-tells : (f : Fault) → (numberOf f ≡ 0 → ⊥) × (tellsLine (numberOf f) ≡ true)
+fault-tells : (f : Fault) → (faultNumber f ≡ 0 → ⊥) × (tellsLine (faultNumber f) ≡ true)
 fault-tells Text = (λ e. omega (arith, e), refl)
 fault-tells Given = (λ e. omega (arith, e), refl)
 fault-tells Missing = (λ e. omega (arith, e), refl)

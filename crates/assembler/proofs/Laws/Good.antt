@@ -11,10 +11,10 @@ use lib.ListN.{length}
 use Rattle.optext.specs.First.{firstFrom}
 use Rattle.optext.proofs.Laws.Choose.{lt-cases, first-hit}
 use Rattle.patchline.proofs.Laws.Search.{first-none}
-use Rattle.assembler.specs.Source.{countOf, misplaced, fails, lowest}
+use Rattle.assembler.specs.Source.{lineCount, misplaced, fails, lowest}
 use Rattle.refusal.specs.Page.{refusedAt, answered, Left, left, call}
 use Rattle.refusal.proofs.Laws.Page.{apart, answered-one}
-use Rattle.assembler.specs.Answer.{faults, sourceWhy, written, checked, longestSection, assembled, asmOf}
+use Rattle.assembler.specs.Answer.{faults, sourceWhy, sectionWritten, checked, longestSection, assembled, asmOf}
 use Rattle.assembler.proofs.Checked.{source-sound}
 use Rattle.assembler.specs.declared.source.Fault.{Fault}
 use Rattle.assembler.specs.declared.source.Fault.the-variants.{Text, Given, Missing, Place, Far}
@@ -33,27 +33,27 @@ not-refused (suc why) n right out e = absurd (apart (sym e))
 
 -- not too many lines, each in its place, and the section's length
 pub record Good (s : List ℕ) (n : ℕ) : Type 0 where
-  pub few : countOf s ≤ 1024
-  pub in-place : (k : ℕ) → k < countOf s → misplaced s k ≡ false
+  pub few : lineCount s ≤ 1024
+  pub in-place : (k : ℕ) → k < lineCount s → misplaced s k ≡ false
   pub size : n ≡ length (assembled s)
 
 module _ (s out : List ℕ) (n : ℕ) where
-  passed : (f : Fault) (fs : List Fault) → checked (f ∷ fs) s (written (assembled s) out) out .page ≡ answered n
-      → (countOf s ≤ lowest f s) × (checked fs s (written (assembled s) out) out .page ≡ answered n)
+  passed : (f : Fault) (fs : List Fault) → checked (f ∷ fs) s (sectionWritten (assembled s) out) out .page ≡ answered n
+      → (lineCount s ≤ lowest f s) × (checked fs s (sectionWritten (assembled s) out) out .page ≡ answered n)
   unfolding checked
   passed f fs e =
-      let z = not-stopped (ltb (lowest f s) (countOf s)) _ _ n out (checked fs s (written (assembled s) out) out) e in
+      let z = not-stopped (ltb (lowest f s) (lineCount s)) _ _ n out (checked fs s (sectionWritten (assembled s) out) out) e in
       (ltb-false _ _ (z .0), z .1)
 
-  finished : checked [] s (written (assembled s) out) out .page ≡ answered n → n ≡ length (assembled s)
+  finished : checked [] s (sectionWritten (assembled s) out) out .page ≡ answered n → n ≡ length (assembled s)
   unfolding checked
   finished e = sym (answered-one e)
 
-  each : countOf s ≤ lowest Place s → (k : ℕ) → k < countOf s → misplaced s k ≡ false
+  each : lineCount s ≤ lowest Place s → (k : ℕ) → k < lineCount s → misplaced s k ≡ false
   unfolding lowest
-  each h k l = first-none (fails Place s) (countOf s) k h l
+  each h k l = first-none (fails Place s) (lineCount s) k h l
 
-  lines : asmOf s out .page ≡ answered n → (countOf s ≤ 1024) × (checked faults s (written (assembled s) out) out .page ≡ answered n)
+  lines : asmOf s out .page ≡ answered n → (lineCount s ≤ 1024) × (checked faults s (sectionWritten (assembled s) out) out .page ≡ answered n)
   unfolding asmOf
   lines e =
       let a = not-refused (sourceWhy longestSection s (length out)) n _ out e in
@@ -78,17 +78,17 @@ no-first f n h = ⊎-elim (λ l. absurd (differ (sym (first-hit f n 0 (omega (ar
     differ : true ≡ false → ⊥
     differ e = let z : _≡_ {A = ℕ} 0 1 = ap (λ (b : Bool). cond b 0 1) e in omega arith
 
-pub nothing-wrong : (s out : List ℕ) → 12290 ≤ length out → length s % 32 ≡ 0 → countOf s ≤ 1024 → ((i : ℕ) → i < countOf s → Right s i)
-    → asmOf s out ≡ written (assembled s) out
+pub nothing-wrong : (s out : List ℕ) → 12290 ≤ length out → length s % 32 ≡ 0 → lineCount s ≤ 1024 → ((i : ℕ) → i < lineCount s → Right s i)
+    → asmOf s out ≡ sectionWritten (assembled s) out
 unfolding asmOf sourceWhy faults checked lowest
 nothing-wrong s out l w c r =
     rw (
       le-ltb (length out) 12290 l,
       w,
-      le-ltb 1024 (countOf s) c,
-      no-first (fails Text s) (countOf s) (λ i h. r i h .known),
-      no-first (fails Given s) (countOf s) (λ i h. r i h .new),
-      no-first (fails Missing s) (countOf s) (λ i h. r i h .found),
-      no-first (fails Place s) (countOf s) (λ i h. r i h .in-place),
-      no-first (fails Far s) (countOf s) (λ i h. r i h .near),
+      le-ltb 1024 (lineCount s) c,
+      no-first (fails Text s) (lineCount s) (λ i h. r i h .known),
+      no-first (fails Given s) (lineCount s) (λ i h. r i h .new),
+      no-first (fails Missing s) (lineCount s) (λ i h. r i h .found),
+      no-first (fails Place s) (lineCount s) (λ i h. r i h .in-place),
+      no-first (fails Far s) (lineCount s) (λ i h. r i h .near),
     ) refl

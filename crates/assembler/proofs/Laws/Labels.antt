@@ -10,9 +10,9 @@ use Rattle.patchline.specs.Text.{labelOf}
 use Rattle.patchline.proofs.Laws.Joined.{then-at, none-at}
 use Rattle.refusal.specs.Page.{refused, Left, left}
 use Rattle.refusal.proofs.Laws.Page.{call-refused, call-answered}
-use Rattle.assembler.specs.Source.{countOf, lineAt, hereOf}
+use Rattle.assembler.specs.Source.{lineCount, lineAt, hereOf}
 use Rattle.assembler.specs.Section.{pair}
-use Rattle.assembler.specs.Answer.{sourceWhy, written, checked}
+use Rattle.assembler.specs.Answer.{sourceWhy, sectionWritten, checked}
 use Rattle.assembler.specs.Labels.{labelAt, labelsTo, labelsOf, labelFaults, mostLabels, labelsPage}
 
 -- ---- the lines one after another
@@ -35,7 +35,7 @@ pub labels-more : (s u b b1 e : List ℕ) (i at n h : ℕ) → u ≡ labelOf (li
     → WroteAt at (pair (length u) ++ pair h) b1 e n → WroteAt 0 (labelsTo s (i + 1)) b e n
 labels-more s u b b1 e i at n h p q w v = rw (labels-next s i) (then-at _ _ _ _ _ _ _ _ (omega arith) w (rw (p, q) at v))
 
-pub labels-all : (s b e : List ℕ) (i n : ℕ) → i ≡ countOf s → WroteAt 0 (labelsTo s i) b e n → Wrote (labelsOf s) b e n
+pub labels-all : (s b e : List ℕ) (i n : ℕ) → i ≡ lineCount s → WroteAt 0 (labelsTo s i) b e n → Wrote (labelsOf s) b e n
 labels-all s b e i n q w = rw (← q) (record { bytes = w .bytes; count = omega (arith, w .count) })
 
 -- ---- refused or not
@@ -43,8 +43,8 @@ labels-all s b e i n q w = rw (← q) (record { bytes = w .bytes; count = omega 
 module _ (s out : List ℕ) where
   pub labels-refused : (why : ℕ) → why ≡ sourceWhy mostLabels s (length out) → (why ≡ 0 → ⊥) → left (refused why) out ≡ labelsPage s out
   unfolding labelsPage
-  labels-refused why e n = call-refused (sourceWhy mostLabels s (length out)) (checked labelFaults s (written (labelsOf s) out) out) out why e n
+  labels-refused why e n = call-refused (sourceWhy mostLabels s (length out)) (checked labelFaults s (sectionWritten (labelsOf s) out) out) out why e n
 
-  pub labels-answered : (x : Left ℕ (List ℕ)) → sourceWhy mostLabels s (length out) ≡ 0 → x ≡ checked labelFaults s (written (labelsOf s) out) out → x ≡ labelsPage s out
+  pub labels-answered : (x : Left ℕ (List ℕ)) → sourceWhy mostLabels s (length out) ≡ 0 → x ≡ checked labelFaults s (sectionWritten (labelsOf s) out) out → x ≡ labelsPage s out
   unfolding labelsPage
-  labels-answered x e h = call-answered (sourceWhy mostLabels s (length out)) (checked labelFaults s (written (labelsOf s) out) out) out x e h
+  labels-answered x e h = call-answered (sourceWhy mostLabels s (length out)) (checked labelFaults s (sectionWritten (labelsOf s) out) out) out x e h

@@ -4,7 +4,7 @@ use mathlib.Core.List.{List}
 use mathlib.Core.Path.{_≡_, refl, ap}
 use borrow.Author.Tests.{le-leb, lt-leb}
 use lib.ListN.{length}
-use Rattle.hexdigits.specs.Over.{over, Wrote}
+use Rattle.hexdigits.specs.Over.{inFrontOf, Wrote}
 use Rattle.refusal.specs.Numbers.{textShort}
 use Rattle.refusal.specs.Page.{Page, refused, refusedAt, answered, left}
 use Rattle.refusal.proofs.Laws.Page.{one, one-call}
@@ -21,7 +21,7 @@ unfolding printOf
 printed-none s b h = simp (lt-leb (length s) (length b) h)
 
 -- and what a text is left with that the line fits
-pub printed-fits : (s b : List ℕ) → length s ≤ length b → printOf s b ≡ left (answered (length s)) (over s b)
+pub printed-fits : (s b : List ℕ) → length s ≤ length b → printOf s b ≡ left (answered (length s)) (inFrontOf s b)
 unfolding printOf
 printed-fits s b h = simp (le-leb (length s) (length b) h)
 

@@ -7,7 +7,7 @@ use mathlib.Core.Path.{_≡_, refl}
 use lib.ListN.{getD}
 use borrow.Author.Tests.{lt-ltb}
 use Rattle.board.specs.Work.{Work, give, readAt, writeAt, Size, fitted, writable, get, wordAt, Came, found, run, value, blank, _>>=_}
-use Rattle.board.specs.Exec.{Store, Now, count, room, noted, allowed, exec, Board, good, gone}
+use Rattle.board.specs.Exec.{Store, Now, logCount, logRoom, withNote, allowed, exec, Board, good, gone}
 use Rattle.board.proofs.Laws.{board-noted, count-note}
 
 pub data Bounded {A : Type 0} : ℕ → Work A → Type 0 where
@@ -35,18 +35,18 @@ shown-allowed : {A : Type 0} (b : Bool) (a : ℕ) (st : Store) (x : Now A) (y : 
 shown-allowed true a st x y h = h refl
 shown-allowed false a st x y h = refl
 
-has-room : (l : List ℕ) → count l < 15 → room l ≡ true
-unfolding room
-has-room l q = lt-ltb (count l) 15 q
+has-room : (l : List ℕ) → logCount l < 15 → logRoom l ≡ true
+unfolding logRoom
+has-room l q = lt-ltb (logCount l) 15 q
 
 -- THE SAME AS ON THE IMAGE ALONE
-pub exec-is-run : {A : Type 0} (map : List ℕ) {n : ℕ} {w : Work A} → Bounded n w → (st : Store) → Board map st → count (st .log) + n ≤ 15 → shown (exec map w st) ≡ run map w (st .image)
+pub exec-is-run : {A : Type 0} (map : List ℕ) {n : ℕ} {w : Work A} → Bounded n w → (st : Store) → Board map st → logCount (st .log) + n ≤ 15 → shown (exec map w st) ≡ run map w (st .image)
 unfolding exec run
 exec-is-run map (gives x) st b h = refl
 exec-is-run map (reads z a g) st b h = shown-allowed (fitted map a) a st _ _ (λ _. exec-is-run map (g (get z (st .image) a)) st b h)
 exec-is-run map (writes z a v p g) st b h =
     let e = has-room (st .log) (omega arith) in
-    shown-allowed (writable map a) a st _ _ (λ _. rw e (exec-is-run map g (noted z a v st) (board-noted z a v st e b) (rw (count-note (st .log) a (wordAt (st .image) a) (b .whole)) (omega arith))))
+    shown-allowed (writable map a) a st _ _ (λ _. rw e (exec-is-run map g (withNote z a v st) (board-noted z a v st e b) (rw (count-note (st .log) a (wordAt (st .image) a) (b .whole)) (omega arith))))
 
 pub bounded-more : {A : Type 0} {n k : ℕ} {w : Work A} → n ≤ k → Bounded n w → Bounded k w
 bounded-more l h = more l h

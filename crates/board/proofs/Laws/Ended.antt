@@ -4,7 +4,7 @@ use native.Mathlib.Omega.{arith}
 use mathlib.Core.List.{List}
 use mathlib.Core.Path.{_≡_, sym, ap, _∙_}
 use Rattle.board.specs.Work.{Work, value, blank, run}
-use Rattle.board.specs.Exec.{Store, Now, good, gone, count, exec, Board, Got, undone}
+use Rattle.board.specs.Exec.{Store, Now, good, gone, logCount, exec, Board, Got, undone}
 use Rattle.board.proofs.Laws.Exec.{stateOf}
 use Rattle.board.proofs.Laws.Undo.{undo, undone-none}
 use Rattle.board.proofs.Laws.Bounded.{Bounded, shown}
@@ -12,7 +12,7 @@ use Rattle.board.proofs.Laws.Bounded.{exec-is-run}
 
 pub record Fresh (map : List ℕ) (st : Store) : Type 0 where
   pub board : Board map st
-  pub empty : count (st .log) ≡ 0
+  pub empty : logCount (st .log) ≡ 0
 
 module _ {A : Type 0} {map : List ℕ} {w : Work A} {st : Store} (f : Fresh map st) where
   came-to : Bounded 15 w → shown (exec map w st) ≡ run map w (st .image)

@@ -11,7 +11,7 @@ use lib.ListN.{getD, set, length, length-set}
 use lib.Seq.{getD-set-same, getD-set-other, set-getD, set-set, set-comm}
 use Rattle.wordbytes.proofs.Laws.{low-of}
 use Rattle.board.specs.Work.{Work, give, readAt, writeAt, Size, word, byte, fitted, writable, even, wordAt, withWord, withByte, get, put}
-use Rattle.board.specs.Exec.{Store, beside, Now, count, room, note, noted, allowed, exec, Lent, Board, back, undone}
+use Rattle.board.specs.Exec.{Store, beside, Now, logCount, logRoom, note, withNote, allowed, exec, Lent, Board, back, undone}
 use Rattle.board.proofs.Laws.Exec.{stateOf}
 use Rattle.board.proofs.Laws.{board-noted, count-note, room-few, size-put, bytes-put}
 
@@ -59,46 +59,46 @@ back-same (suc n) l k m h =
     rw (h (n * 2 + 1) (omega arith) (omega arith), h (n * 2 + 2) (omega arith) (omega arith))
     (back-same n l k _ (λ i p q. h i p (omega arith)))
 
-module _ (l : List ℕ) (a v : ℕ) (whole : length l ≡ 32) (few : count l < 15) where
-  note-address : getD (note l a v) (count l * 2 + 1) 0 ≡ a
+module _ (l : List ℕ) (a v : ℕ) (whole : length l ≡ 32) (few : logCount l < 15) where
+  note-address : getD (note l a v) (logCount l * 2 + 1) 0 ≡ a
   unfolding note
   note-address =
-      getD-set-other (set (set l (count l * 2 + 1) a) (count l * 2 + 2) v) 0 (count l * 2 + 1) (count l + 1) 0 (λ e. omega arith)
-      ∙ getD-set-other (set l (count l * 2 + 1) a) (count l * 2 + 2) (count l * 2 + 1) v 0 (λ e. omega arith)
-      ∙ getD-set-same l (count l * 2 + 1) a 0 (omega arith)
+      getD-set-other (set (set l (logCount l * 2 + 1) a) (logCount l * 2 + 2) v) 0 (logCount l * 2 + 1) (logCount l + 1) 0 (λ e. omega arith)
+      ∙ getD-set-other (set l (logCount l * 2 + 1) a) (logCount l * 2 + 2) (logCount l * 2 + 1) v 0 (λ e. omega arith)
+      ∙ getD-set-same l (logCount l * 2 + 1) a 0 (omega arith)
 
-  note-old : getD (note l a v) (count l * 2 + 2) 0 ≡ v
+  note-old : getD (note l a v) (logCount l * 2 + 2) 0 ≡ v
   unfolding note
   note-old =
-      getD-set-other (set (set l (count l * 2 + 1) a) (count l * 2 + 2) v) 0 (count l * 2 + 2) (count l + 1) 0 (λ e. omega arith)
-      ∙ getD-set-same (set l (count l * 2 + 1) a) (count l * 2 + 2) v 0 (rw (length-set l (count l * 2 + 1) a) (omega arith))
+      getD-set-other (set (set l (logCount l * 2 + 1) a) (logCount l * 2 + 2) v) 0 (logCount l * 2 + 2) (logCount l + 1) 0 (λ e. omega arith)
+      ∙ getD-set-same (set l (logCount l * 2 + 1) a) (logCount l * 2 + 2) v 0 (rw (length-set l (logCount l * 2 + 1) a) (omega arith))
 
-  note-below : (i : ℕ) → 0 < i → i ≤ count l * 2 → getD (note l a v) i 0 ≡ getD l i 0
+  note-below : (i : ℕ) → 0 < i → i ≤ logCount l * 2 → getD (note l a v) i 0 ≡ getD l i 0
   unfolding note
   note-below i p q =
-      getD-set-other (set (set l (count l * 2 + 1) a) (count l * 2 + 2) v) 0 i (count l + 1) 0 (λ e. omega arith)
-      ∙ getD-set-other (set l (count l * 2 + 1) a) (count l * 2 + 2) i v 0 (λ e. omega arith)
-      ∙ getD-set-other l (count l * 2 + 1) i a 0 (λ e. omega arith)
+      getD-set-other (set (set l (logCount l * 2 + 1) a) (logCount l * 2 + 2) v) 0 i (logCount l + 1) 0 (λ e. omega arith)
+      ∙ getD-set-other (set l (logCount l * 2 + 1) a) (logCount l * 2 + 2) i v 0 (λ e. omega arith)
+      ∙ getD-set-other l (logCount l * 2 + 1) i a 0 (λ e. omega arith)
 
 back-one : (n : ℕ) (l m k : List ℕ) → withWord m (getD l (n * 2 + 1) 0) (getD l (n * 2 + 2) 0) ≡ k → back (suc n) l m ≡ back n l k
 unfolding back
 back-one n l m k e = ap (λ z. back n l z) e
 
-noted-back : {map : List ℕ} (z : Size) (a v : ℕ) (st : Store) → count (st .log) < 15 → Board map st
-    → withWord (put z (st .image) a v) (getD (note (st .log) a (wordAt (st .image) a)) (count (st .log) * 2 + 1) 0) (getD (note (st .log) a (wordAt (st .image) a)) (count (st .log) * 2 + 2) 0) ≡ st .image
+noted-back : {map : List ℕ} (z : Size) (a v : ℕ) (st : Store) → logCount (st .log) < 15 → Board map st
+    → withWord (put z (st .image) a v) (getD (note (st .log) a (wordAt (st .image) a)) (logCount (st .log) * 2 + 1) 0) (getD (note (st .log) a (wordAt (st .image) a)) (logCount (st .log) * 2 + 2) 0) ≡ st .image
 noted-back z a v st f b =
     rw (note-address (st .log) a (wordAt (st .image) a) (b .whole) f, note-old (st .log) a (wordAt (st .image) a) (b .whole) f)
     (put-back z (st .image) a v (b .lent .bytes))
 
-noted-undone : {map : List ℕ} (z : Size) (a v : ℕ) (st : Store) → room (st .log) ≡ true → Board map st → undone (noted z a v st) ≡ undone st
+noted-undone : {map : List ℕ} (z : Size) (a v : ℕ) (st : Store) → logRoom (st .log) ≡ true → Board map st → undone (withNote z a v st) ≡ undone st
 unfolding undone
 noted-undone z a v st e b =
     let l = st .log in
     let k = note l a (wordAt (st .image) a) in
     let f = room-few l e in
-    ap (λ n. back n k (put z (st .image) a v)) (count-note l a (wordAt (st .image) a) (b .whole) ∙ add-one (count l))
-    ∙ back-one (count l) k (put z (st .image) a v) (st .image) (noted-back z a v st f b)
-    ∙ back-same (count l) k l (st .image) (note-below l a (wordAt (st .image) a) (b .whole) f)
+    ap (λ n. back n k (put z (st .image) a v)) (count-note l a (wordAt (st .image) a) (b .whole) ∙ add-one (logCount l))
+    ∙ back-one (logCount l) k (put z (st .image) a v) (st .image) (noted-back z a v st f b)
+    ∙ back-same (logCount l) k l (st .image) (note-below l a (wordAt (st .image) a) (b .whole) f)
 
 allowed-undone : {A : Type 0} (b : Bool) (a : ℕ) (st : Store) (x : Now A) → (b ≡ true → undone (stateOf x) ≡ undone st) → undone (stateOf (allowed b a st x)) ≡ undone st
 allowed-undone true a st x g = g refl
@@ -110,11 +110,11 @@ unfolding exec
 undo map (give x) st b = refl
 undo map (readAt z a k) st b = allowed-undone (fitted map a) a st _ (λ _. undo map (k (get z (st .image) a)) st b)
 undo map (writeAt z a v w) st b =
-    allowed-undone (writable map a) a st _ (λ _. allowed-undone (room (st .log)) a st _ (λ e.
-    undo map w (noted z a v st) (board-noted z a v st e b) ∙ noted-undone z a v st e b))
+    allowed-undone (writable map a) a st _ (λ _. allowed-undone (logRoom (st .log)) a st _ (λ e.
+    undo map w (withNote z a v st) (board-noted z a v st e b) ∙ noted-undone z a v st e b))
 
 -- with an empty log there is nothing to take back
-pub undone-none : (st : Store) → count (st .log) ≡ 0 → undone st ≡ st .image
+pub undone-none : (st : Store) → logCount (st .log) ≡ 0 → undone st ≡ st .image
 unfolding undone back
 undone-none st e = rw e
 
@@ -141,7 +141,7 @@ unfolding back
 lent-back zero l m b = b
 lent-back (suc n) l m b = lent-back n l _ (lent-word m _ _ b)
 
-pub none-left : (l : List ℕ) → length l ≡ 32 → count (set l 0 0) ≡ 0
+pub none-left : (l : List ℕ) → length l ≡ 32 → logCount (set l 0 0) ≡ 0
 none-left l e = getD-set-same l 0 0 0 (omega arith)
 
 pub board-fresh : {map m l : List ℕ} → Board map (beside m l) → Board map (beside m (set l 0 0))
@@ -149,4 +149,4 @@ board-fresh {m = m} {l = l} b = record { lent = b .lent; whole = length-set l 0 
 
 pub board-back : {map m l : List ℕ} → Board map (beside m l) → Board map (beside (undone (beside m l)) (set l 0 0))
 unfolding undone
-board-back {m = m} {l = l} b = board-fresh {l = l} (record { lent = lent-back (count l) l m (b .lent); whole = b .whole; few = b .few })
+board-back {m = m} {l = l} b = board-fresh {l = l} (record { lent = lent-back (logCount l) l m (b .lent); whole = b .whole; few = b .few })

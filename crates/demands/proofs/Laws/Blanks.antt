@@ -14,16 +14,16 @@ use Rattle.state.specs.State.{heard, withMode}
 use Rattle.step.specs.declared.Cause.{Cause}
 use Rattle.step.specs.declared.Cause.the-variants as Cause
 use Rattle.step.specs.declared.Cause.the-variants.{LockedAt}
-use Rattle.step.specs.Step.{After, after, stepOf, kindOf, causeOf, errorCauseOf, causeNumber, addressOf, isBlank}
+use Rattle.step.specs.Step.{After, after, stepOf, kindOf, causeOf, errorCauseOf, causeNumber, causeAddress, isBlank}
 use Rattle.step.specs.Told.{workAnswered, isBlankStep}
 use Rattle.step.proofs.Laws.Causes.{no-blank}
 use Rattle.step.proofs.Laws.Told.{told-in-none, told-in-error, Done, done, step-done, Dropped, trapped, locked, step-dropped, step-counted}
 use Rattle.step.proofs.Laws.Locks.{cause-8}
 use Rattle.refusal.specs.Page.{answered, left}
 use Rattle.refusal.proofs.Laws.Page.{answered-one}
-use Rattle.machine.specs.Numbers.{statePage, toldOf, TurnPage, placeOf}
+use Rattle.machine.specs.Numbers.{statePage, toldOf, TurnPage, placePage}
 use Rattle.machine.specs.Entry.{turned}
-use Rattle.machine.specs.Trail.{trailOf, blanksIn, firstIn, causeAt}
+use Rattle.machine.specs.Trail.{trailOf, blanksIn, firstBlankIn, causeAt}
 use Rattle.machine.proofs.Laws.Counted.{first-least, trail-length, trail-at}
 use Rattle.demands.specs.Terms.{blankCause, busError, lockUp, Blanked, Fitted, beforeAt, Counted}
 
@@ -33,7 +33,7 @@ module _ {p : TurnPage} {m′ : List ℕ} (x : After) (e : left (answered p) m�
   pub cause-is : p .cause ≡ causeNumber (x .cause)
   cause-is = ap (λ z. z .cause) (answered-one (ap (λ z. z .page) e))
 
-  pub told-is : p .told ≡ toldOf (addressOf (x .cause))
+  pub told-is : p .told ≡ toldOf (causeAddress (x .cause))
   told-is = ap (λ z. z .told) (answered-one (ap (λ z. z .page) e))
 
   pub state-is : p .state ≡ statePage (x .state)
@@ -100,7 +100,7 @@ cause-at (a ∷ rs) (suc k) d h = cause-at rs k d (omega arith)
 
 pub counted : (settings : Settings) (map lines : List ℕ) (s : State) (m : List ℕ)
     → (let rs = trailOf settings map lines s m in
-    Counted settings map lines s m (blanksIn rs) (placeOf (firstIn rs)))
+    Counted settings map lines s m (blanksIn rs) (placePage (firstBlankIn rs)))
 counted settings map lines s m = record { number = refl; least = first-least (trailOf settings map lines s m); each = at }
   where
     at : (k : ℕ) → k < length lines → (let b = beforeAt settings map lines s m k in

@@ -5,13 +5,13 @@ use mathlib.Core.Path.{_≡_, refl, sym, ap, _∙_}
 use Rattle.state.specs.declared.Mode.the-variants.{Locked}
 use Rattle.state.specs.State.{heard, withMode}
 use Rattle.step.specs.declared.Cause.the-variants.{LockedAt}
-use Rattle.step.specs.Step.{After, after, stepOf, causeNumber, addressOf}
+use Rattle.step.specs.Step.{After, after, stepOf, causeNumber, causeAddress}
 use Rattle.step.proofs.Laws.Causes.{cause-not-7}
 use Rattle.step.proofs.Laws.Locks.{cant-fetch}
 use Rattle.machine.specs.Numbers.{statePage, toldOf}
 use Rattle.machine.specs.Entry.{turned}
 use Rattle.machine.specs.Trail.{trailOf, causeAt}
-use Rattle.machine_c.specs.Layout.{bytesOf, stateFrom, settingsFrom}
+use Rattle.machine_c.specs.Layout.{stateBytes, stateFrom, settingsFrom}
 use Rattle.demands.proofs.Laws.Blanks.{cause-is, told-is, state-is, image-is}
 use Rattle.demands.proofs.Laws.Demand2.{step-is, wd16-step-is}
 use Rattle.demands.specs.Cause7.{StepLocks, Wd16StepLocks, StepNot7, RunNot7}
@@ -26,7 +26,7 @@ pub wd16-step-locks : Wd16StepLocks
 wd16-step-locks b m map w line b′ m′ e a k h =
     let i = wd16-step-is b m map w line b′ m′ e in
     let c = cant-fetch map (heard (settingsFrom w) line) (stateFrom b) m k refl h in
-    (i .0 ∙ ap (λ (x : After). bytesOf (statePage (x .state)) (causeNumber (x .cause)) (toldOf (addressOf (x .cause)))) c, i .1 ∙ ap (λ (x : After). x .image) c)
+    (i .0 ∙ ap (λ (x : After). stateBytes (statePage (x .state)) (causeNumber (x .cause)) (toldOf (causeAddress (x .cause)))) c, i .1 ∙ ap (λ (x : After). x .image) c)
 
 pub step-not-7 : StepNot7
 step-not-7 settings m map line s r m′ p e d h =

@@ -20,26 +20,26 @@ use Rattle.machine.specs.declared.Until.{Until}
 use Rattle.machine.specs.Run.{End, end, runOf, lastCause}
 use Rattle.machine.specs.Same.{runSamePage}
 use Rattle.machine.specs.Until.{stepsTo, stopped, untilOf, runUntilPage}
-use Rattle.machine.specs.Entry.{powerWhy, stepWhy, runWhy, powered, powerUpPage, turned, stepPage, ended, runPage}
+use Rattle.machine.specs.Entry.{powerWhy, stepWhy, runWhy, powered, powerUpPage, turned, stepPage, runEnd, runPage}
 use Rattle.machine_c.specs.Layout.{stateFrom, settingsFrom, refusedUp, refusedStep, refusedRun}
-use Rattle.machine_c.specs.Calls.{upIn, stepIn, runIn, powerUpCall, stepCall, runCall}
+use Rattle.machine_c.specs.Calls.{upIn, stepIn, runLaid, powerUpCall, stepCall, runCall}
 use Rattle.machine_c.specs.Runs.{untilFrom, refusedUntil, stopIn, runSameCall, runUntilCall}
 use Rattle.answer.specs.Answer.{threeWords, answerWhy, placeWords, answering}
 use Rattle.job.specs.Job.{linesAt, buffersOf, whyJob, whyRead, jobOf}
-use Rattle.job_c.specs.Calls.{readIn, readCall}
-use Rattle.hexdigits.specs.Over.{over}
+use Rattle.job_c.specs.Calls.{jobLaid, readCall}
+use Rattle.hexdigits.specs.Over.{inFrontOf}
 use Rattle.optext.specs.Line.{wordText, taken, textOf}
 use Rattle.optext.specs.Answer.{roomWhy, writeWhy, inFront, writeOf, writeWordOf}
 use Rattle.optext.specs.Column.{Column}
 use Rattle.optext.specs.Words.{Reads}
 use Rattle.benchline.specs.Line.{printWhy, printOf}
-use Rattle.runjob.specs.Bench.{ranAt, jobRun, lineAt, benchWhy, benchOf}
+use Rattle.runjob.specs.Bench.{ranAt, jobRun, endLine, benchWhy, benchOf}
 use Rattle.runjob.specs.Bench as Bench
 use Rattle.listing.specs.Calls.{lineWhy, lineIn, lineCall}
 use Rattle.listjob.specs.Stretch.{listWhy, listedIn, listOf}
 use Rattle.listing_c.specs.Calls.{listCall}
 use Rattle.stepline.specs.Shown.{stepText, showWhy, shownAs, showOf}
-use Rattle.optext_c.specs.Calls.{wordsIn, writeCall, lentWhy, lineWords}
+use Rattle.optext_c.specs.Calls.{wordsIn, writeCall, lentWhy, textWords}
 use Rattle.listing_c.specs.Calls as Listed
 use Rattle.optext_c.specs.Calls as Textc
 use Rattle.assembler.specs.Answer.{asmOf}
@@ -101,13 +101,13 @@ reading-keeps-at A B C bytes beside kept why tells IsPlace lent l h x e = by why
 
 -- ---- the calls
 
-run-is-answer : (x : End) → IsAnswer (ended x .page)
+run-is-answer : (x : End) → IsAnswer (runEnd x .page)
 run-is-answer (end s m t) = isAnswer _
 
 job-run-is-answer : (input : List ℕ) (x : End) → IsAnswer (ranAt input x .page)
 job-run-is-answer input (end s m t) = isAnswer _
 
-line-is-answer : (input text : List ℕ) (x : End) → IsAnswer (lineAt input text x .page)
+line-is-answer : (input text : List ℕ) (x : End) → IsAnswer (endLine input text x .page)
 line-is-answer input text (end s m t) = isAnswer _
 
 pub power-up-answers : PowerUpAnswers
@@ -120,11 +120,11 @@ step-answers settings m map line s = call-keeps _ _ (stepWhy settings m map line
 
 pub run-answers : RunAnswers
 unfolding runPage
-run-answers settings m map lines s = let x = runOf settings map lines s m in call-keeps _ _ (runWhy settings m map lines) (ended x) m (run-is-answer x)
+run-answers settings m map lines s = let x = runOf settings map lines s m in call-keeps _ _ (runWhy settings m map lines) (runEnd x) m (run-is-answer x)
 
 pub run-same-answers : RunSameAnswers
 unfolding runSamePage
-run-same-answers settings m map line n s = let x = runOf settings map (replicate n line) s m in call-keeps _ _ (stepWhy settings m map line) (ended x) m (run-is-answer x)
+run-same-answers settings m map line n s = let x = runOf settings map (replicate n line) s m in call-keeps _ _ (stepWhy settings m map line) (runEnd x) m (run-is-answer x)
 
 until-is-answer : (x : End) (c : Cause) (n : ℕ) → IsAnswer (stopped x c n .page)
 until-is-answer (end s m t) c n = isAnswer _
@@ -151,11 +151,11 @@ job-run-answers input image map lines =
 pub bench-answers : BenchAnswers
 unfolding benchOf
 bench-answers input text image map lines =
-    call-keeps _ _ (benchWhy input text image map lines) (lineAt input text (Bench.runIn input)) (text, image, map, lines) (line-is-answer input text (Bench.runIn input))
+    call-keeps _ _ (benchWhy input text image map lines) (endLine input text (Bench.runIn input)) (text, image, map, lines) (line-is-answer input text (Bench.runIn input))
 
 pub line-answers : LineAnswers
 unfolding printOf
-line-answers line text = call-keeps _ _ (printWhy (length line) (length text)) (left (answered (length line)) (over line text)) text (isAnswer _)
+line-answers line text = call-keeps _ _ (printWhy (length line) (length text)) (left (answered (length line)) (inFrontOf line text)) text (isAnswer _)
 
 pub list-line-answers : ListLineAnswers
 unfolding lineCall
@@ -213,13 +213,13 @@ pub wd16-run-answers : Wd16RunAnswers
 unfolding runCall runPage
 wd16-run-answers b t m map w lines =
     let x = runOf (settingsFrom w) map lines (stateFrom b) m in
-    twice-keeps runIn (λ k. (b, t, k)) (cond (refusedRun b t w) noState 0) (runWhy (settingsFrom w) m map lines) (ended x) m (run-is-answer x)
+    twice-keeps runLaid (λ k. (b, t, k)) (cond (refusedRun b t w) noState 0) (runWhy (settingsFrom w) m map lines) (runEnd x) m (run-is-answer x)
 
 pub wd16-run-same-answers : Wd16RunSameAnswers
 unfolding runSameCall runSamePage
 wd16-run-same-answers b t m map w line n =
     let x = runOf (settingsFrom w) map (replicate n line) (stateFrom b) m in
-    twice-keeps runIn (λ k. (b, t, k)) (cond (refusedRun b t w) noState 0) (stepWhy (settingsFrom w) m map line) (ended x) m (run-is-answer x)
+    twice-keeps runLaid (λ k. (b, t, k)) (cond (refusedRun b t w) noState 0) (stepWhy (settingsFrom w) m map line) (runEnd x) m (run-is-answer x)
 
 pub wd16-run-until-answers : Wd16RunUntilAnswers
 unfolding runUntilCall runUntilPage
@@ -230,12 +230,12 @@ wd16-run-until-answers b t m map w lines asked =
 pub wd16-read-job-answers : Wd16ReadJobAnswers
 unfolding readCall jobOf
 wd16-read-job-answers input image map lines a =
-    twice-keeps readIn (λ l. (l .0, l .1, l .2, a)) (answerWhy a) (whyRead (length image) (length map) (length lines) input) (left (answered (wordAt input (linesAt input))) (buffersOf input)) (image, map, lines) (isAnswer _)
+    twice-keeps jobLaid (λ l. (l .0, l .1, l .2, a)) (answerWhy a) (whyRead (length image) (length map) (length lines) input) (left (answered (wordAt input (linesAt input))) (buffersOf input)) (image, map, lines) (isAnswer _)
 
 pub wd16-list-line-answers : Wd16ListLineAnswers
 unfolding listCall lineCall
 wd16-list-line-answers image map x last text a =
-    twice-keeps-beside (λ p t. (t, Listed.lineWords p)) (λ place t. (t, placeWords place)) (λ t. (t, a)) (answerWhy a) (lineWhy (length image) map x last (length text)) (lineIn image map x last text) text (isAnswer _)
+    twice-keeps-beside (λ p t. (t, Listed.nextWordsOf p)) (λ place t. (t, placeWords place)) (λ t. (t, a)) (answerWhy a) (lineWhy (length image) map x last (length text)) (lineIn image map x last text) text (isAnswer _)
 
 pub wd16-check-trace-answers : Wd16CheckTraceAnswers
 unfolding checkCall
@@ -270,12 +270,12 @@ pub wd16-write-text-answers : Wd16WriteTextAnswers
 unfolding writeCall writeOf
 wd16-write-text-answers b t a =
     let ws = wordsIn b in
-    twice-keeps-beside (λ p o. (o, lineWords p)) (λ column o. (o, placeWords column)) (λ o. (o, a)) (lentWhy a b) (writeWhy ws (length t)) (inFront (textOf ws) (taken (getD ws 0 0)) t) t (isAnswer _)
+    twice-keeps-beside (λ p o. (o, textWords p)) (λ column o. (o, placeWords column)) (λ o. (o, a)) (lentWhy a b) (writeWhy ws (length t)) (inFront (textOf ws) (taken (getD ws 0 0)) t) t (isAnswer _)
 
 pub wd16-read-text-answers : Wd16ReadTextAnswers
 wd16-read-text-answers t b a x p = by (lentWhy a b) (lent-alone a b) (p .reads) (p .leaves)
   where
-    by : (bad : ℕ) → tellsColumn bad ≡ false → (bad ≡ 0 → Reads (p .page) t (wordsIn b) (p .words)) → x ≡ Textc.readIn b a (call bad (left (p .page) (p .words)) (wordsIn b))
+    by : (bad : ℕ) → tellsColumn bad ≡ false → (bad ≡ 0 → Reads (p .page) t (wordsIn b) (p .words)) → x ≡ Textc.wordsRead b a (call bad (left (p .page) (p .words)) (wordsIn b))
         → OwnWhy (first bad (wordsWhy (wordsIn b))) t (λ why. KeptCAt why tellsColumn (λ n. Column t) (b, a) (λ column. (b, placeWords column)) x)
     by zero alone r e =
         let h = reads-kept t (wordsIn b) (p .words) (p .page) (r refl) in
@@ -283,7 +283,7 @@ wd16-read-text-answers t b a x p = by (lentWhy a b) (lent-alone a b) (p .reads) 
           own = h .own;
           ofText = h .ofText;
           holds =
-              reading-keeps-at _ _ _ (λ n e. (over (bytesIn (take n e)) b, threeWords n 0 0)) (λ column e. (b, placeWords column)) (λ e. (b, a)) (first (wordsWhy (wordsIn b)) (h .own)) tellsColumn (λ n. Column t) (wordsIn b) (left (p .page) (p .words)) (h .holds) x e;
+              reading-keeps-at _ _ _ (λ n e. (inFrontOf (bytesIn (take n e)) b, threeWords n 0 0)) (λ column e. (b, placeWords column)) (λ e. (b, a)) (first (wordsWhy (wordsIn b)) (h .own)) tellsColumn (λ n. Column t) (wordsIn b) (left (p .page) (p .words)) (h .holds) x e;
         }
     by (suc bad) alone r e = record {
       own = 0;

@@ -8,12 +8,12 @@ use Rattle.refusal.specs.Numbers.{noState}
 use Rattle.refusal.specs.Page.{left, call, reading}
 use Rattle.machine.specs.Numbers.{statePage, turnPage, ranPage}
 use Rattle.machine.specs.Run.{End}
-use Rattle.machine.specs.Trail.{trailOf, lastOf, tallyIn}
-use Rattle.machine.specs.Entry.{powerWhy, stepWhy, runWhy, powerUpPage, stepPage, ended, runPage}
+use Rattle.machine.specs.Trail.{trailOf, lastAfter, tallyIn}
+use Rattle.machine.specs.Entry.{powerWhy, stepWhy, runWhy, powerUpPage, stepPage, runEnd, runPage}
 use Rattle.machine.proofs.Laws.Counted.{run-trail, trail-length, trail-at}
 use Rattle.machine.proofs.Laws.Answered.{power-answer, step-answer, run-answer}
 use Rattle.machine_c.specs.Layout.{stateFrom, settingsFrom, refusedUp, refusedStep, refusedRun}
-use Rattle.machine_c.specs.Calls.{upIn, stepIn, runIn, powerUpCall, stepCall, runCall}
+use Rattle.machine_c.specs.Calls.{upIn, stepIn, runLaid, powerUpCall, stepCall, runCall}
 use Rattle.optext.proofs.Laws.Calls as Calls
 use Rattle.optext_c.proofs.Laws.Trip as Trip
 use Rattle.demands.proofs.Laws.Took.{took}
@@ -49,11 +49,11 @@ pub wd16-run-is : Wd16RunIs
 unfolding runCall runPage
 wd16-run-is b t m map w lines b′ t′ m′ e =
     let rs = trailOf (settingsFrom w) map lines (stateFrom b) m in
-    let x = lastOf (after (stateFrom b) m Cause.Nothing) rs in
+    let x = lastAfter (after (stateFrom b) m Cause.Nothing) rs in
     let bad = cond (refusedRun b t w) noState 0 in
     let why = runWhy (settingsFrom w) m map lines in
-    let same = ap (λ (y : End). reading runIn (λ k. (b, t, k)) (call bad (call why (ended y) m) m)) (run-trail (settingsFrom w) map lines (stateFrom b) m Cause.Nothing) in
-    let h = took runIn (λ k. (b, t, k)) m bad why (ranPage (record { state = x .state; tally = tallyIn rs })) (x .image) (e ∙ same) in
+    let same = ap (λ (y : End). reading runLaid (λ k. (b, t, k)) (call bad (call why (runEnd y) m) m)) (run-trail (settingsFrom w) map lines (stateFrom b) m Cause.Nothing) in
+    let h = took runLaid (λ k. (b, t, k)) m bad why (ranPage (record { state = x .state; tally = tallyIn rs })) (x .image) (e ∙ same) in
     (ap (λ z. z .0) h, ap (λ z. z .1) h, ap (λ z. z .2) h)
 
 pub text-again : TextAgain

@@ -22,12 +22,12 @@ use Rattle.machine.specs.Until.{stoppedPage, runUntilPage}
 use Rattle.machine.proofs.Laws.Back.{powered-one, stepped-one, finished-one}
 use Rattle.machine.proofs.Laws.Blind.{blind, power-same, power-kept, step-same, step-kept, run-same, run-kept}
 use Rattle.machine_c.specs.Layout.{stateFrom, settingsFrom, refusedUp, refusedStep, refusedRun}
-use Rattle.machine_c.specs.Calls.{upIn, stepIn, runIn, powerUpCall, stepCall, runCall}
+use Rattle.machine_c.specs.Calls.{upIn, stepIn, runLaid, powerUpCall, stepCall, runCall}
 use Rattle.machine_c.specs.Runs.{untilFrom, refusedUntil, stopIn, runSameCall, runUntilCall}
 use Rattle.job.specs.Job.{linesAt, buffersOf, whyRead, jobOf}
 use Rattle.job.proofs.Laws.{one-answer}
-use Rattle.job_c.specs.Calls.{Buffers, readIn, readCall}
-use Rattle.listing_c.specs.Calls.{lineWords, listCall}
+use Rattle.job_c.specs.Calls.{JobBuffers, jobLaid, readCall}
+use Rattle.listing_c.specs.Calls.{nextWordsOf, listCall}
 use Rattle.listing.proofs.Laws.Calls.{one-listed}
 use Rattle.listing.proofs.Laws.Alike.{call-alike}
 use Rattle.trace.specs.Trace.{verdictOf, verdictPage, whyCheck, buffersAfter, checkOf, whyMake, madeOf, makeOf}
@@ -76,13 +76,13 @@ module _ (w map m n : List ℕ) (l : length m ≡ length n) (g : Agree map m n) 
   unfolding runCall
   wd16-run-blind b t lines k j b₁ b₂ t₁ t₂ m′ n′ e d =
       rw (ap (λ z. z .number) e, ap (λ z. z .lent .0) e, ap (λ z. z .lent .1) e, ap (λ z. z .lent .2) e, ap (λ z. z .number) d, ap (λ z. z .lent .0) d, ap (λ z. z .lent .1) d, ap (λ z. z .lent .2) d)
-      (call-blind runIn (λ k. (b, t, k)) (λ r z. (r, z .0, z .1)) (λ z. z .2) (λ r a k l. refl) (λ a k. refl) (λ r k l. refl) (λ k. refl) map m n g (cond (refusedRun b t w) noState 0) (runPage (settingsFrom w) m map lines (stateFrom b)) (runPage (settingsFrom w) n map lines (stateFrom b)) (run-same (settingsFrom w) map lines (stateFrom b) m n l g) (run-kept (settingsFrom w) map lines (stateFrom b) m) (run-kept (settingsFrom w) map lines (stateFrom b) n))
+      (call-blind runLaid (λ k. (b, t, k)) (λ r z. (r, z .0, z .1)) (λ z. z .2) (λ r a k l. refl) (λ a k. refl) (λ r k l. refl) (λ k. refl) map m n g (cond (refusedRun b t w) noState 0) (runPage (settingsFrom w) m map lines (stateFrom b)) (runPage (settingsFrom w) n map lines (stateFrom b)) (run-same (settingsFrom w) map lines (stateFrom b) m n l g) (run-kept (settingsFrom w) map lines (stateFrom b) m) (run-kept (settingsFrom w) map lines (stateFrom b) n))
 
   pub wd16-run-same-blind : Wd16RunSameBlind w map m n l g
   unfolding runSameCall
   wd16-run-same-blind b t line steps k j b₁ b₂ t₁ t₂ m′ n′ e d =
       rw (ap (λ z. z .number) e, ap (λ z. z .lent .0) e, ap (λ z. z .lent .1) e, ap (λ z. z .lent .2) e, ap (λ z. z .number) d, ap (λ z. z .lent .0) d, ap (λ z. z .lent .1) d, ap (λ z. z .lent .2) d)
-      (call-blind runIn (λ k. (b, t, k)) (λ r z. (r, z .0, z .1)) (λ z. z .2) (λ r a k l. refl) (λ a k. refl) (λ r k l. refl) (λ k. refl) map m n g (cond (refusedRun b t w) noState 0) (runSamePage (settingsFrom w) m map line steps (stateFrom b)) (runSamePage (settingsFrom w) n map line steps (stateFrom b)) (same-same (settingsFrom w) map line steps (stateFrom b) m n l g) (same-kept (settingsFrom w) map line steps (stateFrom b) m) (same-kept (settingsFrom w) map line steps (stateFrom b) n))
+      (call-blind runLaid (λ k. (b, t, k)) (λ r z. (r, z .0, z .1)) (λ z. z .2) (λ r a k l. refl) (λ a k. refl) (λ r k l. refl) (λ k. refl) map m n g (cond (refusedRun b t w) noState 0) (runSamePage (settingsFrom w) m map line steps (stateFrom b)) (runSamePage (settingsFrom w) n map line steps (stateFrom b)) (same-same (settingsFrom w) map line steps (stateFrom b) m n l g) (same-kept (settingsFrom w) map line steps (stateFrom b) m) (same-kept (settingsFrom w) map line steps (stateFrom b) n))
 
   pub wd16-run-until-blind : Wd16RunUntilBlind w map m n l g
   unfolding runUntilCall
@@ -96,18 +96,18 @@ list-line-blind map m n l g a last text r q text₁ text₂ e d = one-listed n m
 pub wd16-list-line-blind : Wd16ListLineBlind
 unfolding listCall
 wd16-list-line-blind map m n l g x last text a k j text₁ text₂ a₁ a₂ e d =
-    let h = e ∙ ap (λ z. answering lineWords a (call (answerWhy a) z text)) (call-alike map m n g last l x text) ∙ sym d in
+    let h = e ∙ ap (λ z. answering nextWordsOf a (call (answerWhy a) z text)) (call-alike map m n g last l x text) ∙ sym d in
     (ap (λ z. z .number) h, ap (λ z. z .lent .0) h, ap (λ z. z .lent .1) h)
 
 -- ---- A JOB FILLS the lent image, the map and the line words from its own bytes, and a trace is of a job: whatever stands in them before,
 -- the answer is the same, and where nothing is refused, so is what is left in them
 
 module _ (a : List ℕ) where
-  abbrev kept : List ℕ × List ℕ × List ℕ → Buffers
+  abbrev kept : List ℕ × List ℕ × List ℕ → JobBuffers
   kept l = (l .0, l .1, l .2, a)
 
-  job-read : (bad why : ℕ) (right : Left ℕ (List ℕ × List ℕ × List ℕ)) (x y : List ℕ × List ℕ × List ℕ) {v w : Told Buffers}
-      → v ≡ reading readIn kept (call bad (call why right x) x) → w ≡ reading readIn kept (call bad (call why right y) y)
+  job-read : (bad why : ℕ) (right : Left ℕ (List ℕ × List ℕ × List ℕ)) (x y : List ℕ × List ℕ × List ℕ) {v w : Told JobBuffers}
+      → v ≡ reading jobLaid kept (call bad (call why right x) x) → w ≡ reading jobLaid kept (call bad (call why right y) y)
       → (v .number ≡ w .number) × (v .lent .3 ≡ w .lent .3) × (v .number ≡ 0 → v ≡ w)
   job-read zero zero right x y e d = let h = e ∙ sym d in (ap (λ z. z .number) h, ap (λ z. z .lent .3) h, λ n. h)
   job-read zero (suc why) right x y e d = (

@@ -12,7 +12,7 @@ use Rattle.refusal.proofs.Laws.Page.{first-both}
 use Rattle.benchline.specs.Line.{printWhy}
 use Rattle.job.specs.Job.{whyRead}
 use Rattle.job.proofs.Laws.Longest.{job-front, read-front, read-long}
-use Rattle.runjob.specs.Bench.{lineAt, runIn, benchWhy, benchOf}
+use Rattle.runjob.specs.Bench.{endLine, runIn, benchWhy, benchOf}
 use Rattle.listjob.specs.Stretch.{listWhy, listedIn, listOf}
 use Rattle.listjob.proofs.Laws.{taken-all}
 use Rattle.trace.specs.Trace.{verdictOf, verdictPage, buffersAfter, whyTrace, whyCheck, checkOf, whyMake, madeOf, makeOf}
@@ -35,9 +35,9 @@ pub bench-reads : BenchReads
 unfolding benchOf
 bench-reads input text image map lines =
     same-calls (benchWhy input text image map lines) (benchWhy (take 25097 input) text image map lines)
-    (lineAt input text (runIn input)) (lineAt (take 25097 input) text (runIn (take 25097 input))) (text, image, map, lines)
+    (endLine input text (runIn input)) (endLine (take 25097 input) text (runIn (take 25097 input))) (text, image, map, lines)
     (ap (first (printWhy 61 (length text))) (read-front (length image) (length map) (length lines) input 25097 (omega arith)))
-    (λ e. ap (λ (z : List ℕ). lineAt z text (runIn z)) (whole (length image) (length map) (length lines) input (first-both (printWhy 61 (length text)) _ e .1)))
+    (λ e. ap (λ (z : List ℕ). endLine z text (runIn z)) (whole (length image) (length map) (length lines) input (first-both (printWhy 61 (length text)) _ e .1)))
 
 -- the two addresses and the job after them
 front : (l : List ℕ) → drop 4 (take 25101 l) ≡ take 25097 (drop 4 l)

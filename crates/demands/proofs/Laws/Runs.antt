@@ -18,9 +18,9 @@ use Rattle.machine.specs.declared.Stop.{Stop}
 use Rattle.machine.specs.declared.Stopped.{Stopped}
 use Rattle.machine.specs.declared.Stopped.the-variants as Stopped
 use Rattle.machine.specs.declared.Until.{Until}
-use Rattle.machine.specs.Numbers.{placeOf}
+use Rattle.machine.specs.Numbers.{placePage}
 use Rattle.machine.specs.Run.{End, end, runOf, noBlanks, lastCause}
-use Rattle.machine.specs.Entry.{stepWhy, runWhy, ended}
+use Rattle.machine.specs.Entry.{stepWhy, runWhy, runEnd}
 use Rattle.machine.specs.Same.{sameOf, runSamePage}
 use Rattle.machine.specs.Until.{ends, stepsTo, stopPage, stoppedPage, stopped, runFor, untilOf, runUntilPage}
 use Rattle.machine.proofs.Laws.Alike as Alike
@@ -30,10 +30,10 @@ use Rattle.machine.proofs.Laws.Blind.{SameLeft, call-same, call-untouched}
 
 -- ---- over one line word
 
-ended-same : {map : List ℕ} {x y : End} → Ends map x y → SameLeft map (ended x) (ended y)
+ended-same : {map : List ℕ} {x y : End} → Ends map x y → SameLeft map (runEnd x) (runEnd y)
 ended-same (Alike.ends g) = record { page = refl; agree = g }
 
-ended-kept : (map m : List ℕ) (x : End) → Untouched map m (imageOf x) → Untouched map m (ended x .lent)
+ended-kept : (map m : List ℕ) (x : End) → Untouched map m (imageOf x) → Untouched map m (runEnd x .lent)
 ended-kept map m (end t n y) h = h
 
 module _ (settings : Settings) (map : List ℕ) (line k : ℕ) (s : State) where
@@ -97,7 +97,7 @@ module _ (settings : Settings) (map lines : List ℕ) (u : Until) (s : State) wh
 
 -- ---- one answer
 
-first-one : (f g : First) → placeOf f ≡ placeOf g → f ≡ g
+first-one : (f g : First) → placePage f ≡ placePage g → f ≡ g
 first-one f g e = sym (first-back f) ∙ ap firstOf e ∙ first-back g
 
 stop-one : (r q : Stop) → stopPage r ≡ stopPage q → r ≡ q

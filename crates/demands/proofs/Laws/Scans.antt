@@ -22,12 +22,12 @@ use Rattle.machine_c.specs.Layout.{tallyBytes, stateFrom, settingsFrom}
 use Rattle.plugs.specs.declared.Channel.{Channel}
 use Rattle.plugs.specs.Plugs.{newPlug}
 use Rattle.recorder.specs.declared.Recorder.{Recorder}
-use Rattle.recorder.specs.Scan.{TallyPage, tallyPage, plugPage, scanWhy, scanMap, scanImage, ended, scanRun, scanDone, scanOf, reportWhy, reportPage}
+use Rattle.recorder.specs.Scan.{TallyPage, tallyPage, plugPage, scanWhy, scanMap, scanImage, scanEnd, scanRun, scanDone, scanOf, reportWhy, reportPage}
 use Rattle.recorder.proofs.Laws.Blind.{SameScan, scan-same, scan-kept}
 use Rattle.recorder.proofs.Laws.Blind as Scan
 use Rattle.recorder_c.specs.Layout.{channelsFrom, recorderFrom, refusedScan, refusedReport}
 use Rattle.recorder_c.proofs.Laws.Sound.{sixteen}
-use Rattle.recorder_c.specs.Calls.{Buffers, scanIn, scanCall, reportIn, reportCall}
+use Rattle.recorder_c.specs.Calls.{ScanBuffers, scanIn, scanCall, reportIn, reportCall}
 use Rattle.demands.specs.Demand1.{IsAnswer, isAnswer}
 use Rattle.demands.proofs.Laws.Demand1.{call-keeps, twice-keeps}
 use Rattle.demands.proofs.Laws.Blanks.{counted}
@@ -35,14 +35,14 @@ use Rattle.demands.specs.Scans.{ScanAnswers, ReportAnswers, Wd16ScanAnsw
 
 -- ---- demand 1
 
-scan-is-answer : (r : Recorder) (cs : List Channel) (x : End) → IsAnswer (ended r cs x .page)
+scan-is-answer : (r : Recorder) (cs : List Channel) (x : End) → IsAnswer (scanEnd r cs x .page)
 scan-is-answer r cs (end s m t) = isAnswer _
 
 pub scan-answers : ScanAnswers
 unfolding scanOf scanDone
 scan-answers r cs m map settings lines =
     let x = scanRun r cs m map settings lines in
-    call-keeps _ _ (scanWhy r cs m map settings lines) (ended r cs x) (r, m) (scan-is-answer r cs x)
+    call-keeps _ _ (scanWhy r cs m map settings lines) (scanEnd r cs x) (r, m) (scan-is-answer r cs x)
 
 pub report-answers : ReportAnswers
 unfolding reportPage
@@ -54,7 +54,7 @@ wd16-scan-answers b t m map w lines cards readings d =
     let r = recorderFrom (stateFrom b) d in
     let cs = channelsFrom cards readings in
     let x = scanRun r cs m map (settingsFrom w) lines in
-    twice-keeps scanIn (λ l. (b, t, l .1, d)) (cond (refusedScan b t w cards readings d) noState 0) (scanWhy r cs m map (settingsFrom w) lines) (ended r cs x) (r, m) (scan-is-answer r cs x)
+    twice-keeps scanIn (λ l. (b, t, l .1, d)) (cond (refusedScan b t w cards readings d) noState 0) (scanWhy r cs m map (settingsFrom w) lines) (scanEnd r cs x) (r, m) (scan-is-answer r cs x)
 
 pub wd16-report-answers : Wd16ReportAnswers
 unfolding reportCall reportPage
@@ -71,11 +71,11 @@ scan-blind = Scan.scan-blind
 -- for C
 
 module _ (map m n b t d : List ℕ) (r : Recorder) (g : Agree map m n) where
-  abbrev BothBlind : Told Buffers → Told Buffers → Type 0
+  abbrev BothBlind : Told ScanBuffers → Told ScanBuffers → Type 0
   BothBlind v w =
       Blind {A = ℕ × List ℕ × List ℕ × List ℕ} map m n (v .number, v .lent .0, v .lent .1, v .lent .3) (w .number, w .lent .0, w .lent .1, w .lent .3) (v .lent .2) (w .lent .2)
 
-  abbrev asLent : Recorder × List ℕ → Buffers
+  abbrev asLent : Recorder × List ℕ → ScanBuffers
   asLent l = (b, t, l .1, d)
 
   page-blind : (p : Page TallyPage) (k l : Recorder × List ℕ) → k .0 ≡ l .0 → Agree map (k .1) (l .1) → Untouched map m (k .1) → Untouched map n (l .1)
@@ -117,7 +117,7 @@ module _ (w cards readings map lines m n : List ℕ) (l : length m ≡ length n)
 tallied : End → TallyPage
 tallied (end s m t) = tallyPage t
 
-end-tallied : (r : Recorder) (cs : List Channel) (x : End) → ended r cs x .page ≡ answered (tallied x)
+end-tallied : (r : Recorder) (cs : List Channel) (x : End) → scanEnd r cs x .page ≡ answered (tallied x)
 unfolding tallied
 end-tallied r cs (end s m t) = refl
 
@@ -129,13 +129,13 @@ pub scan-counted : ScanCounted
 unfolding scanOf scanDone
 scan-counted r cs m map settings lines x m′ p e d =
     let y = scanRun r cs m map settings lines in
-    let done = call-right (scanWhy r cs m map settings lines) (ended r cs y) (r, m) (ap (λ z. left z (x .recorder, m′)) (sym d) ∙ e) .1 in
+    let done = call-right (scanWhy r cs m map settings lines) (scanEnd r cs y) (r, m) (ap (λ z. left z (x .recorder, m′)) (sym d) ∙ e) .1 in
     let h : p ≡ tallyPage (tallyIn (trailOf settings (scanMap cs map) lines (r .state) (scanImage cs m))) =
     answered-one (ap (λ z. z .page) done ∙ end-tallied r cs y) ∙ scan-tally settings (scanMap cs map) lines (r .state) (scanImage cs m) in
     rw (ap (λ z. z .blanks) h, ap (λ z. z .first) h) (counted settings (scanMap cs map) lines (r .state) (scanImage cs m))
 
 call-took : (bad : Bool) (b t m d : List ℕ) (r : Recorder) (cs : List Channel) (why : ℕ) (y : End) (b′ t′ m′ d′ : List ℕ)
-    → told 0 (b′, t′, m′, d′) ≡ reading scanIn (λ l. (b, t, l .1, d)) (call (cond bad noState 0) (call why (ended r cs y) (r, m)) (r, m))
+    → told 0 (b′, t′, m′, d′) ≡ reading scanIn (λ l. (b, t, l .1, d)) (call (cond bad noState 0) (call why (scanEnd r cs y) (r, m)) (r, m))
     → t′ ≡ tallyBytes (tallied y .blanks) (tallied y .first)
 unfolding tallied
 call-took true b t m d r cs why y b′ t′ m′ d′ e = absurd (omega (arith, ap (λ z. z .number) e))

@@ -12,7 +12,7 @@ use Rattle.refusal.specs.Page.{Page, refused, refusedAt, answered, left, first}
 use Rattle.answer.specs.Answer.{answerWhy}
 use Rattle.optext.specs.Column.{Column, Why, early, after, name, operand}
 use Rattle.optext.specs.Words.{Reads}
-use Rattle.optext_c.specs.Calls.{odd, lentWhy}
+use Rattle.optext_c.specs.Calls.{oddLength, lentWhy}
 use Rattle.demands.specs.Terms.{numberAlone, placeToo, wordsWhy, isText, noText, OwnWhy, tellsColumn}
 use Rattle.demands.specs.Demand1.{isAnswer, KeptAt}
 
@@ -42,7 +42,7 @@ reads-kept t ws e (refusedAt r c) p = rw (le-ltb (length ws) 3 (p .room)) (recor
 -- 21 and 38 tell no column
 pub lent-alone : (a b : List ℕ) → tellsColumn (lentWhy a b) ≡ false
 unfolding lentWhy answerWhy
-lent-alone a b = by (eqb (length a) 6) (odd b)
+lent-alone a b = by (eqb (length a) 6) (oddLength b)
   where
     by : (six uneven : Bool) → tellsColumn (first (cond six 0 noState) (cond uneven wordsOdd 0)) ≡ false
     by false uneven = refl

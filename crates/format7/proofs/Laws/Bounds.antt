@@ -14,7 +14,7 @@ use Rattle.state.specs.declared.Outside.{Outside}
 use Rattle.state.proofs.Laws.Bounds.{bounded-cond, bounded-push}
 use Rattle.operand.proofs.Laws.Bounds.{bounded-operand, bounded-write}
 use Rattle.state.proofs.Laws.Bounds.{bounded-tabled}
-use Rattle.format7.specs.Format7.{modify, on, test, tcall, tjmp, lsts, ssts, rowOf, format7}
+use Rattle.format7.specs.Format7.{modify, on, test, tcall, tjmp, lsts, ssts, columnRow, format7}
 
 bounded-modify : (z : Size) (result : ℕ → Flags → Done) (s : State) (op : ℕ) → Bounded 2 (modify z result s op)
 unfolding modify
@@ -65,11 +65,11 @@ pub bounded-format7 : (out : Outside) (s : State) (op : ℕ) → Bounded 2 (form
 unfolding format7
 bounded-format7 out s op =
     bounded-cond (ltb op 0x8000)
-    (bounded-getD (rowOf op)
+    (bounded-getD (columnRow op)
     (bounded-common word s op
     (also (bounded-modify word _ s op) (also (bounded-modify word _ s op) (also (bounded-tcall s op) (also (bounded-tjmp s op) none)))))
     (bounded-tjmp s op))
-    (bounded-getD (rowOf op)
+    (bounded-getD (columnRow op)
     (bounded-common byte s op
     (also (bounded-lsts s op) (also (bounded-ssts out s op) (also (bounded-modify word _ s op) (also (bounded-modify word _ s op) none)))))
     (bounded-modify word _ s op))

@@ -12,7 +12,7 @@ use Rattle.opcodes.proofs.Laws.Past.{from-last, Below, below}
 use Rattle.board.specs.Work.{Work, word, byte, _>>=_}
 use Rattle.state.specs.declared.State.{State}
 use Rattle.state.specs.declared.Outside.{Outside}
-use Rattle.format7.specs.Format7.{modify, test, tcall, tjmp, lsts, ssts, column0A, column8A, rowOf, format7}
+use Rattle.format7.specs.Format7.{modify, test, tcall, tjmp, lsts, ssts, column0A, column8A, columnRow, format7}
 use Rattle.format7.specs.Rows.{furtherAt, resultAt, storedAt, modifyAt, statusAt, noResultAt, onWordAt}
 
 abbrev pub byRow : Outside → State → ℕ → ℕ → Work State
@@ -53,16 +53,16 @@ each-second out s op row e =
     ]
 
 -- THE COLUMNS ARE WHAT THE CODE TELLS
-pub columns : (out : Outside) (s : State) (op : ℕ) → format7 out s op ≡ byRow out s op (rowOf op)
+pub columns : (out : Outside) (s : State) (op : ℕ) → format7 out s op ≡ byRow out s op (columnRow op)
 unfolding format7
 columns out s op = by (ltb op 0x8000) refl
   where
-    by : (b : Bool) → ltb op 0x8000 ≡ b → cond b (getD (column0A s op) (rowOf op) (tjmp s op)) (getD (column8A out s op) (rowOf op) (modify word sbcOf s op)) ≡ byRow out s op (rowOf op)
-    by true e = each-first out s op (rowOf op) e
-    by false e = each-second out s op (rowOf op) e
+    by : (b : Bool) → ltb op 0x8000 ≡ b → cond b (getD (column0A s op) (columnRow op) (tjmp s op)) (getD (column8A out s op) (columnRow op) (modify word sbcOf s op)) ≡ byRow out s op (columnRow op)
+    by true e = each-first out s op (columnRow op) e
+    by false e = each-second out s op (columnRow op) e
 
 -- the row by bits 14 to 6
-pub row-is : (op : ℕ) → rowOf op ≡ (op / 64 % 512 + 984) % 1024
+pub row-is : (op : ℕ) → columnRow op ≡ (op / 64 % 512 + 984) % 1024
 row-is op = words (op % 0x8000 + 65536 - 0x0a00) ∙ ap (λ (x : ℕ). x % 1024) (from (op % 0x8000)) ∙ ap (λ (x : ℕ). (x + 984) % 1024) (column op)
   where
     words : (x : ℕ) → x % 65536 / 64 ≡ x / 64 % 1024

@@ -13,7 +13,7 @@ use Rattle.state.proofs.Laws.State.{withRegs, reg-with, same-state}
 use Rattle.state.specs.Registers.{setReg}
 use Rattle.format8.specs.declared.Row.{Row}
 use Rattle.format8.specs.Format8.{onward, counted}
-use Rattle.format8.specs.Page.{Plain, sourceBy, destinationBy, stateAfter}
+use Rattle.format8.specs.Page.{Plain, sourceBy, destinationBy, stateMoved}
 
 reg-onward : (s : State) (k n x : ℕ) → k ≤ 7 → x ≤ 7 → reg (onward s k n) x ≡ cond (eqb k x) (plus (reg s x) n) (reg s x)
 unfolding onward
@@ -39,8 +39,8 @@ module _ (r : Row) (i j : ℕ) (i≤ : i ≤ 7) (j≤ : j ≤ 7) where
   reg-counted s x l = reg-onward (onward (onward s i (r .source)) j (r .destination)) 0 65535 x (omega arith) l ∙ rw (reg-both s i j (r .source) (r .destination) x i≤ j≤ l)
 
   reg-after : (n : ℕ) (s : State) (x : ℕ) → x ≤ 7
-      → reg (stateAfter r i j n s) x ≡ cond (eqb 7 x) (plus (s .regs .pc) 2) (cond (eqb 0 x) 0 (bump (eqb i x) (eqb j x) (n * r .source) (n * r .destination) (reg s x)))
-  unfolding stateAfter
+      → reg (stateMoved r i j n s) x ≡ cond (eqb 7 x) (plus (s .regs .pc) 2) (cond (eqb 0 x) 0 (bump (eqb i x) (eqb j x) (n * r .source) (n * r .destination) (reg s x)))
+  unfolding stateMoved
   reg-after n s x l =
       reg-with (withReg (onward (onward s i (n * r .source)) j (n * r .destination)) 0 0) 7 (plus (s .regs .pc) 2) x (omega arith) l
       ∙ rw (reg-with (onward (onward s i (n * r .source)) j (n * r .destination)) 0 0 x (omega arith) l, reg-both s i j (n * r .source) (n * r .destination) x i≤ j≤ l)
@@ -130,27 +130,27 @@ module _ (r : Row) {i j : ℕ} (p : Plain i j) (s : State) where
       reg-once j (omega arith)
       ∙ rw (ne-eqb 7 j (λ e. omega arith), ne-eqb 0 j (λ e. omega arith), eq-eqb j j refl) (stride-destination (eqb i j) (r .source) (r .destination) (reg s j))
 
-  once-else : (k : ℕ) → withRegs (stateAfter r i j (suc k) (onceMore r i j s)) (stateAfter r i j (suc (suc k)) s .regs) ≡ stateAfter r i j (suc (suc k)) s
-  unfolding stateAfter counted onward withReg withRegs
+  once-else : (k : ℕ) → withRegs (stateMoved r i j (suc k) (onceMore r i j s)) (stateMoved r i j (suc (suc k)) s .regs) ≡ stateMoved r i j (suc (suc k)) s
+  unfolding stateMoved counted onward withReg withRegs
   once-else k = refl
 
   -- what is left from there comes to what the whole comes to
-  pub once-after : (k : ℕ) → stateAfter r i j (suc k) (onceMore r i j s) ≡ stateAfter r i j (suc (suc k)) s
+  pub once-after : (k : ℕ) → stateMoved r i j (suc k) (onceMore r i j s) ≡ stateMoved r i j (suc (suc k)) s
   once-after k =
-      same-state (stateAfter r i j (suc k) (onceMore r i j s)) (stateAfter r i j (suc (suc k)) s)
+      same-state (stateMoved r i j (suc k) (onceMore r i j s)) (stateMoved r i j (suc (suc k)) s)
       (λ x l. reg-after r i j (omega arith) (omega arith) (suc k) (onceMore r i j s) x l
       ∙ rw (reg-once x l, once-pc)
       (more (eqb 7 x) (eqb 0 x) (eqb i x) (eqb j x) k (r .source) (r .destination) (reg s x) (plus (s .regs .pc) 2) (s .regs .pc) _
       ∙ sym (reg-after r i j (omega arith) (omega arith) (suc (suc k)) s x l)))
       (once-else k)
 
-  last-else : withRegs (counted r (past s) i j) (stateAfter r i j 1 s .regs) ≡ stateAfter r i j 1 s
-  unfolding stateAfter counted onward withReg withRegs
+  last-else : withRegs (counted r (past s) i j) (stateMoved r i j 1 s .regs) ≡ stateMoved r i j 1 s
+  unfolding stateMoved counted onward withReg withRegs
   last-else = refl
 
   -- the last element
-  pub last-after : plus (reg s 0) 65535 ≡ 0 → counted r (past s) i j ≡ stateAfter r i j 1 s
-  last-after z = same-state (counted r (past s) i j) (stateAfter r i j 1 s) (λ x l. reg-element x l ∙ at x (ℕ-discrete x 0) (ℕ-discrete x 7) ∙ sym (reg-after r i j (omega arith) (omega arith) 1 s x l)) last-else
+  pub last-after : plus (reg s 0) 65535 ≡ 0 → counted r (past s) i j ≡ stateMoved r i j 1 s
+  last-after z = same-state (counted r (past s) i j) (stateMoved r i j 1 s) (λ x l. reg-element x l ∙ at x (ℕ-discrete x 0) (ℕ-discrete x 7) ∙ sym (reg-after r i j (omega arith) (omega arith) 1 s x l)) last-else
     where
       at : (x : ℕ) → Dec (x ≡ 0) → Dec (x ≡ 7)
           → elementOn (eqb 7 x) (eqb 0 x) (eqb i x) (eqb j x) (r .source) (r .destination) (plus (s .regs .pc) 2) (reg s x)

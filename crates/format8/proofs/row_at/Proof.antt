@@ -1,6 +1,6 @@
 use mathlib.Core.Path.{refl, _∙_}
 use Rattle.opcodes.proofs.Laws.Past.{last}
-use Rattle.format8.specs.Format8.{rows, rowAt}
+use Rattle.format8.specs.Format8.{moveRows, rowAt}
 use borrow.Author.Needs.{needs}
 use Rattle.format8.proofs.row_at.Statement.{statement}
 use Rattle.format8.proofs.row_at.Tie as tie
@@ -27,7 +27,7 @@ returns-7 : tie.Need-returns-7
 returns-7 c = rw (c .before .match .keys7) (c .row-from7 .ensures)
 
 returns-8 : tie.Need-returns-8
-returns-8 c = c .row-from8 .ensures ∙ last rows (rowAt 7) (c .before .before .args .k) refl (c .before .match .rest)
+returns-8 c = c .row-from8 .ensures ∙ last moveRows (rowAt 7) (c .before .before .args .k) refl (c .before .match .rest)
 
 pub row-at-spec : {M : Type 1} → statement M
 row-at-spec =

@@ -8,28 +8,28 @@ use native.Mathlib.Numerals.{add-one}
 use borrow.Author.Tests.{le-leb, lt-leb}
 use lib.ListN.{length, take, drop, set, getD, length-append, length-take, length-drop}
 use lib.Seq.{sets, sets-eq, take-at, drop-at, drop-drop, drop-cons, set-at, append-snoc, take-all, drop-length, take-suc, take-append-seam, length-take-le}
-use Rattle.hexdigits.specs.Over.{over, Wrote, WroteAt, left, written, Left}
+use Rattle.hexdigits.specs.Over.{inFrontOf, Wrote, WroteAt, textLeft, written, TextLeft}
 use borrow.Rule.Slice.PartMut.{midOf, putMid, post-is, same-len-mid}
 
-pub over-length : (xs b : List ℕ) → length xs ≤ length b → length (over xs b) ≡ length b
-unfolding over
+pub over-length : (xs b : List ℕ) → length xs ≤ length b → length (inFrontOf xs b) ≡ length b
+unfolding inFrontOf
 over-length xs b h = simp (length-append, length-drop) (omega arith)
 
 -- straight-line stores from the start
-pub over-sets : (vs b : List ℕ) → length vs ≤ length b → sets b 0 vs ≡ over vs b
-unfolding over
+pub over-sets : (vs b : List ℕ) → length vs ≤ length b → sets b 0 vs ≡ inFrontOf vs b
+unfolding inFrontOf
 over-sets vs b h = sets-eq vs b 0 (omega arith) ∙ ap (λ (n : ℕ). vs ++ drop n b) (zero-add (length vs))
 
 -- a writer that gets the part after p
-pub over-part : (p xs b : List ℕ) (a : ℕ) → length p ≡ a → take a (over p b) ++ over xs (drop a (over p b)) ≡ over (p ++ xs) b
-unfolding over
+pub over-part : (p xs b : List ℕ) (a : ℕ) → length p ≡ a → take a (inFrontOf p b) ++ inFrontOf xs (drop a (inFrontOf p b)) ≡ inFrontOf (p ++ xs) b
+unfolding inFrontOf
 over-part p xs b a e =
     rw (take-at p (drop (length p) b) a e, drop-at p (drop (length p) b) a e)
     (rw (drop-drop, length-append, append-assoc) refl)
 
 -- one byte more
-pub over-set : (p b : List ℕ) (a c : ℕ) → length p ≡ a → a < length b → set (over p b) a c ≡ over (p ++ (c ∷ [])) b
-unfolding over
+pub over-set : (p b : List ℕ) (a c : ℕ) → length p ≡ a → a < length b → set (inFrontOf p b) a c ≡ inFrontOf (p ++ (c ∷ [])) b
+unfolding inFrontOf
 over-set p b a c e h =
     let h′ : length p < length b = omega arith in
     rw (drop-cons b (length p) 0 h′, set-at p (getD b (length p) 0) (drop (suc (length p)) b) c a e, length-append, add-one)
@@ -43,13 +43,13 @@ pub wrote-sets : (vs b : List ℕ) → length vs ≤ length b → Wrote vs b (se
 wrote-sets vs b h = record { bytes = over-sets vs b h; count = refl }
 
 pub wrote-none : (b : List ℕ) → Wrote [] b b 0
-unfolding over
+unfolding inFrontOf
 wrote-none b = record { bytes = refl; count = refl }
 
 -- a writer got the part from a on, where p stands in front already
-pub part-back : (p s b xs y : List ℕ) (a n : ℕ) → xs ≡ over p b → length p ≡ a → length p ≤ length b
+pub part-back : (p s b xs y : List ℕ) (a n : ℕ) → xs ≡ inFrontOf p b → length p ≡ a → length p ≤ length b
     → Wrote s (midOf a (length xs - a) xs) y n
-    → putMid a (length xs - a) xs y ≡ over (p ++ s) b
+    → putMid a (length xs - a) xs y ≡ inFrontOf (p ++ s) b
 part-back p s b xs y a n q e h w =
     let l : length xs ≡ length b = ap length q ∙ over-length p b h in
     let f : a ≤ length xs = omega arith in
@@ -64,12 +64,12 @@ pub part-room : (at k : ℕ) (b : List ℕ) → at + k ≤ length b → k ≤ le
 part-room at k b h = simp (length-take, length-drop) (omega arith)
 
 -- a loop that writes s from the front
-pub copy-none : (s b : List ℕ) → b ≡ over (take 0 s) b
-unfolding over
+pub copy-none : (s b : List ℕ) → b ≡ inFrontOf (take 0 s) b
+unfolding inFrontOf
 copy-none s b = refl
 
-pub copy-more : (s b e : List ℕ) (i : ℕ) → e ≡ over (take i s) b → i < length s → length s ≤ length b
-    → set e i (getD s i 0) ≡ over (take (i + 1) s) b
+pub copy-more : (s b e : List ℕ) (i : ℕ) → e ≡ inFrontOf (take i s) b → i < length s → length s ≤ length b
+    → set e i (getD s i 0) ≡ inFrontOf (take (i + 1) s) b
 copy-more s b e i q h l =
     let t : length (take i s) ≡ i = length-take-le i s (omega arith) in
     rw (q, add-one i, take-suc s i 0 h) (over-set (take i s) b i (getD s i 0) t (omega arith))
@@ -91,24 +91,24 @@ then p s b b1 e at n w v = record {
 
 -- the text is what stands in front
 pub wrote-take : (s b e : List ℕ) (n : ℕ) → Wrote s b e n → take n e ≡ s
-unfolding over
+unfolding inFrontOf
 wrote-take s b e n w = rw (w .bytes, w .count) (take-append-seam s (drop (length s) b))
 
-pub wrote-rest : (s b e : List ℕ) (n : ℕ) → Wrote s b e n → e ≡ over (take n e) b
-wrote-rest s b e n w = w .bytes ∙ ap (λ (l : List ℕ). over l b) (sym (wrote-take s b e n w))
+pub wrote-rest : (s b e : List ℕ) (n : ℕ) → Wrote s b e n → e ≡ inFrontOf (take n e) b
+wrote-rest s b e n w = w .bytes ∙ ap (λ (l : List ℕ). inFrontOf l b) (sym (wrote-take s b e n w))
 
 -- a text that fits, and one that does not
-pub written-is : (s b e : List ℕ) (n : ℕ) → length s ≤ length b → Wrote s b e n → left n e ≡ written s b
+pub written-is : (s b e : List ℕ) (n : ℕ) → length s ≤ length b → Wrote s b e n → textLeft n e ≡ written s b
 unfolding written
 written-is s b e n h w = simp (le-leb (length s) (length b) h) (rw (w .bytes, w .count) refl)
 
-pub written-none : (s b : List ℕ) → length b < length s → left 0 b ≡ written s b
+pub written-none : (s b : List ℕ) → length b < length s → textLeft 0 b ≡ written s b
 unfolding written
 written-none s b h = simp (lt-leb (length s) (length b) h)
 
 -- what was left is the text, where it fits
-pub wrote-fits : (s b e : List ℕ) (n : ℕ) → length s ≤ length b → left n e ≡ written s b → Wrote s b e n
+pub wrote-fits : (s b e : List ℕ) (n : ℕ) → length s ≤ length b → textLeft n e ≡ written s b → Wrote s b e n
 unfolding written
 wrote-fits s b e n h q =
-    let w : left n e ≡ left (length s) (over s b) = simp (le-leb (length s) (length b) h) at q in
-    record { bytes = ap (λ (l : Left). l .bytes) w; count = ap (λ (l : Left). l .count) w }
+    let w : textLeft n e ≡ textLeft (length s) (inFrontOf s b) = simp (le-leb (length s) (length b) h) at q in
+    record { bytes = ap (λ (l : TextLeft). l .bytes) w; count = ap (λ (l : TextLeft). l .count) w }

@@ -17,12 +17,12 @@ use Rattle.refusal.proofs.Laws.Page.{first-both}
 use Rattle.refusal.proofs.Laws.Refusal.{cond-none}
 use Rattle.job.specs.declared.Section.{Section}
 use Rattle.job.specs.declared.Section.the-variants as section
-use Rattle.job.specs.Job.{sections, absent, sizeOf, mostOf, overOf, keyAt, note, cut, whyEntry, whyEntries, noted, whyCount, next, whyLeft, whySections, whyJob, whyRead}
+use Rattle.job.specs.Job.{sections, absent, entrySize, mostOf, overOf, keyAt, fitPage, cut, whyEntry, whyEntries, fitPages, whyCount, afterSection, whyLeft, whySections, whyJob, whyRead}
 
 -- the most bytes of these sections
 abbrev pub longest : List Section → ℕ
 longest [] = 0
-longest (s ∷ rest) = 2 + mostOf s * sizeOf s + longest rest
+longest (s ∷ rest) = 2 + mostOf s * entrySize s + longest rest
 
 -- what follows a refusal doesn't count
 first-same : (why x y : ℕ) → (why ≡ 0 → x ≡ y) → first why x ≡ first why y
@@ -36,11 +36,11 @@ over-some section.Lines e = omega (arith, e)
 over-some section.ReadOnly e = omega (arith, e)
 
 -- a count that is not refused, and the bytes of its entries
-count-few : (s : Section) (input : List ℕ) (at : ℕ) → whyCount s input at ≡ 0 → wordAt input at * sizeOf s ≤ mostOf s * sizeOf s
+count-few : (s : Section) (input : List ℕ) (at : ℕ) → whyCount s input at ≡ 0 → wordAt input at * entrySize s ≤ mostOf s * entrySize s
 unfolding whyCount
 count-few s input at e = bytes s (leb-true (wordAt input at) (mostOf s) (cond-none (leb (wordAt input at) (mostOf s)) (overOf s) (over-some s) (first-both (cut input at 2) (cond (leb (wordAt input at) (mostOf s)) 0 (overOf s)) e .1)))
   where
-    bytes : (s : Section) → wordAt input at ≤ mostOf s → wordAt input at * sizeOf s ≤ mostOf s * sizeOf s
+    bytes : (s : Section) → wordAt input at ≤ mostOf s → wordAt input at * entrySize s ≤ mostOf s * entrySize s
     bytes section.Pages h = omega (arith, h)
     bytes section.Words h = omega (arith, h)
     bytes section.Lines h = omega (arith, h)
@@ -58,31 +58,31 @@ module _ (input : List ℕ) (n : ℕ) (l : n ≤ length input) where
   word-same : (at : ℕ) → at + 2 ≤ n → wordAt (take n input) at ≡ wordAt input at
   word-same at h = rw (getD-take n input at 0 (omega arith), getD-take n input (at + 1) 0 (omega arith)) refl
 
-  key-same : (s : Section) (at : ℕ) → at + sizeOf s ≤ n → keyAt s (take n input) at ≡ keyAt s input at
+  key-same : (s : Section) (at : ℕ) → at + entrySize s ≤ n → keyAt s (take n input) at ≡ keyAt s input at
   key-same section.Pages at h = getD-take n input at 0 (omega arith)
   key-same section.Words at h = word-same at (omega arith)
   key-same section.Lines at h = word-same at h
   key-same section.ReadOnly at h = getD-take n input at 0 (omega arith)
 
-  entry-same : (s : Section) (at low : ℕ) (map : List ℕ) → at + sizeOf s ≤ n → whyEntry s (take n input) at low map ≡ whyEntry s input at low map
+  entry-same : (s : Section) (at low : ℕ) (map : List ℕ) → at + entrySize s ≤ n → whyEntry s (take n input) at low map ≡ whyEntry s input at low map
   unfolding whyEntry
-  entry-same s at low map h = rw (cut-same at (sizeOf s) h, key-same s at h) refl
+  entry-same s at low map h = rw (cut-same at (entrySize s) h, key-same s at h) refl
 
-  entries-same : (s : Section) (k at low : ℕ) (map : List ℕ) → at + k * sizeOf s ≤ n → whyEntries s (take n input) k at low map ≡ whyEntries s input k at low map
+  entries-same : (s : Section) (k at low : ℕ) (map : List ℕ) → at + k * entrySize s ≤ n → whyEntries s (take n input) k at low map ≡ whyEntries s input k at low map
   unfolding whyEntries
   entries-same s zero at low map h = refl
   entries-same s (suc k) at low map h =
-      let one : at + sizeOf s ≤ n = omega (arith, suc-mul k (sizeOf s)) in
-      let more : at + sizeOf s + k * sizeOf s ≤ n = omega (arith, suc-mul k (sizeOf s)) in
-      rw (entry-same s at low map one, key-same s at one, entries-same s k (at + sizeOf s) (keyAt s input at + 1) (note s (keyAt s input at) map) more) refl
+      let one : at + entrySize s ≤ n = omega (arith, suc-mul k (entrySize s)) in
+      let more : at + entrySize s + k * entrySize s ≤ n = omega (arith, suc-mul k (entrySize s)) in
+      rw (entry-same s at low map one, key-same s at one, entries-same s k (at + entrySize s) (keyAt s input at + 1) (fitPage s (keyAt s input at) map) more) refl
 
-  noted-same : (s : Section) (k at : ℕ) (map : List ℕ) → at + k * sizeOf s ≤ n → noted s (take n input) k at map ≡ noted s input k at map
-  unfolding noted
+  noted-same : (s : Section) (k at : ℕ) (map : List ℕ) → at + k * entrySize s ≤ n → fitPages s (take n input) k at map ≡ fitPages s input k at map
+  unfolding fitPages
   noted-same s zero at map h = refl
   noted-same s (suc k) at map h =
-      let one : at + sizeOf s ≤ n = omega (arith, suc-mul k (sizeOf s)) in
-      let more : at + sizeOf s + k * sizeOf s ≤ n = omega (arith, suc-mul k (sizeOf s)) in
-      rw (key-same s at one, noted-same s k (at + sizeOf s) (note s (keyAt s input at) map) more) refl
+      let one : at + entrySize s ≤ n = omega (arith, suc-mul k (entrySize s)) in
+      let more : at + entrySize s + k * entrySize s ≤ n = omega (arith, suc-mul k (entrySize s)) in
+      rw (key-same s at one, noted-same s k (at + entrySize s) (fitPage s (keyAt s input at) map) more) refl
 
   present : (b : List ℕ) (s : Section) (at : ℕ) → at < length b → absent s b at ≡ false
   present b section.Pages at h = refl
@@ -102,13 +102,13 @@ module _ (input : List ℕ) (n : ℕ) (l : n ≤ length input) where
       rw (present (take n input) s at (omega (arith, short)), present input s at (omega arith), count-same s at (omega arith))
       (first-same (whyCount s input at) _ _ (λ e. after (count-few s input at e) (λ a map k. sections-same rest a map k)))
     where
-      after : wordAt input at * sizeOf s ≤ mostOf s * sizeOf s
+      after : wordAt input at * entrySize s ≤ mostOf s * entrySize s
           → ((a : ℕ) (map : List ℕ) → a + longest rest < n → whySections rest (take n input) a map ≡ whySections rest input a map)
-          → first (whyEntries s (take n input) (wordAt (take n input) at) (at + 2) 0 map) (whySections rest (take n input) (next s (take n input) at) (noted s (take n input) (wordAt (take n input) at) (at + 2) map))
-          ≡ first (whyEntries s input (wordAt input at) (at + 2) 0 map) (whySections rest input (next s input at) (noted s input (wordAt input at) (at + 2) map))
+          → first (whyEntries s (take n input) (wordAt (take n input) at) (at + 2) 0 map) (whySections rest (take n input) (afterSection s (take n input) at) (fitPages s (take n input) (wordAt (take n input) at) (at + 2) map))
+          ≡ first (whyEntries s input (wordAt input at) (at + 2) 0 map) (whySections rest input (afterSection s input at) (fitPages s input (wordAt input at) (at + 2) map))
       after few same =
-          let within : at + 2 + wordAt input at * sizeOf s ≤ n = omega arith in
-          rw (word-same at (omega arith), entries-same s (wordAt input at) (at + 2) 0 map within, noted-same s (wordAt input at) (at + 2) map within, same (next s input at) (noted s input (wordAt input at) (at + 2) map) (omega arith)) refl
+          let within : at + 2 + wordAt input at * entrySize s ≤ n = omega arith in
+          rw (word-same at (omega arith), entries-same s (wordAt input at) (at + 2) 0 map within, noted-same s (wordAt input at) (at + 2) map within, same (afterSection s input at) (fitPages s input (wordAt input at) (at + 2) map) (omega arith)) refl
 
 -- A JOB'S REFUSAL DOESN'T DEPEND ON BYTES PAST THE FIRST 25,097
 pub job-front : (input : List ℕ) (n : ℕ) → 25096 < n → whyJob (take n input) ≡ whyJob input
@@ -132,13 +132,13 @@ sections-long [] input at map e = let h = eqb-true at (length input) (cond-none 
 sections-long (s ∷ rest) input at map e = by (λ a map k. sections-long rest input a map k) (absent s input at) refl e
   where
     by : ((a : ℕ) (map : List ℕ) → whySections rest input a map ≡ 0 → length input ≤ a + longest rest) → (b : Bool) → absent s input at ≡ b
-        → cond b 0 (first (whyCount s input at) (first (whyEntries s input (wordAt input at) (at + 2) 0 map) (whySections rest input (next s input at) (noted s input (wordAt input at) (at + 2) map)))) ≡ 0
+        → cond b 0 (first (whyCount s input at) (first (whyEntries s input (wordAt input at) (at + 2) 0 map) (whySections rest input (afterSection s input at) (fitPages s input (wordAt input at) (at + 2) map)))) ≡ 0
         → length input ≤ at + longest (s ∷ rest)
     by long true a e = let h = absent-end s input at a in omega (arith, h)
     by long false a e =
         let one = first-both (whyCount s input at) _ e in
         let two = first-both (whyEntries s input (wordAt input at) (at + 2) 0 map) _ (one .1) in
-        let rec = long (next s input at) (noted s input (wordAt input at) (at + 2) map) (two .1) in
+        let rec = long (afterSection s input at) (fitPages s input (wordAt input at) (at + 2) map) (two .1) in
         omega (arith, rec, count-few s input at (one .0))
 
 pub job-long : (input : List ℕ) → whyJob input ≡ 0 → length input ≤ 25096

@@ -13,7 +13,7 @@ use Rattle.refusal.specs.Numbers.{imageLength, mapLength, linesLength, manyLine
 use Rattle.refusal.proofs.Laws.Page.{first-both}
 use Rattle.refusal.specs.Refusal.{allOf, flat, plain, boardRefusal, setUp, powerRefusal, linesRefusal, runRefusal}
 use Rattle.job.specs.declared.Section.the-variants as section
-use Rattle.job.specs.Job.{sections, sizeOf, cut, whyEntry, whyEntries, whyCount, whySections, whyJob, stored, listed, marked, readOnlyAt, wordsAt, linesAt, imageOf, mapOf, linesOf, lineWords, whyRead}
+use Rattle.job.specs.Job.{sections, entrySize, cut, whyEntry, whyEntries, whyCount, whySections, whyJob, wordsStored, listed, marked, readOnlyAt, wordsSection, linesAt, imageOf, mapOf, linesOf, lineWords, whyRead}
 
 -- ---- a test that every element passes
 
@@ -55,8 +55,8 @@ module _ (input : List ℕ) where
   marked-length value zero at map = refl
   marked-length value (suc n) at map = marked-length value n (at + 1) (set map (byteAt input at) value) ∙ length-set map (byteAt input at) value
 
-  stored-length : (n at : ℕ) (image : List ℕ) → length (stored input n at image) ≡ length image
-  unfolding stored
+  stored-length : (n at : ℕ) (image : List ℕ) → length (wordsStored input n at image) ≡ length image
+  unfolding wordsStored
   stored-length zero at image = refl
   stored-length (suc n) at image =
       let low = set image (wordAt input at) (byteAt input (at + 2)) in
@@ -79,7 +79,7 @@ module _ (input : List ℕ) where
 
   entry-plain : (at low : ℕ) (map : List ℕ) → whyEntry section.Lines input at low map ≡ 0 → plain (wordAt input at) ≡ true
   unfolding whyEntry
-  entry-plain at low map e = plain-line (plain (wordAt input at)) (first-both (cut input at (sizeOf section.Lines)) _ e .1)
+  entry-plain at low map e = plain-line (plain (wordAt input at)) (first-both (cut input at (entrySize section.Lines)) _ e .1)
 
   listed-plain : (n at k low : ℕ) (map lines : List ℕ) → whyEntries section.Lines input n at low map ≡ 0 → allOf plain lines ≡ true → allOf plain (listed input n at k lines) ≡ true
   unfolding whyEntries listed
@@ -104,8 +104,8 @@ module _ (input : List ℕ) where
   lines-taken e =
       let a = first-both (whyCount section.Pages input 0) _ e in
       let b = first-both (whyEntries section.Pages input (wordAt input 0) 2 0 (replicate 256 0)) _ (a .1) in
-      let c = first-both (whyCount section.Words input (wordsAt input)) _ (b .1) in
-      let d = first-both (whyEntries section.Words input (wordAt input (wordsAt input)) (wordsAt input + 2) 0 _) _ (c .1) in
+      let c = first-both (whyCount section.Words input (wordsSection input)) _ (b .1) in
+      let d = first-both (whyEntries section.Words input (wordAt input (wordsSection input)) (wordsSection input + 2) 0 _) _ (c .1) in
       let f = first-both (whyCount section.Lines input (linesAt input)) _ (d .1) in
       let g = first-both (whyEntries section.Lines input (wordAt input (linesAt input)) (linesAt input + 2) 0 _) _ (f .1) in
       (most-lines (linesAt input) (f .0), listed-plain (wordAt input (linesAt input)) (linesAt input + 2) 0 0 _ (replicate 4096 0) (g .0) (all-same plain 4096 0 refl))
@@ -114,7 +114,7 @@ module _ (input : List ℕ) where
   unfolding boardRefusal imageOf mapOf
   board-taken =
       rw (
-        eq-eqb _ _ (stored-length (wordAt input (wordsAt input)) (wordsAt input + 2) (replicate 65536 0) ∙ length-replicate {A = ℕ} 65536 0),
+        eq-eqb _ _ (stored-length (wordAt input (wordsSection input)) (wordsSection input + 2) (replicate 65536 0) ∙ length-replicate {A = ℕ} 65536 0),
         eq-eqb _ _ (marked-length 2 (wordAt input (readOnlyAt input)) (readOnlyAt input + 2) pages ∙ marked-length 1 (wordAt input 0) 2 (replicate 256 0) ∙ length-replicate {A = ℕ} 256 0),
         marked-flat 2 refl (wordAt input (readOnlyAt input)) (readOnlyAt input + 2) pages (marked-flat 1 refl (wordAt input 0) 2 (replicate 256 0) (all-same flat 256 0 refl)),
       )

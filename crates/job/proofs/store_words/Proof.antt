@@ -1,6 +1,6 @@
 -- The words that are left, stored in the image as it is now, come to all of them stored in the image as lent.
 use Rattle.job.proofs.Laws.{stored-more, stored-end}
-use Rattle.job.specs.Job.{stored}
+use Rattle.job.specs.Job.{wordsStored}
 use lib.ListN.{length}
 use borrow.Author.Needs.{needs}
 use native.Mathlib.Omega.{arith}
@@ -12,7 +12,7 @@ use Rattle.job.proofs.store_words.Tie as tie
 abbrev Inv-loop : tie.InvT-loop
 Inv-loop input from n image₀ at₀ left₀ image at left =
     (length image ≡ length image₀) × (at + left * 4 ≡ from + n * 4)
-    × (stored input left at image ≡ stored input n from image₀)
+    × (wordsStored input left at image ≡ wordsStored input n from image₀)
 
 abbrev μ-loop : tie.MeasureT-loop
 μ-loop input from n image₀ at₀ left₀ image at left = left

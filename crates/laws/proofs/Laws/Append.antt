@@ -12,9 +12,9 @@ use Rattle.step.specs.declared.Cause.the-variants as Cause
 use Rattle.step.specs.Step.{after, stepOf, blankAt}
 use Rattle.machine.specs.declared.Ran.{Ran}
 use Rattle.machine.specs.declared.Tally.{Tally}
-use Rattle.machine.specs.Run.{End, end, rest, runOf, ranOf, noted, noBlanks}
-use Rattle.machine.specs.Trail.{trailOf, lastOf}
-use Rattle.machine.specs.Counted.{joined}
+use Rattle.machine.specs.Run.{End, end, restOfRun, runOf, ranOf, noted, noBlanks}
+use Rattle.machine.specs.Trail.{trailOf, lastAfter}
+use Rattle.machine.specs.Counted.{tallyJoined}
 use Rattle.machine.proofs.Laws.Counted.{rest-trail, run-trail}
 use Rattle.laws.proofs.Laws.Taken.{ran-is}
 
@@ -22,7 +22,7 @@ use Rattle.laws.proofs.Laws.Taken.{ran-is}
 
 -- an end, with the tally of n steps before it
 abbrev pub behind : ℕ → Tally → End → End
-behind n t (end s m u) = end s m (joined n t u)
+behind n t (end s m u) = end s m (tallyJoined n t u)
 
 -- after n steps that ended so, the run over the lines that follow
 abbrev pub goOn : Settings → List ℕ → ℕ → List ℕ → End → End
@@ -32,7 +32,7 @@ goOn settings map n lines (end s m t) = behind n t (runOf settings map lines s m
 
 -- the trail over both is the trail over the first, then the trail over the second
 pub trail-append : (settings : Settings) (map xs ys : List ℕ) (s : State) (m : List ℕ) (c : Cause)
-    → (let b = lastOf (after s m c) (trailOf settings map xs s m) in
+    → (let b = lastAfter (after s m c) (trailOf settings map xs s m) in
     trailOf settings map (xs ++ ys) s m ≡ trailOf settings map xs s m ++ trailOf settings map ys (b .state) (b .image))
 unfolding trailOf
 trail-append settings map [] ys s m c = refl
@@ -41,19 +41,19 @@ trail-append settings map (x ∷ xs) ys s m c =
     ap (λ z. a ∷ z) (trail-append settings map xs ys (a .state) (a .image) (a .cause))
 
 abbrev restOn : Settings → List ℕ → ℕ → List ℕ → End → End
-restOn settings map n lines (end s m t) = rest settings map n lines s m t
+restOn settings map n lines (end s m t) = restOfRun settings map n lines s m t
 
-rest-behind : (settings : Settings) (map : List ℕ) (n : ℕ) (lines : List ℕ) (s : State) (m : List ℕ) (t : Tally) → rest settings map n lines s m t ≡ behind n t (runOf settings map lines s m)
+rest-behind : (settings : Settings) (map : List ℕ) (n : ℕ) (lines : List ℕ) (s : State) (m : List ℕ) (t : Tally) → restOfRun settings map n lines s m t ≡ behind n t (runOf settings map lines s m)
 rest-behind settings map n lines s m t = rest-trail settings map n lines s m t Cause.Nothing ∙ ap (behind n t) (sym (run-trail settings map lines s m Cause.Nothing))
 
 rest-append : (settings : Settings) (map : List ℕ) (place : ℕ) (xs ys : List ℕ) (s : State) (m : List ℕ) (t : Tally)
-    → rest settings map place (xs ++ ys) s m t ≡ restOn settings map (place + length xs) ys (rest settings map place xs s m t)
-unfolding rest
-rest-append settings map place [] ys s m t = ap (λ z. rest settings map z ys s m t) (omega arith)
+    → restOfRun settings map place (xs ++ ys) s m t ≡ restOn settings map (place + length xs) ys (restOfRun settings map place xs s m t)
+unfolding restOfRun
+rest-append settings map place [] ys s m t = ap (λ z. restOfRun settings map z ys s m t) (omega arith)
 rest-append settings map place (x ∷ xs) ys s m t =
     let a = stepOf map (heard settings x) s m in
     rest-append settings map (place + 1) xs ys (a .state) (a .image) (noted t place (blankAt (a .cause)))
-    ∙ ap (λ z. restOn settings map z ys (rest settings map (place + 1) xs (a .state) (a .image) (noted t place (blankAt (a .cause))))) (omega arith)
+    ∙ ap (λ z. restOn settings map z ys (restOfRun settings map (place + 1) xs (a .state) (a .image) (noted t place (blankAt (a .cause))))) (omega arith)
 
 pub run-append : (settings : Settings) (map xs ys : List ℕ) (s : State) (m : List ℕ) → runOf settings map (xs ++ ys) s m ≡ goOn settings map (length xs) ys (runOf settings map xs s m)
 run-append settings map xs ys s m =
@@ -66,7 +66,7 @@ run-append settings map xs ys s m =
 
 -- what two runs, the first of n steps, come to together
 abbrev pub followed : ℕ → Ran → Ran → Ran
-followed n a b = record { state = b .state; tally = joined n (a .tally) (b .tally) }
+followed n a b = record { state = b .state; tally = tallyJoined n (a .tally) (b .tally) }
 
 pub joined-ends : (settings : Settings) (map xs ys : List ℕ) (s : State) (m m₁ m₂ m₃ : List ℕ) (a b c : Ran)
     → ranOf a m₁ ≡ runOf settings map xs s m → ranOf b m₂ ≡ runOf settings map ys (a .state) m₁ → ranOf c m₃ ≡ runOf settings map (xs ++ ys) s m

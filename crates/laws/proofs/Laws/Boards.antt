@@ -22,14 +22,14 @@ use Rattle.machine.specs.declared.Finished.the-variants as Finished
 use Rattle.machine.specs.declared.Stopped.{Stopped}
 use Rattle.machine.specs.declared.Stopped.the-variants as Stopped
 use Rattle.machine.specs.declared.Until.{Until}
-use Rattle.machine.specs.Numbers.{RanPage, ranPage, turnPage, placeOf}
+use Rattle.machine.specs.Numbers.{RanPage, ranPage, turnPage, placePage}
 use Rattle.machine.specs.Run.{End, end, runOf, ranOf, lastCause}
 use Rattle.machine.specs.Trail.{trailOf}
-use Rattle.machine.specs.Entry.{powerWhy, stepWhy, runWhy, finishedPage, ended, runPage}
+use Rattle.machine.specs.Entry.{powerWhy, stepWhy, runWhy, finishedPage, runEnd, runPage}
 use Rattle.machine.specs.Same.{sameOf, runSamePage}
 use Rattle.machine.specs.Until.{ends, stepsTo, StopPage, stopPage, stoppedPage, stopped, untilOf, runUntilPage}
 use Rattle.machine.proofs.Laws.Back.{ran-one}
-use Rattle.laws.specs.Halves.{stateAfter, Joined}
+use Rattle.laws.specs.Halves.{stateLeft, Joined}
 use Rattle.laws.specs.Boards.{SameRun, SameJoined, endsAfter, Early, RunEarly}
 use Rattle.laws.proofs.Laws.Taken.{taken-run, run-taken, run-size}
 use Rattle.laws.proofs.Laws.Append.{joined-ends}
@@ -61,7 +61,7 @@ same-answer-of : (settings : Settings) (m map : List ℕ) (line n : ℕ) (s : St
 unfolding runSamePage
 same-answer-of settings m map line n s r m′ h e = of r (runOf settings map (replicate n line) s m) (rw h at e)
   where
-    of : (r : Finished) (x : End) → left (finishedPage r) m′ ≡ ended x → (a : Ran) × (r ≡ Finished.Done a) × (ranOf a m′ ≡ x)
+    of : (r : Finished) (x : End) → left (finishedPage r) m′ ≡ runEnd x → (a : Ran) × (r ≡ Finished.Done a) × (ranOf a m′ ≡ x)
     of (Finished.Done a) (end t k y) e =
         let same : a ≡ record { state = t; tally = y } = ran-one a (record { state = t; tally = y }) (answered-one (ap (λ z. z .page) e)) in
         let image : m′ ≡ k = ap (λ z. z .lent) e in
@@ -78,7 +78,7 @@ same-joined settings map line n k s m h r q p m₁ m₂ m₃ e f g =
     let one = same-answer-of settings m map line n s r m₁ h e in
     let a = one .0 in
     let size : length m₁ ≡ length m = run-size settings m map (replicate n line) s a m₁ (one .2) in
-    let next : left (finishedPage q) m₂ ≡ runSamePage settings m₁ map line k (a .state) = f ∙ ap (λ z. runSamePage settings m₁ map line k (stateAfter z s)) (one .1) in
+    let next : left (finishedPage q) m₂ ≡ runSamePage settings m₁ map line k (a .state) = f ∙ ap (λ z. runSamePage settings m₁ map line k (stateLeft z s)) (one .1) in
     let next-board : stepWhy settings m₁ map line ≡ 0 = ap (λ z. stepRefusal z map (settings .powerup) (settings .halt) (settings .register) line) size ∙ h in
     let two = same-answer-of settings m₁ map line k (a .state) q m₂ next-board next in
     let three = same-answer-of settings m map line (n + k) s p m₃ h g in
@@ -166,7 +166,7 @@ take-short n xs = simp length-take (omega arith)
 abbrev ranIn : StopPage → RanPage
 ranIn p = record { state = p .turn .state; blanks = p .blanks; first = p .first }
 
-told-run : (p : StopPage) (m₁ : List ℕ) (x : End) (c : Cause) (n : ℕ) → left (answered p) m₁ ≡ stopped x c n → (p .steps ≡ n) × (p .turn .cause ≡ causeNumber c) × (ended x ≡ left (answered (ranIn p)) m₁)
+told-run : (p : StopPage) (m₁ : List ℕ) (x : End) (c : Cause) (n : ℕ) → left (answered p) m₁ ≡ stopped x c n → (p .steps ≡ n) × (p .turn .cause ≡ causeNumber c) × (runEnd x ≡ left (answered (ranIn p)) m₁)
 told-run p m₁ (end t k y) c n e =
     let q : p ≡ stopPage (record { turn = record { state = t; cause = c }; tally = y; steps = n }) = answered-one (ap (λ z. z .page) e) in
     let i : m₁ ≡ k = ap (λ z. z .lent) e in

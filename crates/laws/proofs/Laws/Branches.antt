@@ -10,7 +10,7 @@ use lib.ListN.{getD}
 use borrow.Author.Tests.{leb-true, ne-eqb}
 use Rattle.wordmath.specs.declared.Flags.{Flags}
 use Rattle.wordmath.specs.Address.{plus}
-use Rattle.arith.specs.Branch.{taken}
+use Rattle.arith.specs.Branch.{branchTaken}
 use Rattle.arith.proofs.Laws.Printed.{numbers, printed, as-printed}
 use Rattle.board.specs.Work.{value, wordAt, run}
 use Rattle.plate.specs.Plate.{formatOf}
@@ -77,33 +77,33 @@ five h e = bounds (leb 1 h) (leb h 7) (leb 0x80 h) (leb h 0x87) h refl refl refl
 
 -- ---- each printed line, by its number
 
-printed-at : (k : ℕ) (f : Flags) → getD (List.map (λ k. taken k f) numbers) k false ≡ getD (printed f) k false
+printed-at : (k : ℕ) (f : Flags) → getD (List.map (λ k. branchTaken k f) numbers) k false ≡ getD (printed f) k false
 printed-at k f = ap (λ xs. getD xs k false) (as-printed f)
 
-low-printed : (f : Flags) → Below (λ h. 1 ≤ h → taken (h % 8 + h / 128 * 8) f ≡ whenIn lines h f) 8
+low-printed : (f : Flags) → Below (λ h. 1 ≤ h → branchTaken (h % 8 + h / 128 * 8) f ≡ whenIn lines h f) 8
 unfolding Below
 low-printed f = ((((((((tt, λ l. absurd (omega arith)), λ l. printed-at 1 f), λ l. printed-at 2 f), λ l. printed-at 3 f), λ l. printed-at 4 f), λ l. printed-at 5 f), λ l. printed-at 6 f), λ l. printed-at 7 f)
 
-high-printed : (f : Flags) → Below (λ j. taken ((0x80 + j) % 8 + (0x80 + j) / 128 * 8) f ≡ whenIn lines (0x80 + j) f) 8
+high-printed : (f : Flags) → Below (λ j. branchTaken ((0x80 + j) % 8 + (0x80 + j) / 128 * 8) f ≡ whenIn lines (0x80 + j) f) 8
 unfolding Below
 high-printed f = ((((((((tt, printed-at 8 f), printed-at 9 f), printed-at 10 f), printed-at 11 f), printed-at 12 f), printed-at 13 f), printed-at 14 f), printed-at 15 f)
 
-printed-line : (h : ℕ) (f : Flags) → Five h → taken (h % 8 + h / 128 * 8) f ≡ whenIn lines h f
-printed-line h f (low a b) = below (λ h. 1 ≤ h → taken (h % 8 + h / 128 * 8) f ≡ whenIn lines h f) 8 (low-printed f) h b a
+printed-line : (h : ℕ) (f : Flags) → Five h → branchTaken (h % 8 + h / 128 * 8) f ≡ whenIn lines h f
+printed-line h f (low a b) = below (λ h. 1 ≤ h → branchTaken (h % 8 + h / 128 * 8) f ≡ whenIn lines h f) 8 (low-printed f) h b a
 printed-line h f (high j e l) =
-    subst (λ (x : ℕ). taken (x % 8 + x / 128 * 8) f ≡ whenIn lines x f) (sym e)
-    (below (λ j. taken ((0x80 + j) % 8 + (0x80 + j) / 128 * 8) f ≡ whenIn lines (0x80 + j) f) 8 (high-printed f) j l)
+    subst (λ (x : ℕ). branchTaken (x % 8 + x / 128 * 8) f ≡ whenIn lines x f) (sym e)
+    (below (λ j. branchTaken ((0x80 + j) % 8 + (0x80 + j) / 128 * 8) f ≡ whenIn lines (0x80 + j) f) 8 (high-printed f) j l)
 
-pub taken-printed : (op : ℕ) (f : Flags) → formatOf (highByte op) ≡ 5 → taken (branchNumber op) f ≡ whenIn lines (highByte op) f
+pub taken-printed : (op : ℕ) (f : Flags) → formatOf (highByte op) ≡ 5 → branchTaken (branchNumber op) f ≡ whenIn lines (highByte op) f
 taken-printed op f e =
     let number : branchNumber op ≡ op / 256 % 8 + op / 256 / 128 * 8 = omega arith in
-    ap (λ k. taken k f) number ∙ printed-line (op / 256) f (five (op / 256) e)
+    ap (λ k. branchTaken k f) number ∙ printed-line (op / 256) f (five (op / 256) e)
 
 -- ---- the step
 
 branch-is : (op : ℕ) (s : State) → formatOf (highByte op) ≡ 5 → branch (withMark (withPc s (plus (s .regs .pc) 2)) false) op ≡ branched op s
 unfolding branch withReg withMark setReg
-branch-is op s e = by (taken (branchNumber op) (s .flags)) (whenIn lines (highByte op) (s .flags)) (taken-printed op (s .flags) e)
+branch-is op s e = by (branchTaken (branchNumber op) (s .flags)) (whenIn lines (highByte op) (s .flags)) (taken-printed op (s .flags) e)
   where
     by : (b c : Bool) → b ≡ c → (let u = withMark (withPc s (plus (s .regs .pc) 2)) false in cond b (withPc u (plus (u .regs .pc) (displacement op))) u)
         ≡ (let past = plus (s .regs .pc) 2 in withMark (withPc s (cond c (plus past (displacement op)) past)) false)

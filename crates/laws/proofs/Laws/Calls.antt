@@ -21,9 +21,9 @@ use Rattle.machine.specs.declared.Ran.{Ran}
 use Rattle.machine.specs.declared.First.{First}
 use Rattle.machine.specs.declared.First.the-variants.{At, Never}
 use Rattle.machine.specs.declared.Finished.the-variants as Finished
-use Rattle.machine.specs.Numbers.{statePage, Address, nowhere, placeOf, Place, turnPage}
+use Rattle.machine.specs.Numbers.{statePage, Address, nowhere, placePage, Place, turnPage}
 use Rattle.machine.specs.Run.{End, end, runOf, ranOf}
-use Rattle.machine.specs.Trail.{trailOf, moved, firstIn, Least, least}
+use Rattle.machine.specs.Trail.{trailOf, placeMoved, firstBlankIn, Least, least}
 use Rattle.machine.specs.Counted.{orFirst}
 use Rattle.machine.proofs.Laws.Counted.{run-trail, first-least, trail-length}
 use Rattle.machine.specs.declared.Stepped.the-variants as Stepped
@@ -33,22 +33,22 @@ use Rattle.machine.specs.Entry.{runWhy, finishedPage, runPage, stepWhy, stepped
 use Rattle.machine.specs.declared.Powered.the-variants as Powered
 use Rattle.machine.proofs.Laws.Entry.{run-answered}
 use Rattle.machine.specs.Entry as Entry
-use Rattle.machine_c.specs.Layout.{bytesOf, tallyBytes, placeNumber, placeTold, stateFrom, settingsFrom, refusedState, refusedSettings, refusedUp, refusedStep, refusedRun, notTally}
-use Rattle.machine_c.specs.Calls.{upIn, powerUpCall, runIn, runCall, stepIn, stepCall}
+use Rattle.machine_c.specs.Layout.{stateBytes, tallyBytes, placeNumber, placeTold, stateFrom, settingsFrom, refusedState, refusedSettings, refusedUp, refusedStep, refusedRun, notTally}
+use Rattle.machine_c.specs.Calls.{upIn, powerUpCall, runLaid, runCall, stepIn, stepCall}
 use Rattle.demands.proofs.Laws.Demand1.{wd16-power-up-answers, wd16-step-answers, wd16-run-answers}
 use Rattle.refusal.proofs.Laws.Refusal.{neither}
 use Rattle.laws.specs.Halves.{firstPlace, firstTold}
 
 -- a tally's bytes
 abbrev pub bytesFor : Ran → List ℕ
-bytesFor a = tallyBytes (a .tally .blanks) (placeOf (a .tally .first))
+bytesFor a = tallyBytes (a .tally .blanks) (placePage (a .tally .first))
 
 -- ---- a call that isn't refused leaves the bytes of what the run answers
 
 pub record CallDone (b m map w lines b′ t′ m′ : List ℕ) : Type 0 where
   pub ran : Ran
   pub page : left (finishedPage (Finished.Done ran)) m′ ≡ runPage (settingsFrom w) m map lines (stateFrom b)
-  pub state : b′ ≡ bytesOf (statePage (ran .state)) 0 nowhere
+  pub state : b′ ≡ stateBytes (statePage (ran .state)) 0 nowhere
   pub tally : t′ ≡ bytesFor ran
 
 pub call-answered : (b t m map w lines : List ℕ) (k : ℕ) (b′ t′ m′ : List ℕ) → refusedRun b t w ≡ false → runWhy (settingsFrom w) m map lines ≡ 0
@@ -56,7 +56,7 @@ pub call-answered : (b t m map w lines : List ℕ) (k : ℕ) (b′ t′ m′ : L
 unfolding runCall runPage
 call-answered b t m map w lines k b′ t′ m′ h why e = at (runOf (settingsFrom w) map lines (stateFrom b) m) refl (rw (h, why) at e)
   where
-    at : (x : End) → runOf (settingsFrom w) map lines (stateFrom b) m ≡ x → told k (b′, t′, m′) ≡ reading runIn (λ z. (b, t, z)) (Entry.ended x) → (k ≡ 0) × CallDone b m map w lines b′ t′ m′
+    at : (x : End) → runOf (settingsFrom w) map lines (stateFrom b) m ≡ x → told k (b′, t′, m′) ≡ reading runLaid (λ z. (b, t, z)) (Entry.runEnd x) → (k ≡ 0) × CallDone b m map w lines b′ t′ m′
     at (end s n y) d e =
         let image : m′ ≡ n = ap (λ z. z .lent .2) e in (
           ap (λ z. z .number) e,
@@ -84,8 +84,8 @@ step-taken b w e = neither (refusedState b) (refusedSettings w) e .0
 
 -- ---- a state's cause, and a tally's words
 
-pub cause-byte : (s : State) (cause : ℕ) (at : Address) → byteAt (bytesOf (statePage s) cause at) 19 ≡ cause
-unfolding bytesOf statePage
+pub cause-byte : (s : State) (cause : ℕ) (at : Address) → byteAt (stateBytes (statePage s) cause at) 19 ≡ cause
+unfolding stateBytes statePage
 cause-byte s cause at = refl
 
 pub blanks-word : (n : ℕ) (p : Place) → wordAt (tallyBytes n p) 0 ≡ n
@@ -106,12 +106,12 @@ told-word n p = word-again (placeTold p)
 abbrev pub Within : First → Type 0
 Within f = (p a : ℕ) → f ≡ At p a → p < 4096
 
-pub place-after : (n : ℕ) (f g : First) → Within f → Within g → placeNumber (placeOf (orFirst f (moved n g))) ≡ firstPlace n (placeNumber (placeOf f)) (placeNumber (placeOf g))
+pub place-after : (n : ℕ) (f g : First) → Within f → Within g → placeNumber (placePage (orFirst f (placeMoved n g))) ≡ firstPlace n (placeNumber (placePage f)) (placeNumber (placePage g))
 place-after n (At p a) g h k = let low = h p a refl in rw (ne-eqb p 65535 (λ z. omega arith))
 place-after n Never (At q b) h k = let low = k q b refl in rw (ne-eqb q 65535 (λ z. omega arith))
 place-after n Never Never h k = refl
 
-pub told-after : (n : ℕ) (f g : First) → Within f → placeTold (placeOf (orFirst f (moved n g))) ≡ firstTold (placeNumber (placeOf f)) (placeTold (placeOf f)) (placeTold (placeOf g))
+pub told-after : (n : ℕ) (f g : First) → Within f → placeTold (placePage (orFirst f (placeMoved n g))) ≡ firstTold (placeNumber (placePage f)) (placeTold (placePage f)) (placeTold (placePage g))
 told-after n (At p a) g h = let low = h p a refl in rw (ne-eqb p 65535 (λ z. omega arith))
 told-after n Never (At q b) h = refl
 told-after n Never Never h = refl
@@ -119,13 +119,13 @@ told-after n Never Never h = refl
 -- a run's first place is one of its steps'
 pub run-low : (settings : Settings) (map lines : List ℕ) (s : State) (m : List ℕ) (a : Ran) (n : List ℕ) → ranOf a n ≡ runOf settings map lines s m → length lines ≤ 4096 → Within (a .tally .first)
 run-low settings map lines s m a n e l =
-    let same : a .tally .first ≡ firstIn (trailOf settings map lines s m) = ap firstOf (e ∙ run-trail settings map lines s m Cause.Nothing) in
-    rw same (low (firstIn (trailOf settings map lines s m)) (trailOf settings map lines s m) (trail-length settings map lines s m) (first-least (trailOf settings map lines s m)))
+    let same : a .tally .first ≡ firstBlankIn (trailOf settings map lines s m) = ap firstOf (e ∙ run-trail settings map lines s m Cause.Nothing) in
+    rw same (low (firstBlankIn (trailOf settings map lines s m)) (trailOf settings map lines s m) (trail-length settings map lines s m) (first-least (trailOf settings map lines s m)))
   where
     firstOf : End → First
     firstOf (end t k y) = y .first
 
-    low : (f : First) (rs : List After) → length rs ≡ length lines → Least rs (placeOf f) → Within f
+    low : (f : First) (rs : List After) → length rs ≡ length lines → Least rs (placePage f) → Within f
     low (At q x) rs k (least i h g) p a d = let z : q ≡ p = cc in omega arith
     low Never rs k h p a d = let z : _≡_ {A = ℕ} 0 1 = cc in absurd (omega arith)
 
@@ -160,8 +160,8 @@ step-call-is b m map w line h e = rw (h, e)
 
 -- ---- what the bytes say
 
-pub mode-byte : (s : State) (cause : ℕ) (at : Address) → byteAt (bytesOf (statePage s) cause at) 18 ≡ modeNumber (s .mode)
-unfolding bytesOf statePage
+pub mode-byte : (s : State) (cause : ℕ) (at : Address) → byteAt (stateBytes (statePage s) cause at) 18 ≡ modeNumber (s .mode)
+unfolding stateBytes statePage
 mode-byte s cause at = refl
 
 -- a cause that is none of 5, 6 and 9 is no blank

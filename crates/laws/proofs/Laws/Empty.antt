@@ -20,7 +20,7 @@ use Rattle.machine.specs.Numbers.{indicators, statePage, nowhere}
 use Rattle.machine.specs.Back.{modeOf, fromRegisters, stateOf}
 use Rattle.machine.specs.declared.Ran.{Ran}
 use Rattle.machine.specs.declared.Finished.the-variants as Finished
-use Rattle.machine_c.specs.Layout.{bytesOf, pageFrom, stateFrom, settingsFrom, refusedState, notState, over}
+use Rattle.machine_c.specs.Layout.{stateBytes, pageFrom, stateFrom, settingsFrom, refusedState, notState, stateRefused}
 use Rattle.opcodes.proofs.Laws.Past.{Below, below}
 use Rattle.laws.proofs.Laws.Calls.{bytesFor, settings-taken, step-taken, buffers-taken, call-answered}
 use Rattle.laws.proofs.Laws.Taken.{taken-run}
@@ -61,7 +61,7 @@ record Ranges (b : List ℕ) : Type 0 where
 ranges : (b : List ℕ) → refusedState b ≡ false → Ranges b
 unfolding refusedState
 ranges b e =
-    let top = neither (notState b) (over b) e in
+    let top = neither (notState b) (stateRefused b) e in
     let told = neither _ (ltb 1 (byteAt b 21)) (top .1) in
     let mark = neither _ (ltb 1 (byteAt b 20)) (told .0) in
     let cause = neither _ (ltb 9 (byteAt b 19)) (mark .0) in
@@ -90,8 +90,8 @@ spread-is b l = ext-getD 0 (spread b) b (sym l) (λ i h. below (λ k. getD (spre
     each = ((((((((((((((((((((((((tt, refl), refl), refl), refl), refl), refl), refl), refl), refl), refl), refl), refl), refl), refl), refl), refl), refl), refl), refl), refl), refl), refl), refl), refl)
 
 -- a state's bytes, read and written again with no cause
-bytes-kept : (b : List ℕ) → refusedState b ≡ false → ((i : ℕ) → byteAt b i < 256) → bytesOf (statePage (stateFrom b)) 0 nowhere ≡ uncaused b
-unfolding bytesOf statePage pageFrom stateOf fromRegisters withReg setReg withFlags withI2 withMode withMark cleared
+bytes-kept : (b : List ℕ) → refusedState b ≡ false → ((i : ℕ) → byteAt b i < 256) → stateBytes (statePage (stateFrom b)) 0 nowhere ≡ uncaused b
+unfolding stateBytes statePage pageFrom stateOf fromRegisters withReg setReg withFlags withI2 withMode withMark cleared
 bytes-kept b e h =
     let r = ranges b e in
     rw (
@@ -133,7 +133,7 @@ wd16-run-none b t m map w k b₁ t₁ m₁ good l board bytes e =
     let none = run-none settings map (stateFrom b) m m₁ (Finished.Done (call .1 .ran)) board (call .1 .page) in
     let still-is : call .1 .ran ≡ still (stateFrom b) = done-is (none .0) in (
       call .0,
-      call .1 .state ∙ ap (λ a. bytesOf (statePage (a .state)) 0 nowhere) still-is ∙ bytes-kept b state bytes,
+      call .1 .state ∙ ap (λ a. stateBytes (statePage (a .state)) 0 nowhere) still-is ∙ bytes-kept b state bytes,
       call .1 .tally ∙ ap bytesFor still-is,
       none .1,
     )

@@ -12,25 +12,25 @@ use Rattle.wordbytes.specs.Words.{wordAt}
 use Rattle.machine.specs.declared.Ran.{Ran}
 use Rattle.machine.specs.declared.Finished.{Finished}
 use Rattle.machine.specs.declared.Finished.the-variants as Finished
-use Rattle.machine.specs.Numbers.{statePage, nowhere, placeOf}
-use Rattle.machine.specs.Run.{rest, ranOf, runOf}
-use Rattle.machine.specs.Counted.{joined}
+use Rattle.machine.specs.Numbers.{statePage, nowhere, placePage}
+use Rattle.machine.specs.Run.{restOfRun, ranOf, runOf}
+use Rattle.machine.specs.Counted.{tallyJoined}
 use Rattle.machine.proofs.Laws.Counted.{joined-left, joined-right}
 use Rattle.machine.proofs.Laws.Back.{one-run}
 use Rattle.refusal.specs.Page.{left}
 use Rattle.machine.specs.Entry.{powerWhy, finishedPage, runPage}
 use Rattle.machine.proofs.Laws.Answered.{run-done}
-use Rattle.machine_c.specs.Layout.{bytesOf, placeNumber, placeTold, stateFrom, settingsFrom, refusedState, refusedStep}
+use Rattle.machine_c.specs.Layout.{stateBytes, placeNumber, placeTold, stateFrom, settingsFrom, refusedState, refusedStep}
 use Rattle.machine_c.proofs.Laws.Again.{state-again, state-taken}
 use Rattle.laws.proofs.Laws.Taken.{taken-run, all-append, run-answer-of, run-size, ran-is}
 use Rattle.laws.proofs.Laws.Append.{followed, joined-ends}
 use Rattle.laws.specs.One.{asRun}
 use Rattle.laws.proofs.Laws.One.{step-as-run, calls-one}
-use Rattle.laws.specs.Halves.{firstPlace, firstTold, Halves, stateAfter, still, RunJoined, RunNone, NoneBefore, NoneAfter, RunOne, Wd16RunJoined, Wd16RunOne}
+use Rattle.laws.specs.Halves.{firstPlace, firstTold, Halves, stateLeft, still, RunJoined, RunNone, NoneBefore, NoneAfter, RunOne, Wd16RunJoined, Wd16RunOne}
 use Rattle.laws.proofs.Laws.Calls.{bytesFor, Within, call-answered, settings-taken, step-taken, buffers-taken, blanks-word, place-word, told-word, place-after, told-after, run-low}
 
 pub halves-of : (n : ℕ) (a b c : Ran) → c ≡ followed n a b → Halves n a b c
-unfolding joined
+unfolding tallyJoined
 halves-of n a b c e = record { state = ap (λ z. z .state) e; blanks = ap (λ z. z .tally .blanks) e; firstBlank = ap (λ z. z .tally .first) e }
 
 module _ (settings : Settings) (map xs ys : List ℕ) (s : State) (m : List ℕ)
@@ -40,7 +40,7 @@ module _ (settings : Settings) (map xs ys : List ℕ) (s : State) (m : List ℕ)
       let one = run-answer-of settings m map xs s r m₁ (taken-run settings m map xs (record { board = board; few = omega arith; unused = unused })) e in
       let a = one .0 in
       let size : length m₁ ≡ length m = run-size settings m map xs s a m₁ (one .2) in
-      let next : left (finishedPage q) m₂ ≡ runPage settings m₁ map ys (a .state) = f ∙ ap (λ z. runPage settings m₁ map ys (stateAfter z s)) (one .1) in
+      let next : left (finishedPage q) m₂ ≡ runPage settings m₁ map ys (a .state) = f ∙ ap (λ z. runPage settings m₁ map ys (stateLeft z s)) (one .1) in
       let next-board : powerWhy settings m₁ map ≡ 0 = ap (λ z. powerRefusal z map (settings .powerup) (settings .halt) (settings .register)) size ∙ board in
       let two = run-answer-of settings m₁ map ys (a .state) q m₂ (taken-run settings m₁ map ys (record { board = next-board; few = omega arith; unused = unusedToo })) next in
       let three = run-answer-of settings m map (xs ++ ys) s p m₃ (taken-run settings m map (xs ++ ys) (record { board = board; few = omega (arith, length-append xs ys); unused = all-append plain xs ys unused ∙ unusedToo })) g in
@@ -59,7 +59,7 @@ module _ (settings : Settings) (map xs ys : List ℕ) (s : State) (m : List ℕ)
 -- ---- AN EMPTY LIST IS NEUTRAL: the run over it stays where it is, without a blank; so before another or after it, it adds nothing
 
 pub run-none : RunNone
-unfolding allOf rest
+unfolding allOf restOfRun
 run-none settings map s m n r h e =
     let one = run-answer-of settings m map [] s r n (taken-run settings m map [] (record { board = h; few = omega arith; unused = refl })) e in
     let same = ran-is (one .2) in
@@ -83,17 +83,17 @@ run-one settings map line s m m₁ m₂ r q e f = one-run r (asRun q) m₁ m₂ 
 module _ (n : ℕ) (a b c : Ran) (h : Halves n a b c) (low : Within (a .tally .first)) (lowToo : Within (b .tally .first)) {t₁ t₂ t₃ : List ℕ}
     (e : t₁ ≡ bytesFor a) (f : t₂ ≡ bytesFor b) (g : t₃ ≡ bytesFor c) where
   blanks-add : wordAt t₃ 0 ≡ wordAt t₁ 0 + wordAt t₂ 0
-  blanks-add = rw (e, f, g, blanks-word (a .tally .blanks) (placeOf (a .tally .first)), blanks-word (b .tally .blanks) (placeOf (b .tally .first)), blanks-word (c .tally .blanks) (placeOf (c .tally .first))) (h .blanks)
+  blanks-add = rw (e, f, g, blanks-word (a .tally .blanks) (placePage (a .tally .first)), blanks-word (b .tally .blanks) (placePage (b .tally .first)), blanks-word (c .tally .blanks) (placePage (c .tally .first))) (h .blanks)
 
   place-is : wordAt t₃ 2 ≡ firstPlace n (wordAt t₁ 2) (wordAt t₂ 2)
   place-is =
-      rw (e, f, g, place-word (a .tally .blanks) (placeOf (a .tally .first)), place-word (b .tally .blanks) (placeOf (b .tally .first)), place-word (c .tally .blanks) (placeOf (c .tally .first)))
-      (ap (λ z. placeNumber (placeOf z)) (h .firstBlank) ∙ place-after n (a .tally .first) (b .tally .first) low lowToo)
+      rw (e, f, g, place-word (a .tally .blanks) (placePage (a .tally .first)), place-word (b .tally .blanks) (placePage (b .tally .first)), place-word (c .tally .blanks) (placePage (c .tally .first)))
+      (ap (λ z. placeNumber (placePage z)) (h .firstBlank) ∙ place-after n (a .tally .first) (b .tally .first) low lowToo)
 
   told-is : wordAt t₃ 4 ≡ firstTold (wordAt t₁ 2) (wordAt t₁ 4) (wordAt t₂ 4)
   told-is =
-      rw (e, f, g, place-word (a .tally .blanks) (placeOf (a .tally .first)), told-word (a .tally .blanks) (placeOf (a .tally .first)), told-word (b .tally .blanks) (placeOf (b .tally .first)), told-word (c .tally .blanks) (placeOf (c .tally .first)))
-      (ap (λ z. placeTold (placeOf z)) (h .firstBlank) ∙ told-after n (a .tally .first) (b .tally .first) low)
+      rw (e, f, g, place-word (a .tally .blanks) (placePage (a .tally .first)), told-word (a .tally .blanks) (placePage (a .tally .first)), told-word (b .tally .blanks) (placePage (b .tally .first)), told-word (c .tally .blanks) (placePage (c .tally .first)))
+      (ap (λ z. placeTold (placePage z)) (h .firstBlank) ∙ told-after n (a .tally .first) (b .tally .first) low)
 
 module _ (map w xs ys b t t′ t″ m : List ℕ) (good : refusedStep b w ≡ false) (tally : length t ≡ 6) (tally′ : length t′ ≡ 6) (tally″ : length t″ ≡ 6)
     (board : powerWhy (settingsFrom w) m map ≡ 0) (few : length xs + length ys ≤ 4096) (unused : allOf plain xs ≡ true) (unusedToo : allOf plain ys ≡ true) where
@@ -121,7 +121,7 @@ module _ (map w xs ys b t t′ t″ m : List ℕ) (good : refusedStep b w ≡ fa
       let lowToo = run-low settings map ys (a .state) m₁ c m₂ second (omega arith) in
       record {
         numbers = (one .0, two .0, three .0);
-        state = three .1 .state ∙ ap (λ z. bytesOf (statePage z) 0 nowhere) (h .state) ∙ sym (two .1 .state);
+        state = three .1 .state ∙ ap (λ z. stateBytes (statePage z) 0 nowhere) (h .state) ∙ sym (two .1 .state);
         image = same .1;
         blanks = blanks-add (length xs) a c d h low lowToo (one .1 .tally) (two .1 .tally) (three .1 .tally);
         place = place-is (length xs) a c d h low lowToo (one .1 .tally) (two .1 .tally) (three .1 .tally);

@@ -21,10 +21,10 @@ use Rattle.refusal.proofs.Laws.Page.{answered-one}
 use Rattle.machine.proofs.Laws.Back.{state-one, turn-one}
 use Rattle.machine.proofs.Laws.Answered.{power-answer, step-answer}
 use Rattle.laws.proofs.Laws.Marked.{step-marks, held-off, switch-heard, power-clears, cause-by, enabled-runs}
-use Rattle.laws.specs.Mark.{executed, enables, isRunning, markAfter, fromOpCode, interrupted, fromInterrupt, fromSwitch, Steps, MarkAfter, PowerUpClears, HoldsOff, SwitchHeard, LateOnce, among, markBy, Wd16MarkAfter, Wd16PowerUpClears, Wd16HoldsOff, Wd16SwitchHeard, Wd16LateOnce}
+use Rattle.laws.specs.Mark.{executed, enables, isRunning, markAfter, fromOpCode, interrupted, fromInterrupt, fromSwitch, StepCall, MarkAfter, PowerUpClears, HoldsOff, SwitchHeard, LateOnce, among, markBy, Wd16MarkAfter, Wd16PowerUpClears, Wd16HoldsOff, Wd16SwitchHeard, Wd16LateOnce}
 
 -- what a call of `step` answered and left is the definition's
-pub turn-is : (settings : Settings) (m map : List ℕ) (line : ℕ) (s : State) (t : Turn) (n : List ℕ) → Steps settings m map line s t n
+pub turn-is : (settings : Settings) (m map : List ℕ) (line : ℕ) (s : State) (t : Turn) (n : List ℕ) → StepCall settings m map line s t n
     → (let a = stepOf map (heard settings line) s m in (t .state ≡ a .state) × (t .cause ≡ a .cause) × (n ≡ a .image))
 turn-is settings m map line s t n e =
     let a = stepOf map (heard settings line) s m in
@@ -62,7 +62,7 @@ and-not true = refl
 and-not false = refl
 
 module _ (settings : Settings) (map : List ℕ) (m m₁ m₂ m₃ : List ℕ) (l₁ l₂ l₃ : ℕ) (s : State) (t₁ t₂ t₃ : Turn)
-    (ien : Steps settings m map l₁ s t₁ m₁) (next : Steps settings m₁ map l₂ (t₁ .state) t₂ m₂) (last : Steps settings m₂ map l₃ (t₂ .state) t₃ m₃) where
+    (ien : StepCall settings m map l₁ s t₁ m₁) (next : StepCall settings m₁ map l₂ (t₁ .state) t₂ m₂) (last : StepCall settings m₂ map l₃ (t₂ .state) t₃ m₃) where
   pub late-once : LateOnce settings map m m₁ m₂ m₃ l₁ l₂ l₃ s t₁ t₂ t₃ ien next last
   late-once runs clear enables-it done quiet quiet′ asks =
       let one = turn-is settings m map l₁ s t₁ m₁ ien in
@@ -122,8 +122,8 @@ wd16-late-once w b m map l₁ l₂ l₃ b₁ m₁ b₂ m₂ b₃ m₃ e₁ e₂ 
     let one = step-done w b m map l₁ b₁ m₁ e₁ in
     let two = step-done w b₁ m₁ map l₂ b₂ m₂ e₂ in
     let three = step-done w b₂ m₂ map l₃ b₃ m₃ e₃ in
-    let next : Steps (settingsFrom w) m₁ map l₂ (one .turn .state) (two .turn) m₂ = subst (λ (s : State). Steps (settingsFrom w) m₁ map l₂ s (two .turn) m₂) (one .state) (two .page) in
-    let last : Steps (settingsFrom w) m₂ map l₃ (two .turn .state) (three .turn) m₃ = subst (λ (s : State). Steps (settingsFrom w) m₂ map l₃ s (three .turn) m₃) (two .state) (three .page) in
+    let next : StepCall (settingsFrom w) m₁ map l₂ (one .turn .state) (two .turn) m₂ = subst (λ (s : State). StepCall (settingsFrom w) m₁ map l₂ s (two .turn) m₂) (one .state) (two .page) in
+    let last : StepCall (settingsFrom w) m₂ map l₃ (two .turn .state) (three .turn) m₃ = subst (λ (s : State). StepCall (settingsFrom w) m₂ map l₃ s (three .turn) m₃) (two .state) (three .page) in
     let late = late-once (settingsFrom w) map m m₁ m₂ m₃ l₁ l₂ l₃ (stateFrom b) (one .turn) (two .turn) (three .turn) (one .page) next last runs clear enables-it (cause-0 (one .turn .cause) (sym (one .cause) ∙ done)) quiet quiet′ asks in (
       ap (λ n. among (0 ∷ 5 ∷ 8 ∷ []) n) (two .cause) ∙ late .0,
       λ code runs₂ set₂.

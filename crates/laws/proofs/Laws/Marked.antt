@@ -12,7 +12,7 @@ use Rattle.board.specs.Work.{Work, give, Came, value, blank, Size, word, byte, 
 use Rattle.board.proofs.Laws.Alike.{found-value}
 use Rattle.step.proofs.Laws.Late.{begins}
 use Rattle.opcodes.specs.Fields.{highByte, onlyRegister, format2Code, format4Code, argument, register, format9Code, sourceMode, sourceRegister, destinationMode, destinationRegister, blockSource, blockDestination}
-use Rattle.arith.specs.Branch.{taken}
+use Rattle.arith.specs.Branch.{branchTaken}
 use Rattle.wordmath.specs.Address.{plus, minus}
 use Rattle.opcodes.specs.declared.Binary.{Binary}
 use Rattle.opcodes.specs.declared.ByteBinary.{ByteBinary}
@@ -39,7 +39,7 @@ use Rattle.format7.specs.Format7.{tcall, tjmp, lsts, ssts, format7}
 use Rattle.format7.specs.Format7 as Seven
 use Rattle.format7.specs.Rows.{onWordAt, storedAt, modifyAt, statusAt, noResultAt}
 use Rattle.format7.proofs.Laws.Columns.{columns}
-use Rattle.format8.specs.Format8.{rowOf, onward, counted, again, element, format8}
+use Rattle.format8.specs.Format8.{moveRow, onward, counted, again, element, format8}
 use Rattle.format9.specs.Format9.{call, jsrTo, jsr, leaTo, lea, ash, sob, xch, ashc, mul, div, codes9, format9}
 use Rattle.shift.specs.Shifted.{preset}
 use Rattle.format10.specs.Format10.{stores, settle, moveByte, settleByte, onOperands, onWords, onBytes, binaryCode, byteCode, format10}
@@ -56,7 +56,7 @@ use Rattle.step.specs.declared.Kind.the-variants.{OpCode, HaltEnd, Boots, Saves
 use Rattle.step.specs.declared.Cause.{Cause}
 use Rattle.step.specs.declared.Cause.the-variants as Cause
 use Rattle.step.specs.declared.Cause.the-variants.{LockedAt}
-use Rattle.step.specs.Step.{after, orElse, causeNumber, addressOf, isBlank, isCode, causeOf, powerUpOption, orLocked, powerUpOf, errorCauseOf, haltOption, hears, kindIn, kindOf, nonVectored, vectored, restart, bootstrap, workOf, past, busError, errorOf, stepOf}
+use Rattle.step.specs.Step.{after, orAt, causeNumber, causeAddress, isBlank, isCode, causeOf, powerUpOption, orLocked, powerUpOf, errorCauseOf, haltOption, hears, kindIn, kindOf, nonVectored, vectored, restart, bootstrap, workOf, past, busError, errorOf, stepOf}
 use Rattle.state.specs.declared.Settings.{Settings}
 use Rattle.step.proofs.Laws.Ends.{step-well, option-no-code}
 use Rattle.step.proofs.Laws.Causes.{blank-error, blank-counted}
@@ -130,7 +130,7 @@ either false s t e h = h
 
 branch-unmarked : (s : State) (op : ℕ) → Unmarked s → Unmarked (branch s op)
 unfolding branch withReg
-branch-unmarked s op e = either (taken (branchNumber op) (s .flags)) _ s e e
+branch-unmarked s op e = either (branchTaken (branchNumber op) (s .flags)) _ s e e
 
 six-unmarked : (s : State) (op : ℕ) → Unmarked s → Unmarked (format6 s op)
 unfolding format6 immediate single double withDone withPair withReg withFlags
@@ -151,7 +151,7 @@ modify-unmarked z s op row e = with-operand z s op _ e (λ o d. stored-unmarked 
 seven-unmarked : (out : Outside) (s : State) (op : ℕ) → Unmarked s → Always Unmarked (format7 out s op)
 unfolding Always noResultAt statusAt tcall tjmp lsts ssts withStatus
 seven-unmarked out s op e =
-    let row = Seven.rowOf op in
+    let row = Seven.columnRow op in
     subst (Always Unmarked) (sym (columns out s op))
     (always-cond Unmarked (onWordAt op row) (modifyAt word s op row) _ (modify-unmarked word s op row e)
     (always-cond Unmarked (ltb row 12) (modifyAt byte s op row) _ (modify-unmarked byte s op row e)
@@ -169,7 +169,7 @@ again-unmarked s t e = either (eqb (t .regs .r0) 0) t _ e e
 
 eight-unmarked : (s : State) (op : ℕ) → Unmarked s → Always Unmarked (format8 s op)
 unfolding Always element counted onward withReg
-eight-unmarked s op e = always-after Unmarked _ _ (λ _. again-unmarked s (counted (rowOf op) s (blockSource op) (blockDestination op)) e)
+eight-unmarked s op e = always-after Unmarked _ _ (λ _. again-unmarked s (counted (moveRow op) s (blockSource op) (blockDestination op)) e)
 
 called-unmarked : (s : State) (r a : ℕ) → Unmarked s → Always Unmarked (call s r a)
 unfolding Always call pushReg _>>=_ withReg
@@ -507,7 +507,7 @@ module _ (map : List ℕ) (out : Outside) (s : State) (m : List ℕ) where
       trapped : (a : ℕ) → run map (workOf (kindOf s out) out s) m ≡ blank a → (c : Came State) → run map (busError (kindOf s out) out s) m ≡ c → stepOf map out s m .state .mark ≡ markAfter s m (stepOf map out s m .cause)
       trapped a r (value t n) g =
           let k = kindOf s out in
-          let e : stepOf map out s m ≡ after t n (errorCauseOf k a) = blank-error map out s m r ∙ ap (λ c. orElse c (errorCauseOf k a) (λ _. after (withMode s Locked) m (LockedAt a))) g in
+          let e : stepOf map out s m ≡ after t n (errorCauseOf k a) = blank-error map out s m r ∙ ap (λ c. orAt c (errorCauseOf k a) (λ _. after (withMode s Locked) m (LockedAt a))) g in
           ap (λ a. a .state .mark) e ∙ always-value Unmarked map (busError k out s) m (trap-unmarked (past k s) (psOf out true (past k s)) 0x12) g
           ∙ sym (blank-clear s m (stepOf map out s m .cause) (blank-counted map out s m {b = 0} r .0 t n g))
       trapped a r (blank b) g =
@@ -527,7 +527,7 @@ module _ (map : List ℕ) (out : Outside) (s : State) (m : List ℕ) where
   unfolding errorOf
   cause-by f b e g l = came (run map (workOf (kindOf s out) out s) m) refl
     where
-      trapped : (a : ℕ) (c : Came State) → f (orElse c (errorCauseOf (kindOf s out) a) (λ _. after (withMode s Locked) m (LockedAt a)) .cause) ≡ b
+      trapped : (a : ℕ) (c : Came State) → f (orAt c (errorCauseOf (kindOf s out) a) (λ _. after (withMode s Locked) m (LockedAt a)) .cause) ≡ b
       trapped a (value t n) = g a
       trapped a (blank d) = l a
 
@@ -693,7 +693,7 @@ code-work map out s m runs c = came (run map (workOf (kindOf s out) out s) m) re
         code-kind (kindOf s out) (subst (λ (b : Bool). fits b (kindOf s out) ≡ true) (ap isRunning runs) (fits-kind (s .mode) (hears s) out)) (ap (λ a. a .cause) well ∙ c) in
         (rw code at r) ∙ ap (λ a. value (a .state) (a .image)) well
     came (blank a) r =
-        let z : Nowhere ≡ At a = sym (ap addressOf c) ∙ tells map out s m r in
+        let z : Nowhere ≡ At a = sym (ap causeAddress c) ∙ tells map out s m r in
         let w : _≡_ {A = ℕ} 0 1 = cc in
         absurd (omega arith)
 

@@ -22,7 +22,7 @@ use Rattle.step.proofs.Laws.Ends.{step-well}
 use Rattle.step.proofs.Laws.Causes.{locked-still, blank-counted}
 use Rattle.machine.specs.declared.First.the-variants.{Never}
 use Rattle.machine.specs.Run.{end, runOf}
-use Rattle.machine.specs.Trail.{trailOf, lastOf, blanksIn, firstIn, here, moved, tallyIn}
+use Rattle.machine.specs.Trail.{trailOf, lastAfter, blanksIn, firstBlankIn, here, placeMoved, tallyIn}
 use Rattle.machine.proofs.Laws.Counted.{run-trail}
 use Rattle.laws.specs.Cards.{Plugged}
 
@@ -92,7 +92,7 @@ module _ (map : List ℕ) (out : Outside) (s : State) (m : List ℕ) where
 -- ---- a trail
 
 -- locked once, locked to the end
-pub trail-locked : (settings : Settings) (map lines : List ℕ) (s : State) (m : List ℕ) (c : Cause) → s .mode ≡ Locked → lastOf (after s m c) (trailOf settings map lines s m) .state .mode ≡ Locked
+pub trail-locked : (settings : Settings) (map lines : List ℕ) (s : State) (m : List ℕ) (c : Cause) → s .mode ≡ Locked → lastAfter (after s m c) (trailOf settings map lines s m) .state .mode ≡ Locked
 unfolding trailOf
 trail-locked settings map [] s m c e = e
 trail-locked settings map (x ∷ xs) s m c e =
@@ -105,7 +105,7 @@ no-blank false n e = (refl, omega arith)
 
 -- THE SAME STEPS: state, image and cause after each
 pub trail-more : (settings : Settings) (map big : List ℕ) → More map big → (lines : List ℕ) (s : State) (m : List ℕ) (c : Cause)
-    → blanksIn (trailOf settings map lines s m) ≡ 0 → (lastOf (after s m c) (trailOf settings map lines s m) .state .mode ≡ Locked → ⊥)
+    → blanksIn (trailOf settings map lines s m) ≡ 0 → (lastAfter (after s m c) (trailOf settings map lines s m) .state .mode ≡ Locked → ⊥)
     → trailOf settings big lines s m ≡ trailOf settings map lines s m
 unfolding trailOf blanksIn
 trail-more settings map big g [] s m c e u = refl
@@ -117,19 +117,19 @@ trail-more settings map big g (x ∷ xs) s m c e u =
 
 -- and so the same end
 pub run-more : (settings : Settings) (map big : List ℕ) → More map big → (lines : List ℕ) (s : State) (m : List ℕ) (c : Cause)
-    → blanksIn (trailOf settings map lines s m) ≡ 0 → (lastOf (after s m c) (trailOf settings map lines s m) .state .mode ≡ Locked → ⊥)
+    → blanksIn (trailOf settings map lines s m) ≡ 0 → (lastAfter (after s m c) (trailOf settings map lines s m) .state .mode ≡ Locked → ⊥)
     → runOf settings big lines s m ≡ runOf settings map lines s m
 run-more settings map big g lines s m c e u =
     run-trail settings big lines s m c
-    ∙ ap (λ z. end (lastOf (after s m c) z .state) (lastOf (after s m c) z .image) (tallyIn z)) (trail-more settings map big g lines s m c e u)
+    ∙ ap (λ z. end (lastAfter (after s m c) z .state) (lastAfter (after s m c) z .image) (tallyIn z)) (trail-more settings map big g lines s m c e u)
     ∙ sym (run-trail settings map lines s m c)
 
 -- where no step is a blank, there is no first one
-pub none-first : (rs : List After) → blanksIn rs ≡ 0 → firstIn rs ≡ Never
-unfolding blanksIn firstIn
+pub none-first : (rs : List After) → blanksIn rs ≡ 0 → firstBlankIn rs ≡ Never
+unfolding blanksIn firstBlankIn
 none-first [] e = refl
 none-first (a ∷ rs) e = split (blankAt (a .cause)) (none-first rs) e
   where
-    split : (b : Told) → (blanksIn rs ≡ 0 → firstIn rs ≡ Never) → cond (isTold b) 1 0 + blanksIn rs ≡ 0 → here b (firstIn rs) ≡ Never
+    split : (b : Told) → (blanksIn rs ≡ 0 → firstBlankIn rs ≡ Never) → cond (isTold b) 1 0 + blanksIn rs ≡ 0 → here b (firstBlankIn rs) ≡ Never
     split (Told.At x) h e = absurd (omega arith)
-    split Told.Nowhere h e = ap (moved 1) (h (omega arith))
+    split Told.Nowhere h e = ap (placeMoved 1) (h (omega arith))

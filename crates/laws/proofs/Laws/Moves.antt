@@ -29,15 +29,15 @@ use Rattle.step.specs.declared.Cause.{Cause}
 use Rattle.step.specs.declared.Cause.the-variants as Cause
 use Rattle.step.specs.Execute.{execute, byFormat, further}
 use Rattle.step.specs.Xct.{code, trapsAlone, chosen, beginXct, begun, trace, traced, carry, opWork}
-use Rattle.step.specs.Step.{kindIn, after, orElse, causeNumber, isBlank, kindOf, workOf, past, busError, errorCauseOf, errorOf, stepOf}
+use Rattle.step.specs.Step.{kindIn, after, orAt, causeNumber, isBlank, kindOf, workOf, past, busError, errorCauseOf, errorOf, stepOf}
 use Rattle.step.specs.Block.{Unheard}
 use Rattle.step.proofs.Laws.Causes.{value-no-blank, blank-error, blank-counted, blank-image}
 use Rattle.refusal.specs.Refusal.{allOf}
 use Rattle.refusal.proofs.Laws.Refusal.{neither}
 use Rattle.machine.specs.declared.Tally.{Tally}
-use Rattle.machine.specs.Run.{End, end, rest, runOf, ranOf, noBlanks}
+use Rattle.machine.specs.Run.{End, end, restOfRun, runOf, ranOf, noBlanks}
 use Rattle.machine.specs.Trail.{trailOf, tallyIn}
-use Rattle.machine.specs.Counted.{joined}
+use Rattle.machine.specs.Counted.{tallyJoined}
 use Rattle.machine.specs.Block.{AllUnheard, none, also, blockMove}
 use Rattle.machine.proofs.Laws.Counted.{run-trail}
 use Rattle.machine.proofs.Laws.Block.{block-move}
@@ -52,7 +52,7 @@ use Rattle.laws.proofs.Laws.Always.{Always, always-value, run-split}
 use Rattle.opcodes.proofs.Laws.Past.{Below, below}
 use Rattle.laws.proofs.Laws.Marked.{code-work}
 use Rattle.laws.proofs.Laws.Mark.{turn-is}
-use Rattle.laws.specs.Moves.{Runs, LentRuns, quiet, Moves, RunMoves, RunsMove, Wd16RunsMove, ElementDropped, opened, OneElement, XctElement, Wd16ElementDropped, Wd16XctElement}
+use Rattle.laws.specs.Moves.{RunsOn, LentRuns, quiet, Moves, RunMoves, RunsMove, Wd16RunsMove, ElementDropped, opened, OneElement, XctElement, Wd16ElementDropped, Wd16XctElement}
 use Rattle.laws.specs.Moves as Spec
 
 -- ---- quiet lines
@@ -98,14 +98,14 @@ record Ends (settings : Settings) (map lines : List ℕ) (s : State) (m : List �
   is : runOf settings map lines s m ≡ end s′ m′ tally
   blanks : tally .blanks ≡ k
 
-runs-end : (settings : Settings) (map : List ℕ) (s : State) (m lines : List ℕ) (k : ℕ) (s′ : State) (m′ : List ℕ) → Runs settings map s m lines k s′ m′ → Ends settings map lines s m k s′ m′
-unfolding rest joined
-runs-end settings map s m lines k s′ m′ Spec.Runs.none = record { tally = noBlanks; is = refl; blanks = refl }
-runs-end settings map s m lines k s′ m′ (Spec.Runs.runs xs ys {blanks = j} a m₁ e r) =
+runs-end : (settings : Settings) (map : List ℕ) (s : State) (m lines : List ℕ) (k : ℕ) (s′ : State) (m′ : List ℕ) → RunsOn settings map s m lines k s′ m′ → Ends settings map lines s m k s′ m′
+unfolding restOfRun tallyJoined
+runs-end settings map s m lines k s′ m′ Spec.RunsOn.none = record { tally = noBlanks; is = refl; blanks = refl }
+runs-end settings map s m lines k s′ m′ (Spec.RunsOn.runs xs ys {blanks = j} a m₁ e r) =
     let one : ranOf a m₁ ≡ runOf settings map xs s m = run-done settings m map xs s a m₁ e .1 in
     let more = runs-end settings map (a .state) m₁ ys j s′ m′ r in
     record {
-      tally = joined (length xs) (a .tally) (more .tally);
+      tally = tallyJoined (length xs) (a .tally) (more .tally);
       is = run-append settings map xs ys s m ∙ ap (goOn settings map (length xs) ys) (sym one) ∙ ap (behind (length xs) (a .tally)) (more .is);
       blanks = ap (λ n. a .tally .blanks + n) (more .blanks);
     }
@@ -129,10 +129,10 @@ runs-move settings map op lines s m k s′ m′ w r =
 
 record Lent (w map b m lines b′ m′ : List ℕ) : Type 0 where
   blanks : ℕ
-  runs : Runs (settingsFrom w) map (stateFrom b) m lines blanks (stateFrom b′) m′
+  runs : RunsOn (settingsFrom w) map (stateFrom b) m lines blanks (stateFrom b′) m′
 
 lent-runs : (w map b m lines b′ m′ : List ℕ) → LentRuns w map b m lines b′ m′ → Lent w map b m lines b′ m′
-lent-runs w map b m lines b′ m′ Spec.LentRuns.none = record { blanks = 0; runs = Spec.Runs.none }
+lent-runs w map b m lines b′ m′ Spec.LentRuns.none = record { blanks = 0; runs = Spec.RunsOn.none }
 lent-runs w map b m lines b′ m′ (Spec.LentRuns.runs xs ys t b₁ t₁ m₁ e r) =
     let free = run-not-refused b t m map w xs b₁ t₁ m₁ e in
     let call = call-answered b t m map w xs 0 b₁ t₁ m₁ (free .0) (free .1) e .1 in
@@ -140,7 +140,7 @@ lent-runs w map b m lines b′ m′ (Spec.LentRuns.runs xs ys t b₁ t₁ m₁ e
     let more = lent-runs w map b₁ m₁ ys b′ m′ r in
     record {
       blanks = call .ran .tally .blanks + more .blanks;
-      runs = Spec.Runs.runs xs ys (call .ran) m₁ (call .page) (subst (λ (s : State). Runs (settingsFrom w) map s m₁ ys (more .blanks) (stateFrom b′) m′) on (more .runs));
+      runs = Spec.RunsOn.runs xs ys (call .ran) m₁ (call .page) (subst (λ (s : State). RunsOn (settingsFrom w) map s m₁ ys (more .blanks) (stateFrom b′) m′) on (more .runs));
     }
 
 pub wd16-runs-move : Wd16RunsMove
@@ -191,7 +191,7 @@ dropped map out s m a c = came (run map (workOf (kindOf s out) out s) m) refl
     trapped : (b : ℕ) → run map (workOf (kindOf s out) out s) m ≡ blank b → (x : Came State) → run map (busError (kindOf s out) out s) m ≡ x → Dropped map out s m
     trapped b r (value t n) g =
         let k = kindOf s out in
-        let e : stepOf map out s m ≡ after t n (errorCauseOf k b) = blank-error map out s m r ∙ ap (λ c. orElse c (errorCauseOf k b) (λ _. after (withMode s Locked) m (Cause.LockedAt b))) g in
+        let e : stepOf map out s m ≡ after t n (errorCauseOf k b) = blank-error map out s m r ∙ ap (λ c. orAt c (errorCauseOf k b) (λ _. after (withMode s Locked) m (Cause.LockedAt b))) g in
         let code : k ≡ OpCode = blank-kind k a b (sym (ap (λ z. z .cause) e) ∙ c) in
         let u = withPc s (plus (s .regs .pc) 2) in
         let here : past k s ≡ u = ap (λ z. past z s) code in

@@ -31,7 +31,7 @@ use Rattle.optext.proofs.Laws.Trip.{word-back}
 use Rattle.step.specs.Execute.{execute, byFormat, further}
 use Rattle.step.specs.Xct.{begun}
 use Rattle.laws.proofs.Laws.Rows.{two, three, four, five, six-is, immediates, singles, doubles, seven, eight, nine, addressed-lt, ten}
-use Rattle.laws.specs.Names.{Named, noName, mnemonics, executedRows, In, As, Beside, NamesExecuted, placeOf, TextExecuted, XctNamed}
+use Rattle.laws.specs.Names.{Named, noName, mnemonics, executedRows, In, As, Beside, NamesExecuted, rowPlace, TextExecuted, XctNamed}
 
 -- a row with the register before the count
 turned : (b op : ℕ) → b + op / 64 % 8 * 64 + op % 16 ≡ op → b + op % 16 + op / 64 % 8 * 64 ≡ op
@@ -60,7 +60,7 @@ rows-after : (j : ℕ) → 6 + j < 111 → getD (take 5 rows ++ drop 6 (take 111
 unfolding rows
 rows-after j l = getD-append-add (take 5 rows) (drop 6 (take 111 rows)) j noRow ∙ getD-drop 6 (take 111 rows) j noRow ∙ getD-take 111 rows (6 + j) noRow l
 
-row-there : (k : ℕ) → k < 111 → (k ≡ 5 → ⊥) → getD executedRows (placeOf k) noRow ≡ theRow k
+row-there : (k : ℕ) → k < 111 → (k ≡ 5 → ⊥) → getD executedRows (rowPlace k) noRow ≡ theRow k
 unfolding executedRows theRow
 row-there k h n = by (ltb k 5) refl
   where
@@ -72,7 +72,7 @@ row-there k h n = by (ltb k 5) refl
         let b : 6 + (k - 6) ≡ k = omega (arith, l, n) in
         ap (λ (x : ℕ). getD (take 5 rows ++ drop 6 (take 111 rows)) x noRow) a ∙ rows-after (k - 6) (omega (arith, b, h)) ∙ ap (λ (x : ℕ). getD rows x noRow) b
 
-place-lt : (k : ℕ) → k < 111 → placeOf k < length executedRows
+place-lt : (k : ℕ) → k < 111 → rowPlace k < length executedRows
 unfolding executedRows rows
 place-lt k h = by (ltb k 5) refl
   where
@@ -89,8 +89,8 @@ text-executed out s op fit l named other =
     let k = rowOf op in
     let xct : k ≡ 5 → ⊥ = λ e. other (sym (sixth op (subst (λ (j : ℕ). In (theRow j) op) e (word-back op l)))) in
     let h = has-row op l named in
-    let a = beside-at out s executedRows mnemonics (placeOf k) (names-executed out s fit) (place-lt k h) in
-    let at = subst (λ (r : Row). As out s r (getD mnemonics (placeOf k) noName)) (row-there k h xct) a in
+    let a = beside-at out s executedRows mnemonics (rowPlace k) (names-executed out s fit) (place-lt k h) in
+    let at = subst (λ (r : Row). As out s r (getD mnemonics (rowPlace k) noName)) (row-there k h xct) a in
     (at .0, at .1 op (word-back op l))
 
 pub xct-named : XctNamed

@@ -11,7 +11,7 @@ use Rattle.state.specs.declared.Settings.{Settings}
 use Rattle.state.specs.State.{heard}
 use Rattle.step.specs.declared.Cause.{Cause}
 use Rattle.step.specs.declared.Cause.the-variants as Cause
-use Rattle.step.specs.Step.{After, stepOf, causeNumber, blankAt, addressOf}
+use Rattle.step.specs.Step.{After, stepOf, causeNumber, blankAt, causeAddress}
 use Rattle.refusal.specs.Numbers.{lineBit, noState}
 use Rattle.refusal.specs.Page.{first, left, call, told, reading}
 use Rattle.refusal.proofs.Laws.Page.{apart, answered-one, refused-one}
@@ -20,15 +20,15 @@ use Rattle.machine.specs.declared.Stepped.{Stepped}
 use Rattle.machine.specs.declared.Stepped.the-variants as Stepped
 use Rattle.wordbytes.specs.Words.{wordAt}
 use Rattle.wordbytes.proofs.Laws.{word-again}
-use Rattle.machine.specs.Numbers.{statePage, nowhere, toldOf, placeOf}
-use Rattle.machine.specs.Run.{end, rest, noted, noBlanks}
+use Rattle.machine.specs.Numbers.{statePage, nowhere, toldOf, placePage}
+use Rattle.machine.specs.Run.{end, restOfRun, noted, noBlanks}
 use Rattle.machine.proofs.Laws.Back.{turn-one}
 use Rattle.machine.specs.Entry.{stepWhy, powerWhy, runWhy, turned, steppedPage, finishedPage, stepPage, runPage}
 use Rattle.machine.specs.Entry as Entry
-use Rattle.machine_c.specs.Layout.{wordTold, bytesOf, tallyBytes, stateFrom, settingsFrom, refusedStep, refusedRun}
-use Rattle.machine_c.specs.Calls.{stepIn, stepCall, runIn, runCall}
+use Rattle.machine_c.specs.Layout.{wordTold, stateBytes, tallyBytes, stateFrom, settingsFrom, refusedStep, refusedRun}
+use Rattle.machine_c.specs.Calls.{stepIn, stepCall, runLaid, runCall}
 use Rattle.laws.proofs.Laws.Calls.{cause-byte}
-use Rattle.laws.specs.One.{asRun, uncaused, tallied, OneCall}
+use Rattle.laws.specs.One.{asRun, uncaused, oneTally, OneCall}
 
 -- 4 can't apply to one line word, and 5 is asked of it alone
 pub one-refusal : (settings : Settings) (m map : List ℕ) (line : ℕ) → runWhy settings m map (line ∷ []) ≡ stepWhy settings m map line
@@ -41,7 +41,7 @@ one-refusal settings m map line = ap (first (powerWhy settings m map)) (split (p
 
 -- a is the step, why its refusal
 page-one : (why : ℕ) (a : After) (m n : List ℕ) (q : Stepped) → left (steppedPage q) n ≡ call why (turned a) m
-    → left (finishedPage (asRun q)) n ≡ call why (Entry.ended (end (a .state) (a .image) (noted noBlanks 0 (blankAt (a .cause))))) m
+    → left (finishedPage (asRun q)) n ≡ call why (Entry.runEnd (end (a .state) (a .image) (noted noBlanks 0 (blankAt (a .cause))))) m
 page-one zero a m n (Stepped.Done t) e =
     let same : t ≡ record { state = a .state; cause = a .cause } = turn-one t (record { state = a .state; cause = a .cause }) (answered-one (ap (λ z. z .page) e)) in
     let image : n ≡ a .image = ap (λ z. z .lent) e in
@@ -56,20 +56,20 @@ page-one (suc why) a m n (Stepped.Refused k) e =
 -- what a step answers and leaves is what the run over its line word must
 pub step-as-run : (settings : Settings) (m map : List ℕ) (line : ℕ) (s : State) (q : Stepped) (n : List ℕ)
     → left (steppedPage q) n ≡ stepPage settings m map line s → left (finishedPage (asRun q)) n ≡ runPage settings m map (line ∷ []) s
-unfolding stepPage runPage rest
+unfolding stepPage runPage restOfRun
 step-as-run settings m map line s q n e = rw (one-refusal settings m map line) (page-one (stepWhy settings m map line) (stepOf map (heard settings line) s m) m n q e)
 
 -- ---- for C
 
-told-bytes : (s : State) (c : Cause) → wordAt (bytesOf (statePage s) (causeNumber c) (toldOf (addressOf c))) 22 ≡ wordTold (toldOf (addressOf c))
-unfolding bytesOf statePage
-told-bytes s c = word-again (wordTold (toldOf (addressOf c)))
+told-bytes : (s : State) (c : Cause) → wordAt (stateBytes (statePage s) (causeNumber c) (toldOf (causeAddress c))) 22 ≡ wordTold (toldOf (causeAddress c))
+unfolding stateBytes statePage
+told-bytes s c = word-again (wordTold (toldOf (causeAddress c)))
 
-uncaused-bytes : (s : State) (c : Cause) → bytesOf (statePage s) 0 nowhere ≡ uncaused (bytesOf (statePage s) (causeNumber c) (toldOf (addressOf c)))
-unfolding bytesOf statePage
+uncaused-bytes : (s : State) (c : Cause) → stateBytes (statePage s) 0 nowhere ≡ uncaused (stateBytes (statePage s) (causeNumber c) (toldOf (causeAddress c)))
+unfolding stateBytes statePage
 uncaused-bytes s c = refl
 
-cause-tallied : (c : Cause) → (let t = noted noBlanks 0 (blankAt c) in tallyBytes (t .blanks) (placeOf (t .first))) ≡ tallied (causeNumber c) (wordTold (toldOf (addressOf c)))
+cause-tallied : (c : Cause) → (let t = noted noBlanks 0 (blankAt c) in tallyBytes (t .blanks) (placePage (t .first))) ≡ oneTally (causeNumber c) (wordTold (toldOf (causeAddress c)))
 unfolding noted
 cause-tallied Cause.OpCode = refl
 cause-tallied Cause.Switch = refl
@@ -95,16 +95,16 @@ refused-one-call b t m why k j b₁ t₁ m₁ b₂ m₂ n e f =
 
 -- a is the step, why its refusal, bad that of the lent bytes
 call-one : (b t m : List ℕ) (bad why : ℕ) (a : After) (k j : ℕ) (b₁ t₁ m₁ b₂ m₂ : List ℕ)
-    → told k (b₁, t₁, m₁) ≡ reading runIn (λ z. (b, t, z)) (call bad (call why (Entry.ended (end (a .state) (a .image) (noted noBlanks 0 (blankAt (a .cause))))) m) m)
+    → told k (b₁, t₁, m₁) ≡ reading runLaid (λ z. (b, t, z)) (call bad (call why (Entry.runEnd (end (a .state) (a .image) (noted noBlanks 0 (blankAt (a .cause))))) m) m)
     → told j (b₂, m₂) ≡ reading stepIn (λ z. (b, z)) (call bad (call why (turned a) m) m)
     → OneCall k j b₁ t₁ m₁ b₂ m₂
 call-one b t m zero zero a k j b₁ t₁ m₁ b₂ m₂ e f =
-    let after : b₂ ≡ bytesOf (statePage (a .state)) (causeNumber (a .cause)) (toldOf (addressOf (a .cause))) = ap (λ z. z .lent .0) f in
+    let after : b₂ ≡ stateBytes (statePage (a .state)) (causeNumber (a .cause)) (toldOf (causeAddress (a .cause))) = ap (λ z. z .lent .0) f in
     record {
       number = ap (λ z. z .number) e ∙ sym (ap (λ z. z .number) f);
       image = ap (λ z. z .lent .2) e ∙ sym (ap (λ z. z .lent .1) f);
       state = λ z. ap (λ z. z .lent .0) e ∙ uncaused-bytes (a .state) (a .cause) ∙ ap uncaused (sym after);
-      tally = λ z. rw (after, cause-byte (a .state) (causeNumber (a .cause)) (toldOf (addressOf (a .cause))), told-bytes (a .state) (a .cause)) (ap (λ z. z .lent .1) e ∙ cause-tallied (a .cause));
+      tally = λ z. rw (after, cause-byte (a .state) (causeNumber (a .cause)) (toldOf (causeAddress (a .cause))), told-bytes (a .state) (a .cause)) (ap (λ z. z .lent .1) e ∙ cause-tallied (a .cause));
     }
 call-one b t m zero (suc why) a k j b₁ t₁ m₁ b₂ m₂ e f = refused-one-call b t m (suc why) k j b₁ t₁ m₁ b₂ m₂ (λ z. omega (arith, z)) e f
 call-one b t m (suc bad) why a k j b₁ t₁ m₁ b₂ m₂ e f = refused-one-call b t m (suc bad) k j b₁ t₁ m₁ b₂ m₂ (λ z. omega (arith, z)) e f
@@ -119,7 +119,7 @@ run-refused b t w l = rw (eq-eqb (length t) 6 l) (or-none (refusedStep b w))
 
 pub calls-one : (b t m map w : List ℕ) (line k j : ℕ) (b₁ t₁ m₁ b₂ m₂ : List ℕ) → length t ≡ 6
     → told k (b₁, t₁, m₁) ≡ runCall b t m map w (line ∷ []) → told j (b₂, m₂) ≡ stepCall b m map w line → OneCall k j b₁ t₁ m₁ b₂ m₂
-unfolding runCall stepCall runPage stepPage rest
+unfolding runCall stepCall runPage stepPage restOfRun
 calls-one b t m map w line k j b₁ t₁ m₁ b₂ m₂ l e f =
     call-one b t m (cond (refusedStep b w) noState 0) (stepWhy (settingsFrom w) m map line) (stepOf map (heard (settingsFrom w) line) (stateFrom b) m) k j b₁ t₁ m₁ b₂ m₂
     (rw (run-refused b t w l, one-refusal (settingsFrom w) m map line) at e) f

@@ -18,21 +18,21 @@ use Rattle.machine.specs.Run.{End, end}
 use Rattle.plugs.specs.declared.Channel.{Channel}
 use Rattle.plugs.specs.declared.Plug.{Plug}
 use Rattle.plugs.specs.Plugs.{inRange, allOf, newPlug, newPlugs, noteAll}
-use Rattle.plugs.specs.Report.{readingsOf, seenOf, reportOf, columnOf, numberOf}
+use Rattle.plugs.specs.Report.{readingsOf, seenOf, reportOf, columnOf, readingCount}
 use Rattle.plugs.specs.Sum.{AllIn, nil, cons}
 use Rattle.plugs.proofs.Laws.Report.{noteScans, Sixteen, none, more, scans-length, scans-report, column-length, both-counted, report-spans}
 use Rattle.plugs.proofs.Laws.Sum.{report-sum}
 use Rattle.recorder.specs.declared.Recorder.{Recorder}
 use Rattle.recorder.specs.declared.Reported.{Reported}
 use Rattle.recorder.specs.declared.Reported.the-variants as Reported
-use Rattle.recorder.specs.Scan.{tallyPage, plugPage, ended, scanWhy, scanRun, scanDone, scanOf, reportedPage, reportPage}
+use Rattle.recorder.specs.Scan.{tallyPage, plugPage, scanEnd, scanWhy, scanRun, scanDone, scanOf, reportedPage, reportPage}
 use Rattle.recorder.proofs.Laws.Blind.{plug-one}
 use Rattle.recorder.proofs.Laws.Record.{at-range}
 use Rattle.recorder.proofs.Laws.Sound.{scan-sound}
 use Rattle.recorder_c.specs.Layout.{channelsFrom, reportBytes, recorderBytes, recorderFrom, plugsAt, plugFrom, plugsFrom, seenFrom, reportsBytes, scansBytes, refusedScan, refusedReport}
-use Rattle.recorder_c.specs.Calls.{Buffers, scanIn, scanCall, reportCall}
+use Rattle.recorder_c.specs.Calls.{ScanBuffers, scanIn, scanCall, reportCall}
 use Rattle.recorder_c.proofs.Laws.Again.{Told, AllTold, no, one, report-told, report-length, recorder-again}
-use Rattle.laws.specs.Recorded.{inState, Recorded, fresh, Reads, Reports, ScansReported, ScansCounted, Lent, zeros, Wd16ScansReported}
+use Rattle.laws.specs.Recorded.{inState, Recorded, fresh, ReadsColumn, Reports, ScansReported, ScansCounted, LentRecorder, zeros, Wd16ScansReported}
 use Rattle.recorder_c.proofs.Laws.Sound.{sixteen}
 use Rattle.machine_c.specs.Layout.{stateFrom, settingsFrom}
 use Rattle.refusal.specs.Numbers.{noState}
@@ -83,7 +83,7 @@ held-report : {n : ℕ} {ps : List Plug} {ss : List (List Channel)} → Held n p
 held-report {ss = ss} h k l = ap (λ (x : List Plug). getD x k newPlug) (h .plugs) ∙ scans-report ss k (h .sixteen) (h .few) l
 
 -- what a report over a column says
-reads-of : (column : List Channel) → AllIn column → length column ≤ 4096 → Reads (reportOf column) column
+reads-of : (column : List Channel) → AllIn column → length column ≤ 4096 → ReadsColumn (reportOf column) column
 unfolding reportOf seenOf
 reads-of column w l = record {
   blanks = refl;
@@ -92,11 +92,11 @@ reads-of column w l = record {
   spans = λ r e. (report-spans column r e, report-sum column r w (omega (arith, both-counted column, l)) e);
 }
   where
-    number : (ws : List ℕ) → numberOf (seenOf ws) ≡ length ws
+    number : (ws : List ℕ) → readingCount (seenOf ws) ≡ length ws
     number [] = refl
     number (x ∷ ws) = omega arith
 
-held-reads : {n : ℕ} {ps : List Plug} {ss : List (List Channel)} → Held n ps ss → (k : ℕ) → Reads (reportOf (columnOf k ss)) (columnOf k ss)
+held-reads : {n : ℕ} {ps : List Plug} {ss : List (List Channel)} → Held n ps ss → (k : ℕ) → ReadsColumn (reportOf (columnOf k ss)) (columnOf k ss)
 held-reads {ss = ss} h k = reads-of (columnOf k ss) (h .range k) (omega (arith, column-length k ss, h .few))
 
 -- ---- a call of `scan`
@@ -113,19 +113,19 @@ module _ (r : Recorder) (channels : List Channel) (m map : List ℕ) (settings :
   unfolding scanOf scanDone
   scan-done r′ t m′ e =
       let x = scanRun r channels m map settings lines in
-      let h = call-right (scanWhy r channels m map settings lines) (ended r channels x) (r, m) e in
+      let h = call-right (scanWhy r channels m map settings lines) (scanEnd r channels x) (r, m) e in
       let known = scan-sound (r .scans) channels (length m) map settings lines (h .0) in
       let is = at x (h .1) in
       record { scans = is .0; plugs = is .1; room = known .room; range = known .range }
     where
-      at : (x : End) → left (answered (tallyPage t)) (r′, m′) ≡ ended r channels x → (r′ .scans ≡ r .scans + 1) × (r′ .plugs ≡ noteAll (r .plugs) channels)
+      at : (x : End) → left (answered (tallyPage t)) (r′, m′) ≡ scanEnd r channels x → (r′ .scans ≡ r .scans + 1) × (r′ .plugs ≡ noteAll (r .plugs) channels)
       at (end s n y) e = (ap (λ z. z .lent .0 .scans) e, ap (λ z. z .lent .0 .plugs) e)
 
   scan-refused : (r′ : Recorder) (why : ℕ) (m′ : List ℕ) → left (refused why) (r′, m′) ≡ scanOf r channels m map settings lines → r′ ≡ r
   unfolding scanOf scanDone
   scan-refused r′ why m′ e = by (scanWhy r channels m map settings lines) e
     where
-      at : (x : End) → left (refused why) (r′, m′) ≡ ended r channels x → r′ ≡ r
+      at : (x : End) → left (refused why) (r′, m′) ≡ scanEnd r channels x → r′ ≡ r
       at (end s n y) e = absurd (apart (sym (ap (λ z. z .page) e)))
 
       by : (n : ℕ) → left (refused why) (r′, m′) ≡ call n (scanDone r channels m map settings lines) (r, m) → r′ ≡ r
@@ -162,10 +162,10 @@ scans-reported r ss k q w l e =
     let page : left (reportedPage q) nothing ≡ left (answered (plugPage (reportOf (columnOf k ss)))) nothing = e ∙ rw (low, held-report h k l) in
     channel q (ap (λ z. z .page) page) (held-reads h k)
   where
-    channel : (q : Reported) → reportedPage q ≡ answered (plugPage (reportOf (columnOf k ss))) → Reads (reportOf (columnOf k ss)) (columnOf k ss) → Reports q (columnOf k ss)
+    channel : (q : Reported) → reportedPage q ≡ answered (plugPage (reportOf (columnOf k ss))) → ReadsColumn (reportOf (columnOf k ss)) (columnOf k ss) → Reports q (columnOf k ss)
     channel (Reported.Channel p) e w =
         let same : p ≡ reportOf (columnOf k ss) = plug-one p (reportOf (columnOf k ss)) (answered-one e) in
-        record { plug = p; answer = refl; is = same; reads = subst (λ (x : Plug). Reads x (columnOf k ss)) (sym same) w }
+        record { plug = p; answer = refl; is = same; reads = subst (λ (x : Plug). ReadsColumn x (columnOf k ss)) (sym same) w }
     channel (Reported.Refused why) e w = absurd (apart (sym e))
 
 -- ---- a call of `wd16_scan`
@@ -180,7 +180,7 @@ record LentDone (d d′ : List ℕ) (channels : List Channel) : Type 0 where
 
 module _ (b t m map w lines cards readings d : List ℕ) where
   -- a call, refused as 21 or by the scan's own number
-  abbrev lentScan : Bool → ℕ → Page.Told Buffers
+  abbrev lentScan : Bool → ℕ → Page.Told ScanBuffers
   lentScan bad why =
       let r = recorderFrom (stateFrom b) d in
       reading scanIn (λ l. (b, t, l .1, d)) (call (cond bad noState 0) (call why (scanDone r (channelsFrom cards readings) m map (settingsFrom w) lines) (r, m)) (r, m))
@@ -191,7 +191,7 @@ module _ (b t m map w lines cards readings d : List ℕ) where
       let r = recorderFrom (stateFrom b) d in
       by (refusedScan b t w cards readings d) (scanWhy r (channelsFrom cards readings) m map (settingsFrom w) lines) refl refl e
     where
-      at : (x : End) → (let r = recorderFrom (stateFrom b) d in told 0 (b′, t′, m′, d′) ≡ reading scanIn (λ l. (b, t, l .1, d)) (ended r (channelsFrom cards readings) x))
+      at : (x : End) → (let r = recorderFrom (stateFrom b) d in told 0 (b′, t′, m′, d′) ≡ reading scanIn (λ l. (b, t, l .1, d)) (scanEnd r (channelsFrom cards readings) x))
           → length (channelsFrom cards readings) ≡ 16 → wordAt d 0 < 4096 → allOf inRange (channelsFrom cards readings) ≡ true → LentDone d d′ (channelsFrom cards readings)
       at (end s n y) e l room range = record { state = s; sixteen = l; room = room; range = range; bytes = ap (λ z. z .lent .3) e }
 
@@ -208,7 +208,7 @@ module _ (b t m map w lines cards readings d : List ℕ) where
   unfolding scanCall scanOf scanDone
   lent-refused why b′ t′ m′ d′ some e = by (refusedScan b t w cards readings d) (scanWhy (recorderFrom (stateFrom b) d) (channelsFrom cards readings) m map (settingsFrom w) lines) e
     where
-      at : (x : End) → told why (b′, t′, m′, d′) ≡ reading scanIn (λ l. (b, t, l .1, d)) (ended (recorderFrom (stateFrom b) d) (channelsFrom cards readings) x) → d′ ≡ d
+      at : (x : End) → told why (b′, t′, m′, d′) ≡ reading scanIn (λ l. (b, t, l .1, d)) (scanEnd (recorderFrom (stateFrom b) d) (channelsFrom cards readings) x) → d′ ≡ d
       at (end s n y) e = absurd (some (ap (λ z. z .number) e))
 
       by : (bad : Bool) (n : ℕ) → told why (b′, t′, m′, d′) ≡ lentScan bad n → d′ ≡ d
@@ -253,13 +253,13 @@ held-bytes r ss h =
     let back : recorderFrom (r .state) (recorderBytes r) ≡ r = recorder-again r (held-sixteen h) (held-told h) in
     record { size = recorder-length r (held-sixteen h); held = held-is (ap (λ z. z .scans) back) (ap (λ z. z .plugs) back) h }
 
-held-lent : (d : List ℕ) (ss : List (List Channel)) → Lent d ss → HeldBytes d ss
+held-lent : (d : List ℕ) (ss : List (List Channel)) → LentRecorder d ss → HeldBytes d ss
 held-lent d ss zeros = held-zeros
-held-lent d ss (Spec.Lent.done {d = d₀} {scans = ss₀} l b t m map w lines cards readings b′ t′ m′ d′ e) =
+held-lent d ss (Spec.LentRecorder.done {d = d₀} {scans = ss₀} l b t m map w lines cards readings b′ t′ m′ d′ e) =
     let is = lent-done b t m map w lines cards readings d₀ b′ t′ m′ d e in
     subst (λ (x : List ℕ). HeldBytes x ss) (sym (is .bytes))
     (held-bytes _ ss (held-more (channelsFrom cards readings) (held-lent d₀ ss₀ l .held) (is .room) (is .range) (is .sixteen)))
-held-lent d ss (Spec.Lent.turnedAway {d = d₀} l b t m map w lines cards readings why b′ t′ m′ d′ some e) =
+held-lent d ss (Spec.LentRecorder.turnedAway {d = d₀} l b t m map w lines cards readings why b′ t′ m′ d′ some e) =
     subst (λ (x : List ℕ). HeldBytes x ss) (sym (lent-refused b t m map w lines cards readings d₀ why b′ t′ m′ d some e)) (held-lent d₀ ss l)
 
 pub wd16-scans-reported : Wd16ScansReported

@@ -23,7 +23,7 @@ use Rattle.formats2to4.specs.Format2.{iak, rtn, msko, prtn, lcc, format2}
 use Rattle.formats2to4.specs.Format4.{svca, svc, format4}
 use Rattle.formats5to6.specs.Format5.{displacement, branch}
 use Rattle.formats5to6.specs.Format6.{immediate, single, double, format6}
-use Rattle.format7.specs.Format7.{modify, tjmp, column0A, column8A, rowOf, format7}
+use Rattle.format7.specs.Format7.{modify, tjmp, column0A, column8A, columnRow, format7}
 use Rattle.format7.proofs.Laws.Columns.{row-is}
 use Rattle.format8.specs.Format8.{rowAt, element}
 use Rattle.format9.specs.Format9.{div, codes9, format9}
@@ -164,7 +164,7 @@ module _ (out : Outside) (s : State) where
   abbrev pub sevenBy : Bool → ℕ → ℕ → Work State
   sevenBy low row op = cond low (getD (column0A s op) row (tjmp s op)) (getD (column8A out s op) row (modify word sbcOf s op))
 
-  seven-by : (op : ℕ) → format7 out s op ≡ sevenBy (ltb op 0x8000) (rowOf op) op
+  seven-by : (op : ℕ) → format7 out s op ≡ sevenBy (ltb op 0x8000) (columnRow op) op
   unfolding format7
   seven-by op = refl
 
@@ -178,7 +178,7 @@ module _ (out : Outside) (s : State) where
       let h : op / 256 ≡ b / 256 = omega (arith, k) in
       let e : formatOf (op / 256) ≡ 7 = ap formatOf h ∙ p in
       let low : ltb op 0x8000 ≡ ltb (b / 64) 512 = below-at op 64 (b / 64) 512 (λ t. omega (arith, k, ltb-true (b / 64) 512 t)) (λ t. omega (arith, k, ltb-false (b / 64) 512 t)) in
-      (e, rw e (seven-by op) ∙ ap (λ (x : Bool). sevenBy x (rowOf op) op) low ∙ ap (λ (x : ℕ). sevenBy (ltb (b / 64) 512) x op) (row-is op) ∙ ap (λ (x : ℕ). sevenBy (ltb (b / 64) 512) ((x % 512 + 984) % 1024) op) k)
+      (e, rw e (seven-by op) ∙ ap (λ (x : Bool). sevenBy x (columnRow op) op) low ∙ ap (λ (x : ℕ). sevenBy (ltb (b / 64) 512) x op) (row-is op) ∙ ap (λ (x : ℕ). sevenBy (ltb (b / 64) 512) ((x % 512 + 984) % 1024) op) k)
 
   -- ---- format 8: bits 8 to 6
 

@@ -23,7 +23,7 @@ use Rattle.machine.specs.declared.Finished.{Finished}
 use Rattle.machine.specs.declared.Finished.the-variants as Finished
 use Rattle.machine.specs.Run.{End, end, runOf, ranOf}
 use Rattle.machine.proofs.Laws.Counted.{run-trail}
-use Rattle.machine.specs.Entry.{powerWhy, runWhy, finishedPage, ended, runPage, stepWhy, turned, stepPage}
+use Rattle.machine.specs.Entry.{powerWhy, runWhy, finishedPage, runEnd, runPage, stepWhy, turned, stepPage}
 use Rattle.machine.proofs.Laws.Answered.{run-done}
 use Rattle.laws.proofs.Laws.Sizes.{trail-size}
 
@@ -57,7 +57,7 @@ all-append p (x ∷ xs) ys e = split (p x) (all-append p xs ys) e
 -- ---- an answer that isn't refused is the definition's
 
 module _ (settings : Settings) (m map lines : List ℕ) (s : State) where
-  refused-not : (why : ℕ) (n : List ℕ) (x : End) → left (refused why) n ≡ ended x → ⊥
+  refused-not : (why : ℕ) (n : List ℕ) (x : End) → left (refused why) n ≡ runEnd x → ⊥
   refused-not why n (end t k y) e = apart (sym (ap (λ z. z .page) e))
 
   pub run-answer-of : (r : Finished) (n : List ℕ) → runWhy settings m map lines ≡ 0 → left (finishedPage r) n ≡ runPage settings m map lines s → (a : Ran) × (r ≡ Finished.Done a) × (ranOf a n ≡ runOf settings map lines s m)

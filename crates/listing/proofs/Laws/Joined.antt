@@ -7,7 +7,7 @@ use native.Mathlib.Omega.{arith}
 use borrow.Author.Tests.{le-leb, lt-leb, ltb-true, ltb-false, eqb-false}
 use lib.Dec.{leb, ltb, eqb}
 use lib.ListN.{length, take}
-use Rattle.hexdigits.specs.Over.{over}
+use Rattle.hexdigits.specs.Over.{inFrontOf}
 use Rattle.hexdigits.proofs.Laws.Laid.{wrote-take}
 use Rattle.refusal.specs.Numbers.{noStretch}
 use Rattle.refusal.specs.Page.{answered, left}

@@ -7,13 +7,13 @@ use native.Mathlib.Omega.{arith}
 use borrow.Author.Tests.{le-ltb, ltb-false, ne-eqb}
 use lib.Dec.{eqb, leb, ltb}
 use lib.ListN.{length, take, replicate}
-use Rattle.hexdigits.specs.Over.{over}
+use Rattle.hexdigits.specs.Over.{inFrontOf}
 use Rattle.refusal.specs.Numbers.{noStretch, textShort}
 use Rattle.refusal.specs.Page.{answered, left, first}
 use Rattle.refusal.specs.Refusal.{boardRefusal}
 use Rattle.refusal.proofs.Laws.Page.{first-both, call-right}
 use Rattle.listing.specs.Listing.{lineAt, nextAt, linesFrom, listingOf}
-use Rattle.listing.specs.Calls.{Next, goesOn, ends, lined, room, badStretch, lineWhy, nextOf, lineIn, lineCall}
+use Rattle.listing.specs.Calls.{Next, goesOn, ends, lined, lineRoom, badStretch, lineWhy, nextOf, lineIn, lineCall}
 use Rattle.listing.specs.Joined.{Lines, final, more}
 use Rattle.listing.proofs.Laws.Joined.{Good, good, next-further, goes-on, called, joined}
 use Rattle.listing.proofs.Laws.{why-none}
@@ -80,15 +80,15 @@ module _ (image map : List ℕ) (last : ℕ) where
     where
       by : (t : Bool) → ltb last (nextAt map image last a) ≡ t → Within (suc n) a
       by true q = record {
-        lines = take (length (lineAt map image last a)) (over (lineAt map image last a) blank) ∷ [];
-        calls = final a (length (lineAt map image last a)) blank (over (lineAt map image last a) blank) (rw q at (answers a e));
+        lines = take (length (lineAt map image last a)) (inFrontOf (lineAt map image last a) blank) ∷ [];
+        calls = final a (length (lineAt map image last a)) blank (inFrontOf (lineAt map image last a) blank) (rw q at (answers a e));
         few = omega arith;
       }
       by false q =
           let w = rest (ltb-false last (nextAt map image last a) q) in
           record {
-            lines = take (length (lineAt map image last a)) (over (lineAt map image last a) blank) ∷ w .lines;
-            calls = more a (length (lineAt map image last a)) (nextAt map image last a) blank (over (lineAt map image last a) blank) (w .lines) (rw q at (answers a e)) (w .calls);
+            lines = take (length (lineAt map image last a)) (inFrontOf (lineAt map image last a) blank) ∷ w .lines;
+            calls = more a (length (lineAt map image last a)) (nextAt map image last a) blank (inFrontOf (lineAt map image last a) blank) (w .lines) (rw q at (answers a e)) (w .calls);
             few = omega (arith, w .few);
           }
 

@@ -15,8 +15,8 @@ use Rattle.machine.specs.Numbers.{StatePage, TurnPage, RanPage, ranPage}
 use Rattle.machine.specs.Run.{End, end, runOf, ranOf}
 use Rattle.machine.proofs.Laws.Counted.{run-trail}
 use Rattle.machine.proofs.Laws.Back.{ran-one}
-use Rattle.machine.specs.Entry.{powerWhy, stepWhy, runWhy, powered, powerUpPage, turned, stepPage, finishedPage, ended, runPage}
-use Rattle.machine.specs.Answered.{shown}
+use Rattle.machine.specs.Entry.{powerWhy, stepWhy, runWhy, powered, powerUpPage, turned, stepPage, finishedPage, runEnd, runPage}
+use Rattle.machine.specs.Answered.{runShown}
 
 pub power-answer : (settings : Settings) (m map : List ℕ) {p : StatePage} {m′ : List ℕ} → left (answered p) m′ ≡ powerUpPage settings m map
     → (powerWhy settings m map ≡ 0) × (left (answered p) m′ ≡ powered (powerUpOf settings map m))
@@ -29,21 +29,21 @@ module _ (settings : Settings) (m map : List ℕ) (line : ℕ) (s : State) {p : 
   step-answer e = call-right (stepWhy settings m map line) (turned (stepOf map (heard settings line) s m)) m e
 
 module _ (settings : Settings) (m map lines : List ℕ) (s : State) {p : RanPage} {m′ : List ℕ} where
-  pub run-answer : left (answered p) m′ ≡ runPage settings m map lines s → (runWhy settings m map lines ≡ 0) × (left (answered p) m′ ≡ shown settings map lines s m)
+  pub run-answer : left (answered p) m′ ≡ runPage settings m map lines s → (runWhy settings m map lines ≡ 0) × (left (answered p) m′ ≡ runShown settings map lines s m)
   unfolding runPage
   run-answer e =
-      let h = call-right (runWhy settings m map lines) (ended (runOf settings map lines s m)) m e in
-      (h .0, h .1 ∙ ap ended (run-trail settings map lines s m Cause.Nothing))
+      let h = call-right (runWhy settings m map lines) (runEnd (runOf settings map lines s m)) m e in
+      (h .0, h .1 ∙ ap runEnd (run-trail settings map lines s m Cause.Nothing))
 
 -- the same in the program's own terms
 pub run-done : (settings : Settings) (m map lines : List ℕ) (s : State) (a : Ran) (m′ : List ℕ) → left (finishedPage (Finished.Done a)) m′ ≡ runPage settings m map lines s
     → (runWhy settings m map lines ≡ 0) × (ranOf a m′ ≡ runOf settings map lines s m)
 unfolding runPage
 run-done settings m map lines s a m′ e =
-    let h = call-right (runWhy settings m map lines) (ended (runOf settings map lines s m)) m e in
+    let h = call-right (runWhy settings m map lines) (runEnd (runOf settings map lines s m)) m e in
     (h .0, at (runOf settings map lines s m) (h .1))
   where
-    at : (x : End) → left (answered (ranPage a)) m′ ≡ ended x → ranOf a m′ ≡ x
+    at : (x : End) → left (answered (ranPage a)) m′ ≡ runEnd x → ranOf a m′ ≡ x
     at (end t k y) e =
         let same : a ≡ record { state = t; tally = y } = ran-one a (record { state = t; tally = y }) (answered-one (ap (λ z. z .page) e)) in
         let image : m′ ≡ k = ap (λ z. z .lent) e in

@@ -16,7 +16,7 @@ use Rattle.state.specs.Registers.{setReg}
 use Rattle.step.specs.declared.Turn.{Turn}
 use Rattle.step.specs.declared.Cause.{Cause}
 use Rattle.step.specs.declared.Cause.the-variants as Cause
-use Rattle.step.specs.Step.{causeNumber, addressOf}
+use Rattle.step.specs.Step.{causeNumber, causeAddress}
 use Rattle.machine.specs.declared.Ran.{Ran}
 use Rattle.machine.specs.declared.First.{First}
 use Rattle.machine.specs.declared.First.the-variants.{At, Never}
@@ -28,7 +28,7 @@ use Rattle.machine.specs.declared.Finished.{Finished}
 use Rattle.machine.specs.declared.Finished.the-variants as Finished
 use Rattle.refusal.specs.Page.{Page, refused, refusedAt, answered, left}
 use Rattle.refusal.proofs.Laws.Page.{one, one-call}
-use Rattle.machine.specs.Numbers.{indicators, StatePage, statePage, Address, address, nowhere, toldOf, TurnPage, turnPage, Place, place, none, placeOf, RanPage, ranPage}
+use Rattle.machine.specs.Numbers.{indicators, StatePage, statePage, Address, address, nowhere, toldOf, TurnPage, turnPage, Place, place, none, placePage, RanPage, ranPage}
 use Rattle.machine.specs.Entry.{poweredPage, steppedPage, finishedPage}
 use Rattle.machine.specs.Back.{modeOf, fromRegisters, stateOf}
 
@@ -83,7 +83,7 @@ causeOf k (address a) =
     getD (Cause.OpCode ∷ Cause.Switch ∷ Cause.NonVectored ∷ Cause.Vectored ∷ Cause.Nothing ∷ Cause.OpCodeBlank a ∷ Cause.InterruptBlank a ∷ Cause.LockedAt a ∷ Cause.LockedAt a ∷ []) k (Cause.SaveBlank a)
 causeOf k nowhere = getD (Cause.OpCode ∷ Cause.Switch ∷ Cause.NonVectored ∷ Cause.Vectored ∷ Cause.Nothing ∷ []) k Cause.Locked
 
-cause-back : (c : Cause) → causeOf (causeNumber c) (toldOf (addressOf c)) ≡ c
+cause-back : (c : Cause) → causeOf (causeNumber c) (toldOf (causeAddress c)) ≡ c
 cause-back Cause.OpCode = refl
 cause-back Cause.Switch = refl
 cause-back Cause.NonVectored = refl
@@ -105,7 +105,7 @@ abbrev pub firstOf : Place → First
 firstOf (place p a) = At p a
 firstOf none = Never
 
-pub first-back : (f : First) → firstOf (placeOf f) ≡ f
+pub first-back : (f : First) → firstOf (placePage f) ≡ f
 first-back (At p a) = refl
 first-back Never = refl
 

@@ -8,22 +8,22 @@ use lib.ListN.{length}
 use Rattle.state.specs.declared.State.{State}
 use Rattle.state.specs.declared.Settings.{Settings}
 use Rattle.state.specs.State.{heard, reg, withMark}
-use Rattle.format8.specs.Format8.{rowOf}
+use Rattle.format8.specs.Format8.{moveRow}
 use Rattle.opcodes.specs.Fields.{blockSource, blockDestination}
-use Rattle.format8.specs.Page.{Plain, countOf, stateAfter}
+use Rattle.format8.specs.Page.{Plain, elementCount, stateMoved}
 use Rattle.step.specs.declared.Cause.{Cause}
 use Rattle.step.specs.declared.Cause.the-variants as Cause
 use Rattle.step.specs.Step.{After, after, hears, stepOf}
 use Rattle.step.specs.Block.{Ready}
 use Rattle.step.proofs.Laws.Block.{afterOne, elementIn, Left, all-left, unheard-marked, ready-marked, step-once, step-last, ready-on, left-on, image-on, state-on, unmarked-on, hearing-on, image-last}
-use Rattle.machine.specs.Trail.{trailOf, blanksIn, firstIn}
-use Rattle.machine.specs.Block.{AllUnheard, none, also, elementsOf, blockMove, EndsAt}
+use Rattle.machine.specs.Trail.{trailOf, blanksIn, firstBlankIn}
+use Rattle.machine.specs.Block.{AllUnheard, none, also, elementsOf, blockMove, TrailEndsAt}
 
 -- a step with cause 0, and what follows it
 step-ends : (settings : Settings) (map : List ℕ) (line : ℕ) (lines : List ℕ) (s : State) (m : List ℕ) (c : Cause) {u : State} {n : List ℕ} {e : After}
-    → stepOf map (heard settings line) s m ≡ after u n Cause.OpCode → EndsAt (after u n Cause.OpCode) (trailOf settings map lines u n) e
-    → EndsAt (after s m c) (trailOf settings map (line ∷ lines) s m) e
-unfolding trailOf blanksIn firstIn
+    → stepOf map (heard settings line) s m ≡ after u n Cause.OpCode → TrailEndsAt (after u n Cause.OpCode) (trailOf settings map lines u n) e
+    → TrailEndsAt (after s m c) (trailOf settings map (line ∷ lines) s m) e
+unfolding trailOf blanksIn firstBlankIn
 step-ends settings map line lines s m c h k =
     rw h
     (record {
@@ -40,13 +40,13 @@ module _ (settings : Settings) (fit : settings .blocks ≡ true) (map : List ℕ
   -- from any state, marked or not: the first element clears the mark
   elements : (lines : List ℕ) (s : State) (m : List ℕ) (c : Cause)
       → Left (length lines) (withMark s false) → Ready map op (length lines) (withMark s false) m → AllUnheard settings (hears (withMark s false)) lines
-      → EndsAt (after s m c) (trailOf settings map lines s m) (elementsOf op (length lines) (withMark s false) m)
-  unfolding trailOf blanksIn firstIn
+      → TrailEndsAt (after s m c) (trailOf settings map lines s m) (elementsOf op (length lines) (withMark s false) m)
+  unfolding trailOf blanksIn firstBlankIn
   elements [] s m c l a none = absurd (omega (arith, l .some))
   elements (line ∷ []) s m c l a (also q none) =
       let u = withMark s false in
       step-ends settings map line [] s m c (step-last p eight (heard settings line) fit s (unheard-marked s (heard settings line) q) l a)
-      (record { last = ap (λ x. after (stateAfter (rowOf op) (blockSource op) (blockDestination op) 1 u) x Cause.OpCode) (sym (image-last op p u m)); tally = refl })
+      (record { last = ap (λ x. after (stateMoved (moveRow op) (blockSource op) (blockDestination op) 1 u) x Cause.OpCode) (sym (image-last op p u m)); tally = refl })
   elements (line ∷ two ∷ lines) s m c l a (also q qs) =
       let u = withMark s false in
       step-ends settings map line (two ∷ lines) s m c (step-once p eight (heard settings line) fit s (unheard-marked s (heard settings line) q) l a)
@@ -56,14 +56,14 @@ module _ (settings : Settings) (fit : settings .blocks ≡ true) (map : List ℕ
     where
       -- an unmarked state goes on as it is
       onward : (v : State) → withMark v false ≡ v → {n : ℕ} {rest : List ℕ} {b : After} {rs : List After} {x : List ℕ}
-          → (Left n (withMark v false) → Ready map op n (withMark v false) x → AllUnheard settings (hears (withMark v false)) rest → EndsAt b rs (elementsOf op n (withMark v false) x))
-          → Left n v → Ready map op n v x → AllUnheard settings (hears v) rest → EndsAt b rs (elementsOf op n v x)
-      onward v e {n} {rest} {b} {rs} {x} f = subst (λ w. Left n w → Ready map op n w x → AllUnheard settings (hears w) rest → EndsAt b rs (elementsOf op n w x)) e f
+          → (Left n (withMark v false) → Ready map op n (withMark v false) x → AllUnheard settings (hears (withMark v false)) rest → TrailEndsAt b rs (elementsOf op n (withMark v false) x))
+          → Left n v → Ready map op n v x → AllUnheard settings (hears v) rest → TrailEndsAt b rs (elementsOf op n v x)
+      onward v e {n} {rest} {b} {rs} {x} f = subst (λ w. Left n w → Ready map op n w x → AllUnheard settings (hears w) rest → TrailEndsAt b rs (elementsOf op n w x)) e f
 
   -- a line word for each element, in which nothing is heard; an IEN's mark ends with the first
   pub block-move : (lines : List ℕ) (s : State) (m : List ℕ) (c : Cause)
-      → reg s 0 < 65536 → Ready map op (countOf (reg s 0)) s m → length lines ≡ countOf (reg s 0) → AllUnheard settings (hears (withMark s false)) lines
-      → EndsAt (after s m c) (trailOf settings map lines s m) (blockMove op (withMark s false) m)
+      → reg s 0 < 65536 → Ready map op (elementCount (reg s 0)) s m → length lines ≡ elementCount (reg s 0) → AllUnheard settings (hears (withMark s false)) lines
+      → TrailEndsAt (after s m c) (trailOf settings map lines s m) (blockMove op (withMark s false) m)
   block-move lines s m c w a e q =
-      let f : length lines ≡ countOf (reg (withMark s false) 0) = e ∙ ap countOf (sym (count-marked s)) in
+      let f : length lines ≡ elementCount (reg (withMark s false) 0) = e ∙ ap elementCount (sym (count-marked s)) in
       rw (← f) (elements lines s m c (rw (← f) at (all-left (withMark s false) (rw (count-marked s) w))) (rw (← e) at (ready-marked a)) q)

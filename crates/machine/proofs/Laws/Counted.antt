@@ -15,16 +15,16 @@ use Rattle.step.specs.Step.{After, after, stepOf, blankAt, isTold, isBlank}
 use Rattle.machine.specs.declared.Tally.{Tally}
 use Rattle.machine.specs.declared.First.{First}
 use Rattle.machine.specs.declared.First.the-variants.{At, Never}
-use Rattle.machine.specs.Numbers.{placeOf}
-use Rattle.machine.specs.Run.{end, rest, runOf, noted, noBlanks, firstOf, End}
-use Rattle.machine.specs.Trail.{trailOf, lastOf, blanksIn, moved, here, firstIn, tallyIn, causeAt, Least, least, nowhere}
-use Rattle.machine.specs.Counted.{orFirst, joined}
+use Rattle.machine.specs.Numbers.{placePage}
+use Rattle.machine.specs.Run.{end, restOfRun, runOf, noted, noBlanks, firstOf, End}
+use Rattle.machine.specs.Trail.{trailOf, lastAfter, blanksIn, placeMoved, here, firstBlankIn, tallyIn, causeAt, Least, least, nowhere}
+use Rattle.machine.specs.Counted.{orFirst, tallyJoined}
 
 -- ---- A RUN'S END AND TALLY ARE ITS TRAIL'S
 
 -- where a trail from b ends, with the tally of n steps before it
 abbrev pub endOf : After → ℕ → Tally → List After → End
-endOf b n t rs = end (lastOf b rs .state) (lastOf b rs .image) (joined n t (tallyIn rs))
+endOf b n t rs = end (lastAfter b rs .state) (lastAfter b rs .image) (tallyJoined n t (tallyIn rs))
 
 -- ---- tallies add up
 
@@ -39,47 +39,47 @@ or-or : (f g h : First) → orFirst (orFirst f g) h ≡ orFirst f (orFirst g h)
 or-or (At p a) g h = refl
 or-or Never g h = refl
 
-moved-or : (n : ℕ) (f g : First) → moved n (orFirst f g) ≡ orFirst (moved n f) (moved n g)
+moved-or : (n : ℕ) (f g : First) → placeMoved n (orFirst f g) ≡ orFirst (placeMoved n f) (placeMoved n g)
 moved-or n (At p a) g = refl
 moved-or n Never g = refl
 
-moved-moved : (n k : ℕ) (f : First) → moved n (moved k f) ≡ moved (n + k) f
+moved-moved : (n k : ℕ) (f : First) → placeMoved n (placeMoved k f) ≡ placeMoved (n + k) f
 moved-moved n k (At p a) = ap (λ z. At z a) (omega arith)
 moved-moved n k Never = refl
 
-moved-none : (f : First) → moved 0 f ≡ f
+moved-none : (f : First) → placeMoved 0 f ≡ f
 moved-none (At p a) = ap (λ z. At z a) (omega arith)
 moved-none Never = refl
 
-pub joined-left : (t : Tally) → joined 0 noBlanks t ≡ t
-unfolding joined
+pub joined-left : (t : Tally) → tallyJoined 0 noBlanks t ≡ t
+unfolding tallyJoined
 joined-left t = tally-is (omega arith) (moved-none (t .first))
 
-pub joined-right : (n : ℕ) (t : Tally) → joined n t noBlanks ≡ t
-unfolding joined
+pub joined-right : (n : ℕ) (t : Tally) → tallyJoined n t noBlanks ≡ t
+unfolding tallyJoined
 joined-right n t = tally-is (omega arith) (or-never (t .first))
 
-pub joined-joined : (n k : ℕ) (t u v : Tally) → joined (n + k) (joined n t u) v ≡ joined n t (joined k u v)
-unfolding joined
+pub joined-joined : (n k : ℕ) (t u v : Tally) → tallyJoined (n + k) (tallyJoined n t u) v ≡ tallyJoined n t (tallyJoined k u v)
+unfolding tallyJoined
 joined-joined n k t u v =
     tally-is (omega arith)
-    (or-or (t .first) (moved n (u .first)) (moved (n + k) (v .first))
-    ∙ ap (λ z. orFirst (t .first) (orFirst (moved n (u .first)) z)) (sym (moved-moved n k (v .first)))
-    ∙ ap (λ z. orFirst (t .first) z) (sym (moved-or n (u .first) (moved k (v .first)))))
+    (or-or (t .first) (placeMoved n (u .first)) (placeMoved (n + k) (v .first))
+    ∙ ap (λ z. orFirst (t .first) (orFirst (placeMoved n (u .first)) z)) (sym (moved-moved n k (v .first)))
+    ∙ ap (λ z. orFirst (t .first) z) (sym (moved-or n (u .first) (placeMoved k (v .first)))))
 
 -- one step, and the trail after it
-pub tally-cons : (a : After) (rs : List After) → tallyIn (a ∷ rs) ≡ joined 1 (noted noBlanks 0 (blankAt (a .cause))) (tallyIn rs)
-unfolding blanksIn firstIn joined noted
+pub tally-cons : (a : After) (rs : List After) → tallyIn (a ∷ rs) ≡ tallyJoined 1 (noted noBlanks 0 (blankAt (a .cause))) (tallyIn rs)
+unfolding blanksIn firstBlankIn tallyJoined noted
 tally-cons a rs = split (blankAt (a .cause))
   where
-    split : (b : Told) → _≡_ {A = Tally} (record { blanks = cond (isTold b) 1 0 + blanksIn rs; first = here b (firstIn rs) })
-        (record { blanks = noted noBlanks 0 b .blanks + blanksIn rs; first = orFirst (noted noBlanks 0 b .first) (moved 1 (firstIn rs)) })
+    split : (b : Told) → _≡_ {A = Tally} (record { blanks = cond (isTold b) 1 0 + blanksIn rs; first = here b (firstBlankIn rs) })
+        (record { blanks = noted noBlanks 0 b .blanks + blanksIn rs; first = orFirst (noted noBlanks 0 b .first) (placeMoved 1 (firstBlankIn rs)) })
     split (Told.At x) = refl
     split Told.Nowhere = refl
 
 -- the loop's tally
-noted-joined : (t : Tally) (n : ℕ) (b : Told) → noted t n b ≡ joined n t (noted noBlanks 0 b)
-unfolding joined noted
+noted-joined : (t : Tally) (n : ℕ) (b : Told) → noted t n b ≡ tallyJoined n t (noted noBlanks 0 b)
+unfolding tallyJoined noted
 noted-joined t n (Told.At a) = tally-is refl (first (t .first))
   where
     first : (f : First) → firstOf f n a ≡ orFirst f (At (n + 0) a)
@@ -90,31 +90,31 @@ noted-joined t n Told.Nowhere = tally-is (omega arith) (sym (or-never (t .first)
 -- ---- A RUN'S END AND TALLY ARE ITS TRAIL'S
 
 pub rest-trail : (settings : Settings) (map : List ℕ) (place : ℕ) (lines : List ℕ) (s : State) (m : List ℕ) (t : Tally) (c : Cause)
-    → rest settings map place lines s m t ≡ endOf (after s m c) place t (trailOf settings map lines s m)
-unfolding rest trailOf blanksIn firstIn
+    → restOfRun settings map place lines s m t ≡ endOf (after s m c) place t (trailOf settings map lines s m)
+unfolding restOfRun trailOf blanksIn firstBlankIn
 rest-trail settings map place [] s m t c = ap (end s m) (sym (joined-right place t))
 rest-trail settings map place (x ∷ xs) s m t c =
     let a = stepOf map (heard settings x) s m in
     let rs = trailOf settings map xs (a .state) (a .image) in
     rest-trail settings map (place + 1) xs (a .state) (a .image) (noted t place (blankAt (a .cause))) (a .cause)
-    ∙ ap (λ z. end (lastOf a rs .state) (lastOf a rs .image) z)
-    (ap (λ z. joined (place + 1) z (tallyIn rs)) (noted-joined t place (blankAt (a .cause)))
+    ∙ ap (λ z. end (lastAfter a rs .state) (lastAfter a rs .image) z)
+    (ap (λ z. tallyJoined (place + 1) z (tallyIn rs)) (noted-joined t place (blankAt (a .cause)))
     ∙ joined-joined place 1 t (noted noBlanks 0 (blankAt (a .cause))) (tallyIn rs)
-    ∙ ap (joined place t) (sym (tally-cons a rs)))
+    ∙ ap (tallyJoined place t) (sym (tally-cons a rs)))
 
 -- the whole run, from a state and an image; a cause before its first step is not asked for
 pub run-trail : (settings : Settings) (map lines : List ℕ) (s : State) (m : List ℕ) (c : Cause)
-    → runOf settings map lines s m ≡ end (lastOf (after s m c) (trailOf settings map lines s m) .state) (lastOf (after s m c) (trailOf settings map lines s m) .image) (tallyIn (trailOf settings map lines s m))
-run-trail settings map lines s m c = rest-trail settings map 0 lines s m noBlanks c ∙ ap (λ z. end (lastOf (after s m c) (trailOf settings map lines s m) .state) (lastOf (after s m c) (trailOf settings map lines s m) .image) z) (joined-left (tallyIn (trailOf settings map lines s m)))
+    → runOf settings map lines s m ≡ end (lastAfter (after s m c) (trailOf settings map lines s m) .state) (lastAfter (after s m c) (trailOf settings map lines s m) .image) (tallyIn (trailOf settings map lines s m))
+run-trail settings map lines s m c = rest-trail settings map 0 lines s m noBlanks c ∙ ap (λ z. end (lastAfter (after s m c) (trailOf settings map lines s m) .state) (lastAfter (after s m c) (trailOf settings map lines s m) .image) z) (joined-left (tallyIn (trailOf settings map lines s m)))
 
 -- ---- THE FIRST PLACE IS THE LEAST
 
-pub first-least : (rs : List After) → Least rs (placeOf (firstIn rs))
-unfolding firstIn
+pub first-least : (rs : List After) → Least rs (placePage (firstBlankIn rs))
+unfolding firstBlankIn
 first-least [] = nowhere (λ k h. absurd (omega arith))
-first-least (a ∷ rs) = split (blankAt (a .cause)) refl (firstIn rs) (first-least rs)
+first-least (a ∷ rs) = split (blankAt (a .cause)) refl (firstBlankIn rs) (first-least rs)
   where
-    later : (f : First) → isBlank (a .cause) ≡ false → Least rs (placeOf f) → Least (a ∷ rs) (placeOf (moved 1 f))
+    later : (f : First) → isBlank (a .cause) ≡ false → Least rs (placePage f) → Least (a ∷ rs) (placePage (placeMoved 1 f))
     later (At p x) e (least l h g) = rw (one-more p) (least {p = suc p} (omega arith) h before)
       where
         one-more : (p : ℕ) → 1 + p ≡ suc p
@@ -129,7 +129,7 @@ first-least (a ∷ rs) = split (blankAt (a .cause)) refl (firstIn rs) (first-lea
         every zero i = e
         every (suc k) i = g k (omega arith)
 
-    split : (b : Told) → blankAt (a .cause) ≡ b → (f : First) → Least rs (placeOf f) → Least (a ∷ rs) (placeOf (here b f))
+    split : (b : Told) → blankAt (a .cause) ≡ b → (f : First) → Least rs (placePage f) → Least (a ∷ rs) (placePage (here b f))
     split (Told.At x) e f h = least {p = 0} (omega arith) e (λ k i. absurd (omega arith))
     split Told.Nowhere e f h = later f (ap isTold e) h
 
@@ -144,7 +144,7 @@ trail-length settings map (x ∷ xs) s m =
 
 -- the step at a place is the step over its line word from where the places before it end
 pub trail-at : (settings : Settings) (map lines : List ℕ) (s : State) (m : List ℕ) (c : Cause) (d : After) (k : ℕ) → k < length lines
-    → (let b = lastOf (after s m c) (take k (trailOf settings map lines s m)) in
+    → (let b = lastAfter (after s m c) (take k (trailOf settings map lines s m)) in
     getD (trailOf settings map lines s m) k d ≡ stepOf map (heard settings (getD lines k 0)) (b .state) (b .image))
 unfolding trailOf
 trail-at settings map [] s m c d k h = absurd (omega arith)

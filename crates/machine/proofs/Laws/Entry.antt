@@ -12,7 +12,7 @@ use Rattle.refusal.specs.Page.{refused, answered, left}
 use Rattle.refusal.proofs.Laws.Page.{call-refused, call-answered}
 use Rattle.machine.specs.Numbers.{statePage, turnPage, ranPage}
 use Rattle.machine.specs.Run.{runOf, ranOf}
-use Rattle.machine.specs.Entry.{powerWhy, stepWhy, runWhy, powered, powerUpPage, turned, stepPage, ended, runPage}
+use Rattle.machine.specs.Entry.{powerWhy, stepWhy, runWhy, powered, powerUpPage, turned, stepPage, runEnd, runPage}
 
 module _ (settings : Settings) (image map : List ℕ) where
   pub power-refused : (why : ℕ) → why ≡ powerWhy settings image map → (why ≡ 0 → ⊥) → left (refused why) image ≡ powerUpPage settings image map
@@ -35,8 +35,8 @@ module _ (settings : Settings) (image map : List ℕ) (line : ℕ) (s : State) w
 module _ (settings : Settings) (image map lines : List ℕ) (s : State) where
   pub run-refused : (why : ℕ) → why ≡ runWhy settings image map lines → (why ≡ 0 → ⊥) → left (refused why) image ≡ runPage settings image map lines s
   unfolding runPage
-  run-refused why e n = call-refused (runWhy settings image map lines) (ended (runOf settings map lines s image)) image why e n
+  run-refused why e n = call-refused (runWhy settings image map lines) (runEnd (runOf settings map lines s image)) image why e n
 
   pub run-answered : (r : Ran) (m : List ℕ) → runWhy settings image map lines ≡ 0 → ranOf r m ≡ runOf settings map lines s image → left (answered (ranPage r)) m ≡ runPage settings image map lines s
   unfolding runPage
-  run-answered r m e h = call-answered (runWhy settings image map lines) (ended (runOf settings map lines s image)) image (ended (ranOf r m)) e (ap ended h)
+  run-answered r m e h = call-answered (runWhy settings image map lines) (runEnd (runOf settings map lines s image)) image (runEnd (ranOf r m)) e (ap runEnd h)

@@ -14,22 +14,22 @@ use Rattle.machine.specs.declared.Tally.{Tally}
 use Rattle.step.specs.declared.Cause.{Cause}
 use Rattle.step.specs.declared.Cause.the-variants as Cause
 use Rattle.step.specs.Step.{stepOf, After, after, blankAt, calm}
-use Rattle.machine.specs.Run.{noted, End, end, rest, runOf, lastCause}
+use Rattle.machine.specs.Run.{noted, End, end, restOfRun, runOf, lastCause}
 
 rest-cons : (settings : Settings) (map : List ℕ) (i x : ℕ) (xs : List ℕ) (s : State) (m : List ℕ) (t : Tally)
-    → rest settings map (i + 1) xs (stepOf map (heard settings x) s m .state) (stepOf map (heard settings x) s m .image) (noted t i (blankAt (stepOf map (heard settings x) s m .cause))) ≡ rest settings map i (x ∷ xs) s m t
-unfolding rest
+    → restOfRun settings map (i + 1) xs (stepOf map (heard settings x) s m .state) (stepOf map (heard settings x) s m .image) (noted t i (blankAt (stepOf map (heard settings x) s m .cause))) ≡ restOfRun settings map i (x ∷ xs) s m t
+unfolding restOfRun
 rest-cons settings map i x xs s m t = refl
 
 -- one step more
 pub rest-more : (settings : Settings) (map lines : List ℕ) (i : ℕ) (s : State) (m : List ℕ) (t t′ : Tally) (a : After)
     → i < length lines → a ≡ stepOf map (heard settings (getD lines i 0)) s m → t′ ≡ noted t i (blankAt (a .cause))
-    → rest settings map (i + 1) (drop (i + 1) lines) (a .state) (a .image) t′ ≡ rest settings map i (drop i lines) s m t
+    → restOfRun settings map (i + 1) (drop (i + 1) lines) (a .state) (a .image) t′ ≡ restOfRun settings map i (drop i lines) s m t
 rest-more settings map lines i s m t t′ a l e d = rw (drop-cons lines i 0 l, ← add-one i, d, e) (rest-cons settings map i (getD lines i 0) (drop (i + 1) lines) s m t)
 
 -- no step left
-pub rest-none : (settings : Settings) (map lines : List ℕ) (i : ℕ) (s : State) (m : List ℕ) (t : Tally) → i ≡ length lines → rest settings map i (drop i lines) s m t ≡ end s m t
-unfolding rest
+pub rest-none : (settings : Settings) (map lines : List ℕ) (i : ℕ) (s : State) (m : List ℕ) (t : Tally) → i ≡ length lines → restOfRun settings map i (drop i lines) s m t ≡ end s m t
+unfolding restOfRun
 rest-none settings map lines i s m t e = rw (e, drop-length lines)
 
 cause-cons : (settings : Settings) (map : List ℕ) (x : ℕ) (xs : List ℕ) (s : State) (m : List ℕ) (c : Cause)
@@ -49,7 +49,7 @@ cause-none settings map lines i s m c e = rw (e, drop-length lines)
 -- a run over one line word is a step
 pub run-of-one : (settings : Settings) (map : List ℕ) (line : ℕ) (s : State) (m : List ℕ) {t : State} {n : List ℕ} {y : Tally} {c : Cause}
     → end t n y ≡ runOf settings map (line ∷ []) s m → c ≡ lastCause settings map (line ∷ []) s m Cause.Nothing → after t n c ≡ stepOf map (heard settings line) s m
-unfolding rest lastCause
+unfolding restOfRun lastCause
 run-of-one settings map line s m {t = t} {n = n} e d =
     let state : t ≡ stepOf map (heard settings line) s m .state = ap stateIn e in
     let image : n ≡ stepOf map (heard settings line) s m .image = ap imageIn e in

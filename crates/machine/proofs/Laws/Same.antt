@@ -16,13 +16,13 @@ use Rattle.machine.specs.declared.First.{First}
 use Rattle.machine.specs.declared.First.the-variants.{At, Never}
 use Rattle.refusal.specs.Page.{refused, answered, left}
 use Rattle.refusal.proofs.Laws.Page.{call-refused, call-answered}
-use Rattle.machine.specs.Numbers.{placeOf, ranPage}
-use Rattle.machine.specs.Run.{End, end, rest, runOf, ranOf, noted, noBlanks}
-use Rattle.machine.specs.Trail.{trailOf, blanksIn, firstIn, tallyIn, moved, Least, least, nowhere}
-use Rattle.machine.specs.Counted.{orFirst, joined}
-use Rattle.machine.specs.Entry.{ended, stepWhy}
+use Rattle.machine.specs.Numbers.{placePage, ranPage}
+use Rattle.machine.specs.Run.{End, end, restOfRun, runOf, ranOf, noted, noBlanks}
+use Rattle.machine.specs.Trail.{trailOf, blanksIn, firstBlankIn, tallyIn, placeMoved, Least, least, nowhere}
+use Rattle.machine.specs.Counted.{orFirst, tallyJoined}
+use Rattle.machine.specs.Entry.{runEnd, stepWhy}
 use Rattle.board.specs.Exec.{Lent}
-use Rattle.machine.specs.Same.{Among, Tallied, Parted, sameOf, runSamePage}
+use Rattle.machine.specs.Same.{BlankAmong, Tallied, Parted, sameOf, runSamePage}
 use Rattle.machine.proofs.Laws.Counted.{rest-trail, run-trail, first-least, trail-length}
 
 -- ---- the tally of a run
@@ -36,10 +36,10 @@ blanks-few (a ∷ rs) = one (isBlank (a .cause)) (blanks-few rs)
     one true h = omega arith
     one false h = omega arith
 
-first-among : (rs : List After) → Among (length rs) (firstIn rs)
-first-among rs = from (firstIn rs) (first-least rs)
+first-among : (rs : List After) → BlankAmong (length rs) (firstBlankIn rs)
+first-among rs = from (firstBlankIn rs) (first-least rs)
   where
-    from : (f : First) → Least rs (placeOf f) → Among (length rs) f
+    from : (f : First) → Least rs (placePage f) → BlankAmong (length rs) f
     from (At p a) (least l h g) = l
     from Never h = tt
 
@@ -51,15 +51,15 @@ run-tallied settings map lines s m n r e =
     let rs = trailOf settings map lines s m in
     rw (ap tallyOf (e ∙ run-trail settings map lines s m Cause.Nothing), ← trail-length settings map lines s m) (record { few = blanks-few rs; among = first-among rs })
 
-pub among-below : (n k : ℕ) (f : First) → n ≤ k → Among n f → Among k f
+pub among-below : (n k : ℕ) (f : First) → n ≤ k → BlankAmong n f → BlankAmong k f
 among-below n k (At p a) l h = omega arith
 among-below n k Never l h = tt
 
-joined-tallied : {n k : ℕ} {t u : Tally} → Tallied n t → Tallied k u → Tallied (n + k) (joined n t u)
-unfolding joined
+joined-tallied : {n k : ℕ} {t u : Tally} → Tallied n t → Tallied k u → Tallied (n + k) (tallyJoined n t u)
+unfolding tallyJoined
 joined-tallied {n = n} {k = k} {t = t} {u = u} h g = record { few = omega (arith, h .few, g .few); among = first (t .first) (u .first) (h .among) (g .among) }
   where
-    first : (f g : First) → Among n f → Among k g → Among (n + k) (orFirst f (moved n g))
+    first : (f g : First) → BlankAmong n f → BlankAmong k g → BlankAmong (n + k) (orFirst f (placeMoved n g))
     first (At p a) g h i = omega arith
     first Never (At p a) h i = omega arith
     first Never Never h i = tt
@@ -67,15 +67,15 @@ joined-tallied {n = n} {k = k} {t = t} {u = u} h g = record { few = omega (arith
 -- ---- a part, behind n steps
 
 abbrev behind : ℕ → Tally → End → End
-behind n t (end s m u) = end s m (joined n t u)
+behind n t (end s m u) = end s m (tallyJoined n t u)
 
-part-is : (settings : Settings) (map lines : List ℕ) (n : ℕ) (b r : Ran) (m m′ : List ℕ) (t : Tally) → ranOf r m′ ≡ runOf settings map lines (b .state) m → t ≡ joined n (b .tally) (r .tally)
-    → ranOf (record { state = r .state; tally = t }) m′ ≡ rest settings map n lines (b .state) m (b .tally)
+part-is : (settings : Settings) (map lines : List ℕ) (n : ℕ) (b r : Ran) (m m′ : List ℕ) (t : Tally) → ranOf r m′ ≡ runOf settings map lines (b .state) m → t ≡ tallyJoined n (b .tally) (r .tally)
+    → ranOf (record { state = r .state; tally = t }) m′ ≡ restOfRun settings map n lines (b .state) m (b .tally)
 part-is settings map lines n b r m m′ t e d =
     rw d (ap (behind n (b .tally)) (e ∙ run-trail settings map lines (b .state) m Cause.Nothing) ∙ sym (rest-trail settings map n lines (b .state) m (b .tally) Cause.Nothing))
 
 pub parted : (settings : Settings) (map lines : List ℕ) (n : ℕ) (b r : Ran) (m m′ : List ℕ) (t : Tally) → Tallied n (b .tally) → Lent map m′
-    → ranOf r m′ ≡ runOf settings map lines (b .state) m → t ≡ joined n (b .tally) (r .tally) → Parted settings map lines n b m (record { state = r .state; tally = t }) m′
+    → ranOf r m′ ≡ runOf settings map lines (b .state) m → t ≡ tallyJoined n (b .tally) (r .tally) → Parted settings map lines n b m (record { state = r .state; tally = t }) m′
 parted settings map lines n b r m m′ t h l e d = record {
   same = part-is settings map lines n b r m m′ t e d;
   tallied = rw d (joined-tallied h (run-tallied settings map lines (b .state) m m′ r e));
@@ -85,11 +85,11 @@ parted settings map lines n b r m m′ t h l e d = record {
 -- ---- the parts of a run over one line word
 
 abbrev restOn : Settings → List ℕ → ℕ → List ℕ → End → End
-restOn settings map n lines (end s m t) = rest settings map n lines s m t
+restOn settings map n lines (end s m t) = restOfRun settings map n lines s m t
 
 rest-same : (settings : Settings) (map : List ℕ) (place k n j x : ℕ) (s : State) (m : List ℕ) (t : Tally) → j ≡ k + n
-    → restOn settings map (place + k) (replicate n x) (rest settings map place (replicate k x) s m t) ≡ rest settings map place (replicate j x) s m t
-unfolding rest
+    → restOn settings map (place + k) (replicate n x) (restOfRun settings map place (replicate k x) s m t) ≡ restOfRun settings map place (replicate j x) s m t
+unfolding restOfRun
 rest-same settings map place zero n j x s m t e =
     let here : place + 0 ≡ place = omega arith in
     let all : j ≡ n = omega arith in
@@ -97,7 +97,7 @@ rest-same settings map place zero n j x s m t e =
 rest-same settings map place (suc k) n zero x s m t e = absurd (omega arith)
 rest-same settings map place (suc k) n (suc j) x s m t e =
     let a = stepOf map (heard settings x) s m in
-    ap (λ z. restOn settings map z (replicate n x) (rest settings map (place + 1) (replicate k x) (a .state) (a .image) (noted t place (blankAt (a .cause))))) (next place k)
+    ap (λ z. restOn settings map z (replicate n x) (restOfRun settings map (place + 1) (replicate k x) (a .state) (a .image) (noted t place (blankAt (a .cause))))) (next place k)
     ∙ rest-same settings map (place + 1) k n j x (a .state) (a .image) (noted t place (blankAt (a .cause))) (omega arith)
   where
     next : (place k : ℕ) → place + suc k ≡ place + 1 + k
@@ -117,14 +117,14 @@ part-length lines line k e h = ap length (part-take lines line k e h) ∙ length
 
 -- k of the n steps that are left, and then j
 pub same-more : (settings : Settings) (map : List ℕ) (line place k j n : ℕ) (b r : Ran) (m m′ : List ℕ) → n ≡ k + j
-    → ranOf r m′ ≡ rest settings map place (replicate k line) (b .state) m (b .tally)
-    → rest settings map (place + k) (replicate j line) (r .state) m′ (r .tally) ≡ rest settings map place (replicate n line) (b .state) m (b .tally)
+    → ranOf r m′ ≡ restOfRun settings map place (replicate k line) (b .state) m (b .tally)
+    → restOfRun settings map (place + k) (replicate j line) (r .state) m′ (r .tally) ≡ restOfRun settings map place (replicate n line) (b .state) m (b .tally)
 same-more settings map line place k j n b r m m′ l e =
     ap (restOn settings map (place + k) (replicate j line)) e ∙ rest-same settings map place k j n line (b .state) m (b .tally) l
 
 -- no step is left
-pub same-none : (settings : Settings) (map : List ℕ) (line place n : ℕ) (r : Ran) (m : List ℕ) → n ≡ 0 → rest settings map place (replicate n line) (r .state) m (r .tally) ≡ ranOf r m
-unfolding rest
+pub same-none : (settings : Settings) (map : List ℕ) (line place n : ℕ) (r : Ran) (m : List ℕ) → n ≡ 0 → restOfRun settings map place (replicate n line) (r .state) m (r .tally) ≡ ranOf r m
+unfolding restOfRun
 same-none settings map line place n r m e = rw e
 
 module _ (settings : Settings) (image map : List ℕ) (line n : ℕ) (s : State) where
@@ -134,4 +134,4 @@ module _ (settings : Settings) (image map : List ℕ) (line n : ℕ) (s : State)
 
   pub same-answered : (r : Ran) (m : List ℕ) → stepWhy settings image map line ≡ 0 → ranOf r m ≡ runOf settings map (replicate n line) s image → left (answered (ranPage r)) m ≡ runSamePage settings image map line n s
   unfolding runSamePage
-  same-answered r m e h = call-answered (stepWhy settings image map line) (sameOf settings map line n s image) image (ended (ranOf r m)) e (ap ended h)
+  same-answered r m e h = call-answered (stepWhy settings image map line) (sameOf settings map line n s image) image (runEnd (ranOf r m)) e (ap runEnd h)

@@ -20,7 +20,7 @@ use Rattle.machine.specs.declared.Stage.{Stage}
 use Rattle.machine.specs.declared.Stop.{Stop}
 use Rattle.machine.specs.declared.Tally.{Tally}
 use Rattle.machine.specs.declared.Until.{Until}
-use Rattle.machine.specs.Run.{end, rest, runOf, noted, noBlanks, lastCause}
+use Rattle.machine.specs.Run.{end, restOfRun, runOf, noted, noBlanks, lastCause}
 use Rattle.machine.specs.Entry.{runWhy}
 use Rattle.machine.specs.Until.{ends, stepsTo, stopPage, runFor, untilOf, runUntilPage, Strode, stopAt, Ended}
 
@@ -28,12 +28,12 @@ use Rattle.machine.specs.Until.{ends, stepsTo, stopPage, runFor, untilOf
 
 module _ (settings : Settings) (map lines : List ℕ) (i : ℕ) (s : State) (m : List ℕ) (a : After) (l : i < length lines) (e : a ≡ stepOf map (heard settings (getD lines i 0)) s m) where
   rest-cons : (x k : ℕ) (xs : List ℕ) (t : Tally)
-      → (let b = stepOf map (heard settings x) s m in rest settings map (i + 1) (take k xs) (b .state) (b .image) (noted t i (blankAt (b .cause))) ≡ rest settings map i (take (suc k) (x ∷ xs)) s m t)
-  unfolding rest
+      → (let b = stepOf map (heard settings x) s m in restOfRun settings map (i + 1) (take k xs) (b .state) (b .image) (noted t i (blankAt (b .cause))) ≡ restOfRun settings map i (take (suc k) (x ∷ xs)) s m t)
+  unfolding restOfRun
   rest-cons x k xs t = refl
 
   rest-took : (k : ℕ) (t t′ : Tally) → t′ ≡ noted t i (blankAt (a .cause))
-      → rest settings map (i + 1) (take k (drop (i + 1) lines)) (a .state) (a .image) t′ ≡ rest settings map i (take (suc k) (drop i lines)) s m t
+      → restOfRun settings map (i + 1) (take k (drop (i + 1) lines)) (a .state) (a .image) t′ ≡ restOfRun settings map i (take (suc k) (drop i lines)) s m t
   rest-took k t t′ d = rw (drop-cons lines i 0 l, ← add-one i, d, e) (rest-cons (getD lines i 0) k (drop (i + 1) lines) t)
 
   cause-cons : (x k : ℕ) (xs : List ℕ) (c : Cause)
@@ -56,7 +56,7 @@ module _ (settings : Settings) (map lines : List ℕ) (i : ℕ) (s : State) (m :
 
 -- what is left from here, over the next k line words, comes to the run over the line words so far and those
 pub record Onto (settings : Settings) (map lines : List ℕ) (s : State) (m : List ℕ) (b : Stage) (n : List ℕ) : Type 0 where
-  pub runs : (k : ℕ) → rest settings map (b .at) (take k (drop (b .at) lines)) (b .state) n (b .tally) ≡ runOf settings map (take (b .at + k) lines) s m
+  pub runs : (k : ℕ) → restOfRun settings map (b .at) (take k (drop (b .at) lines)) (b .state) n (b .tally) ≡ runOf settings map (take (b .at + k) lines) s m
   pub causes : (k : ℕ) → lastCause settings map (take k (drop (b .at) lines)) (b .state) n (b .cause) ≡ lastCause settings map (take (b .at + k) lines) s m Cause.Nothing
 
 pub onto-none : (settings : Settings) (map lines : List ℕ) (s : State) (m : List ℕ) → Onto settings map lines s m (record { state = s; tally = noBlanks; cause = Cause.Nothing; at = 0 }) m
@@ -114,7 +114,7 @@ at-place settings map lines s m r n e d = rw (← e, ← d)
 
 pub ended : (settings : Settings) (map lines : List ℕ) (u : Until) (s : State) (m : List ℕ) (r : Stage) (x : Stop) (n : List ℕ) → Onto settings map lines s m r n
     → r .at ≡ stepsTo settings map u lines s m → x ≡ stopAt r → Lent map n → Ended settings map lines u s m x n
-unfolding rest lastCause
+unfolding restOfRun lastCause
 ended settings map lines u s m r x n h e d l = rw d (record {
   same =
       at-place settings map lines s m r n (h .runs 0 ∙ ap (λ z. runOf settings map (take z lines) s m) (here (r .at))) (h .causes 0 ∙ ap (λ z. lastCause settings map (take z lines) s m Cause.Nothing) (here (r .at)))

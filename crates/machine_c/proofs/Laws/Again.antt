@@ -14,14 +14,14 @@ use Rattle.state.specs.State.{modeNumber}
 use Rattle.machine.specs.Numbers.{indicators, statePage, Address, address, nowhere}
 use Rattle.machine.specs.Back.{stateOf}
 use Rattle.machine.proofs.Laws.Back.{state-back}
-use Rattle.machine_c.specs.Layout.{tells, bytesOf, pageFrom, stateFrom, refusedState}
+use Rattle.machine_c.specs.Layout.{addressTold, stateBytes, pageFrom, stateFrom, refusedState}
 
-page-again : (s : State) (cause : ℕ) (told : Address) → pageFrom (bytesOf (statePage s) cause told) ≡ statePage s
-unfolding pageFrom bytesOf statePage
+page-again : (s : State) (cause : ℕ) (told : Address) → pageFrom (stateBytes (statePage s) cause told) ≡ statePage s
+unfolding pageFrom stateBytes statePage
 page-again s cause told = simp word-again
 
 -- THE SAME STATE COMES BACK
-pub state-again : (s : State) (cause : ℕ) (told : Address) → stateFrom (bytesOf (statePage s) cause told) ≡ s
+pub state-again : (s : State) (cause : ℕ) (told : Address) → stateFrom (stateBytes (statePage s) cause told) ≡ s
 state-again s cause told = ap stateOf (page-again s cause told) ∙ state-back s
 
 digit-le : (b : Bool) → digit b ≤ 1
@@ -36,7 +36,7 @@ mode-le SwitchHalt = omega arith
 mode-le Locked = omega arith
 mode-le Saved = omega arith
 
-tells-le : (told : Address) → tells told ≤ 1
+tells-le : (told : Address) → addressTold told ≤ 1
 tells-le (address a) = omega arith
 tells-le nowhere = omega arith
 
@@ -44,8 +44,8 @@ indicators-le : (f : Flags) → indicators f ≤ 15
 indicators-le f = omega (arith, digit-le (f .n), digit-le (f .z), digit-le (f .v), digit-le (f .c))
 
 -- AND ITS BYTES ARE NOT REFUSED
-pub state-taken : (s : State) (cause : ℕ) (told : Address) → cause ≤ 9 → refusedState (bytesOf (statePage s) cause told) ≡ false
-unfolding refusedState bytesOf statePage
+pub state-taken : (s : State) (cause : ℕ) (told : Address) → cause ≤ 9 → refusedState (stateBytes (statePage s) cause told) ≡ false
+unfolding refusedState stateBytes statePage
 state-taken s cause told h =
     rw (
       le-ltb 15 (indicators (s .flags)) (indicators-le (s .flags)),
@@ -53,5 +53,5 @@ state-taken s cause told h =
       le-ltb 5 (modeNumber (s .mode)) (mode-le (s .mode)),
       le-ltb 9 cause h,
       le-ltb 1 (digit (s .mark)) (digit-le (s .mark)),
-      le-ltb 1 (tells told) (tells-le told),
+      le-ltb 1 (addressTold told) (tells-le told),
     )

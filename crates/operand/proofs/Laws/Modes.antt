@@ -7,7 +7,7 @@ use mathlib.Core.List.{[], _∷_}
 use mathlib.Core.Path.{_≡_, refl, ap}
 use borrow.Author.Tests.{lt-ltb}
 use lib.ListN.{List·getD-eq-default}
-use Rattle.operand.specs.Operand.{direct, indirect, increment, incrementDeferred, decrement, decrementDeferred, indexed, indexedDeferred, locate, baseOf}
+use Rattle.operand.specs.Operand.{direct, indirect, increment, incrementDeferred, decrement, decrementDeferred, indexed, indexedDeferred, locate, indexBase}
 use Rattle.operand.specs.Modes.{defers, stride, pointer, beyond, through, pointed}
 use lib.Dec.{ltb}
 use Rattle.board.specs.Work.{Work, load, _>>=_}
@@ -18,7 +18,7 @@ use Rattle.operand.specs.declared.Place.{Place}
 unfoldable pub offset : ℕ → ℕ → ℕ → ℕ → Work Place
 offset k r pc mode = do
   x ← load pc
-  through (ltb 6 mode) (plus (baseOf k r pc) x) 7 (plus pc 2)
+  through (ltb 6 mode) (plus (indexBase k r pc) x) 7 (plus pc 2)
 
 pub pointed-is : (step k r mode : ℕ) {by at next : ℕ} {b : Bool}
     → by ≡ stride step mode → at ≡ pointer r by mode → next ≡ beyond at by mode → defers mode ≡ b

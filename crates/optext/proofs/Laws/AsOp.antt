@@ -7,14 +7,14 @@ use native.Mathlib.Omega.{arith}
 use lib.Dec.{eqb}
 use borrow.Author.Tests.{eq-eqb, eqb-true}
 use lib.ListN.{length, getD, length-append}
-use Rattle.hexdigits.specs.Over.{over, Wrote}
+use Rattle.hexdigits.specs.Over.{inFrontOf, Wrote}
 use Rattle.optext.specs.declared.reading.Guess.{Guess}
 use Rattle.optext.specs.First.{agree}
 use Rattle.optext.specs.Rows.{firstOf, secondOf}
-use Rattle.optext.specs.Line.{rowOf, takes, lineText}
+use Rattle.optext.specs.Line.{rowOf, takes, opText}
 use Rattle.optext.specs.Guess.{guessOf}
 use Rattle.optext.specs.Words.{own, wordsOf}
-use Rattle.optext.specs.Read.{same, readFrom, readOf, opOf}
+use Rattle.optext.specs.Read.{sameText, readFrom, wordsOfText, opOf}
 use Rattle.optext.proofs.Laws.Read.{same-is}
 use Rattle.optext.proofs.Laws.Choose.{no}
 use Rattle.optext.proofs.Laws.Near.{agree-self}
@@ -26,7 +26,7 @@ both-true true true e = (refl, refl)
 both-true true false e = absurd (no (sym e))
 both-true false b e = absurd (no (sym e))
 
-pub same-ends : (t p : List ℕ) (c n : ℕ) → c ≡ agree t p → n ≡ length p → (eqb c (length t) && eqb c n) ≡ same p t
+pub same-ends : (t p : List ℕ) (c n : ℕ) → c ≡ agree t p → n ≡ length p → (eqb c (length t) && eqb c n) ≡ sameText p t
 same-ends t p c n e f = same-is _ p t (λ h. there (both-true _ _ h)) (λ h. back h)
   where
     there : (eqb c (length t) ≡ true) × (eqb c n ≡ true) → p ≡ t
@@ -44,8 +44,8 @@ same-ends t p c n e f = same-is _ p t (λ h. there (both-true _ _ h)) (λ h. bac
 abbrev zeros : List ℕ
 zeros = 0 ∷ 0 ∷ 0 ∷ []
 
-op-over : (ws : List ℕ) → opOf ws ≡ record { count = length ws; a = getD (over ws zeros) 0 0; b = getD (over ws zeros) 1 0; c = getD (over ws zeros) 2 0 }
-unfolding over
+op-over : (ws : List ℕ) → opOf ws ≡ record { count = length ws; a = getD (inFrontOf ws zeros) 0 0; b = getD (inFrontOf ws zeros) 1 0; c = getD (inFrontOf ws zeros) 2 0 }
+unfolding inFrontOf
 op-over [] = refl
 op-over (a ∷ []) = refl
 op-over (a ∷ b ∷ []) = refl
@@ -66,16 +66,16 @@ words-le w x y =
     let q = own-le (takes (secondOf (rowOf w)) w) y in
     simp length-append (omega arith)
 
-module _ (t : List ℕ) (g : Guess) (p : g ≡ guessOf t) (b : Bool) (q : b ≡ same (lineText (g .w) (g .x) (g .y)) t) where
+module _ (t : List ℕ) (g : Guess) (p : g ≡ guessOf t) (b : Bool) (q : b ≡ sameText (opText (g .w) (g .x) (g .y)) t) where
   pub op-taken : (e : List ℕ) (n : ℕ) → b ≡ true → Wrote (wordsOf (g .w) (g .x) (g .y)) zeros e n
-      → record { count = n; a = getD e 0 0; b = getD e 1 0; c = getD e 2 0 } ≡ opOf (readOf t)
-  unfolding readOf readFrom
+      → record { count = n; a = getD e 0 0; b = getD e 1 0; c = getD e 2 0 } ≡ opOf (wordsOfText t)
+  unfolding wordsOfText readFrom
   op-taken e n h w =
-      let s : same (lineText (g .w) (g .x) (g .y)) t ≡ true = sym q ∙ h in
+      let s : sameText (opText (g .w) (g .x) (g .y)) t ≡ true = sym q ∙ h in
       rw (← p, s, w .bytes, w .count) (sym (op-over (wordsOf (g .w) (g .x) (g .y))))
 
-  pub op-refused : b ≡ false → record { count = 0; a = 0; b = 0; c = 0 } ≡ opOf (readOf t)
-  unfolding readOf readFrom
+  pub op-refused : b ≡ false → record { count = 0; a = 0; b = 0; c = 0 } ≡ opOf (wordsOfText t)
+  unfolding wordsOfText readFrom
   op-refused h =
-      let s : same (lineText (g .w) (g .x) (g .y)) t ≡ false = sym q ∙ h in
+      let s : sameText (opText (g .w) (g .x) (g .y)) t ≡ false = sym q ∙ h in
       rw (← p, s) refl

@@ -15,7 +15,7 @@ use Rattle.optext.specs.declared.rows.Kind.the-variants.{None, Mask, Dis
 use Rattle.hexdigits.specs.Digits.{digits, hexOf, hex4, hex2}
 use Rattle.optext.specs.Digits.{unHex, unHex4, unHex2}
 use Rattle.optext.specs.Line.{reservedFrom, registers, regA, regB, regText, upText, literalText, downText, offsetText, plainText, modeText, modeTakes, operandText, takes, fieldOf}
-use Rattle.optext.specs.Guess.{unCount, unReg, notPc, op, high, unPlain, unMode, unOp}
+use Rattle.optext.specs.Guess.{unCount, unReg, notPc, operandRead, atBit6, unPlain, unMode, unOp}
 use Rattle.optext.proofs.Laws.Choose.{eq-cases, at}
 use Rattle.optext.proofs.Laws.Forms.{mode-plain, mode-at}
 
@@ -86,19 +86,19 @@ pub reg-high : (r : ℕ) → r < 8 → 71 ≤ regA r
 unfolding regA registers
 reg-high r h = leb→le 71 (regA r) (at (λ r. leb 71 (regA r)) 8 tt r h)
 
-pc-back : (x : ℕ) (t : List ℕ) → x < 65536 → unPlain (plainText 1 7 x ++ t) ≡ op 23 (plainWord 1 7 x) (length (plainText 1 7 x))
+pc-back : (x : ℕ) (t : List ℕ) → x < 65536 → unPlain (plainText 1 7 x ++ t) ≡ operandRead 23 (plainWord 1 7 x) (length (plainText 1 7 x))
 unfolding plainText literalText unPlain plainWord hex4
-pc-back x t l = ap (λ (y : ℕ). op 23 y 5) (hex4-back x t l)
+pc-back x t l = ap (λ (y : ℕ). operandRead 23 y 5) (hex4-back x t l)
 
 pub plain-back : (p r x : ℕ) (t : List ℕ) → p < 4 → r < 8 → x < 65536
-    → unPlain (plainText p r x ++ t) ≡ op (p * 16 + r) (plainWord p r x) (length (plainText p r x))
+    → unPlain (plainText p r x ++ t) ≡ operandRead (p * 16 + r) (plainWord p r x) (length (plainText p r x))
 unfolding plainText regText upText literalText downText offsetText unPlain plainWord hex4 notPc
 plain-back zero r x t h g l =
     let k = reg-high r g in
     rw (ne-eqb (regA r) 40 (λ e. omega arith), ne-eqb (regA r) 45 (λ e. omega arith), ne-eqb (regA r) 35 (λ e. omega arith), le-ltb (regA r) 71 k, reg-back r g, zero-add r)
     refl
 plain-back (suc zero) r x t h g l =
-    ⊎-elim (λ e. subst (λ (r : ℕ). unPlain (plainText 1 r x ++ t) ≡ op (16 + r) (plainWord 1 r x) (length (plainText 1 r x))) (sym e) (pc-back x t l)) (λ e. rw (ne-eqb r 7 e, reg-back r g, ne-eqb r 7 e) refl) (eq-cases r 7)
+    ⊎-elim (λ e. subst (λ (r : ℕ). unPlain (plainText 1 r x ++ t) ≡ operandRead (16 + r) (plainWord 1 r x) (length (plainText 1 r x))) (sym e) (pc-back x t l)) (λ e. rw (ne-eqb r 7 e, reg-back r g, ne-eqb r 7 e) refl) (eq-cases r 7)
 plain-back (suc (suc zero)) r x t h g l = rw (reg-back r g) refl
 plain-back (suc (suc (suc zero))) r x t h g l =
     let d = digit-low (x / 4096) (omega arith) in
@@ -128,36 +128,36 @@ plain-sign (suc (suc zero)) r x t h g l e =
 plain-sign (suc (suc (suc zero))) r x t h g l e = digit-sign (x / 4096) (omega arith) e
 plain-sign (suc (suc (suc (suc p)))) r x t h g l e = omega arith
 
-pub mode-back : (f x : ℕ) (t : List ℕ) → f < 64 → x < 65536 → unMode (modeText f x ++ t) ≡ op f (modeWord f x) (length (modeText f x))
+pub mode-back : (f x : ℕ) (t : List ℕ) → f < 64 → x < 65536 → unMode (modeText f x ++ t) ≡ operandRead f (modeWord f x) (length (modeText f x))
 unfolding modeWord unMode
 mode-back f x t h l =
     let p : f / 16 < 4 = omega arith in
     let r : f % 8 < 8 = omega arith in
     ⊎-elim
     (λ q. rw (mode-plain f x q, ne-eqb (getD (plainText (f / 16) (f % 8) x ++ t) 0 0) 64 (plain-sign (f / 16) (f % 8) x t p r l), plain-back (f / 16) (f % 8) x t p r l)
-    (ap (λ (y : ℕ). op y (plainWord (f / 16) (f % 8) x) (length (plainText (f / 16) (f % 8) x))) (omega arith)))
+    (ap (λ (y : ℕ). operandRead y (plainWord (f / 16) (f % 8) x) (length (plainText (f / 16) (f % 8) x))) (omega arith)))
     (λ q. rw (mode-at f x q, plain-back (f / 16) (f % 8) x t p r l, add-one (length (plainText (f / 16) (f % 8) x)))
-    (ap (λ (y : ℕ). op y (plainWord (f / 16) (f % 8) x) (suc (length (plainText (f / 16) (f % 8) x)))) (omega arith)))
+    (ap (λ (y : ℕ). operandRead y (plainWord (f / 16) (f % 8) x) (suc (length (plainText (f / 16) (f % 8) x)))) (omega arith)))
     (eq-cases (f / 8 % 2) 0)
 
 pub op-back : (k : Kind) (w x : ℕ) (t : List ℕ) → w < 65536 → x < 65536
-    → unOp k (operandText k w x ++ t) ≡ op (fieldOf k w) (wordOf k w x) (length (operandText k w x))
+    → unOp k (operandText k w x ++ t) ≡ operandRead (fieldOf k w) (wordOf k w x) (length (operandText k w x))
 unfolding hex4 hex2 regText
 op-back None w x t g l = refl
-op-back Mask w x t g l = ap (λ (y : ℕ). op 0 y 4) (hex4-back x t l)
-op-back Disp w x t g l = ap (λ (y : ℕ). op y 0 2) (hex2-back (w % 256) t (omega arith))
-op-back Reg w x t g l = ap (λ (y : ℕ). op y 0 2) (reg-back (w % 8) (omega arith))
-op-back Arg4 w x t g l = ap (λ (y : ℕ). op y 0 1) (hex-back (w % 16) (omega arith))
+op-back Mask w x t g l = ap (λ (y : ℕ). operandRead 0 y 4) (hex4-back x t l)
+op-back Disp w x t g l = ap (λ (y : ℕ). operandRead y 0 2) (hex2-back (w % 256) t (omega arith))
+op-back Reg w x t g l = ap (λ (y : ℕ). operandRead y 0 2) (reg-back (w % 8) (omega arith))
+op-back Arg4 w x t g l = ap (λ (y : ℕ). operandRead y 0 1) (hex-back (w % 16) (omega arith))
 op-back Arg6 w x t g l =
     let e = hex2-back (w % 64) t (omega arith) in
-    ap (λ (y : ℕ). op y 0 2) (ap (λ (y : ℕ). y % 64) e ∙ omega arith)
-op-back Count w x t g l = ap (λ (y : ℕ). op y 0 2) (count-back (w % 16) t (omega arith))
-op-back High w x t g l = ap (λ (y : ℕ). op (y * 64) 0 2) (reg-back (w / 64 % 8) (omega arith))
-op-back Mid w x t g l = ap (λ (y : ℕ). op (y * 8) 0 2) (reg-back (w / 8 % 8) (omega arith))
+    ap (λ (y : ℕ). operandRead y 0 2) (ap (λ (y : ℕ). y % 64) e ∙ omega arith)
+op-back Count w x t g l = ap (λ (y : ℕ). operandRead y 0 2) (count-back (w % 16) t (omega arith))
+op-back High w x t g l = ap (λ (y : ℕ). operandRead (y * 64) 0 2) (reg-back (w / 64 % 8) (omega arith))
+op-back Mid w x t g l = ap (λ (y : ℕ). operandRead (y * 8) 0 2) (reg-back (w / 8 % 8) (omega arith))
 op-back Dst w x t g l = mode-back (w % 64) x t (omega arith) l
 op-back Addr w x t g l = rw (mode-back (w % 64) x t (omega arith) l) refl
-op-back Src w x t g l = ap high (mode-back (w / 64 % 64) x t (omega arith) l)
-op-back Word w x t g l = ap (λ (y : ℕ). op (reservedFrom y) 0 4) (hex4-back w t g)
+op-back Src w x t g l = ap atBit6 (mode-back (w / 64 % 64) x t (omega arith) l)
+op-back Word w x t g l = ap (λ (y : ℕ). operandRead (reservedFrom y) 0 4) (hex4-back w t g)
 
 -- a word that the text does not show does not change it
 plain-same : (p r x : ℕ) → p < 4 → plainText p r (plainWord p r x) ≡ plainText p r x

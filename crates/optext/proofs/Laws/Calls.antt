@@ -9,14 +9,14 @@ use lib.Dec.{ltb}
 use lib.ListN.{length, take, drop, getD, length-take, List·getD-eq-default}
 use lib.Seq.{take-append-seam, length-take-le, getD-take}
 use borrow.Author.Tests.{ltb-false, le-ltb}
-use Rattle.hexdigits.specs.Over.{over}
+use Rattle.hexdigits.specs.Over.{inFrontOf}
 use Rattle.optext.specs.declared.rows.Kind.{Kind}
 use Rattle.optext.specs.declared.Written.{Written}
 use Rattle.optext.specs.declared.Written.the-variants.{Line}
 use Rattle.optext.specs.declared.ReadBack.{ReadBack}
 use Rattle.optext.specs.declared.ReadBack.the-variants.{Words}
 use Rattle.optext.specs.Rows.{firstOf, secondOf}
-use Rattle.optext.specs.Line.{rowOf, takes, operandText, sepText, lineText, taken, textOf}
+use Rattle.optext.specs.Line.{rowOf, takes, operandText, sepText, opText, taken, textOf}
 use Rattle.refusal.specs.Numbers.{textShort}
 use Rattle.refusal.specs.Page.{Page, answered, left}
 use Rattle.refusal.proofs.Laws.Page.{answered-one, first-both, call-right, one-call}
@@ -38,8 +38,8 @@ same-op k w x y f = go (takes k w) refl
     go (suc zero) e = ap (λ (z : ℕ). operandText k w z) (f e)
     go (suc (suc n)) e = let h = takes-le k w in absurd (omega arith)
 
-line-same : (w x y x′ y′ : ℕ) → (takes (firstOf (rowOf w)) w ≡ 1 → x ≡ x′) → (takes (secondOf (rowOf w)) w ≡ 1 → y ≡ y′) → lineText w x y ≡ lineText w x′ y′
-unfolding lineText sepText
+line-same : (w x y x′ y′ : ℕ) → (takes (firstOf (rowOf w)) w ≡ 1 → x ≡ x′) → (takes (secondOf (rowOf w)) w ≡ 1 → y ≡ y′) → opText w x y ≡ opText w x′ y′
+unfolding opText sepText
 line-same w x y x′ y′ f g = rw (same-op (firstOf (rowOf w)) w x x′ f, same-op (secondOf (rowOf w)) w y y′ g) refl
 
 -- the text is that of the words taken
@@ -65,7 +65,7 @@ pub record Lined (ws b : List ℕ) (n m : ℕ) (e : List ℕ) : Type 0 where
   pub many : m ≡ taken (getD ws 0 0)
   pub room : m ≤ length ws
   pub wide : 32 ≤ length b
-  pub left : e ≡ over (textOf ws) b
+  pub left : e ≡ inFrontOf (textOf ws) b
 
 pub none-told : (a b n : ℕ) (x : Bool) → ltb a b ≡ x → 0 < n → cond x n 0 ≡ 0 → b ≤ a
 none-told a b n true e l h = absurd (omega arith)
@@ -98,8 +98,8 @@ line-written ws b h k =
     rw (x, y, z) refl
 
 writes-line : (ws b e : List ℕ) (r : Written) → 32 ≤ length b → taken (getD ws 0 0) ≤ length ws → Writes ws b r e
-    → (r ≡ Line (length (textOf ws)) (taken (getD ws 0 0))) × (e ≡ over (textOf ws) b)
-writes-line ws b e r h k p = one-call writtenPage written-one r (Line (length (textOf ws)) (taken (getD ws 0 0))) e (over (textOf ws) b) (p .met ∙ line-written ws b h k)
+    → (r ≡ Line (length (textOf ws)) (taken (getD ws 0 0))) × (e ≡ inFrontOf (textOf ws) b)
+writes-line ws b e r h k p = one-call writtenPage written-one r (Line (length (textOf ws)) (taken (getD ws 0 0))) e (inFrontOf (textOf ws) b) (p .met ∙ line-written ws b h k)
 
 -- other words with the same ones in front
 pub same-front : (ws vs : List ℕ) (m : ℕ) → m ≡ taken (getD ws 0 0) → m ≤ length ws → take m vs ≡ take m ws
@@ -132,7 +132,7 @@ whole-take ws m u e l =
 
 -- the line that the writer left is the text of the words taken
 line-left : (ws b : List ℕ) (n m : ℕ) (b′ : List ℕ) → Lined ws b n m b′ → take n b′ ≡ textOf (take m ws)
-unfolding over
+unfolding inFrontOf
 line-left ws b n m b′ l =
     ap (λ (k : ℕ). take k b′) (l .long)
     ∙ ap (λ (x : List ℕ). take (length (textOf ws)) x) (l .left)
@@ -143,28 +143,28 @@ line-left ws b n m b′ l =
 -- WHAT THE WRITER LEFT, THE READER GIVES BACK as the words that were taken
 pub again : (ws b : List ℕ) (n m : ℕ) (b′ vs vs′ : List ℕ) (a : Page ℕ) → ((i : ℕ) → getD ws i 0 < 65536)
     → left (answered (linePage n m)) b′ ≡ writeOf ws b → 3 ≤ length vs → Reads a (take n b′) vs vs′
-    → (a ≡ answered m) × (vs′ ≡ over (take m ws) vs)
+    → (a ≡ answered m) × (vs′ ≡ inFrontOf (take m ws) vs)
 again ws b n m b′ vs vs′ a u p h q =
     let l = lined ws b n m b′ p in
     let w = whole-take ws m u (l .many) (l .room) in
-    let z = reads-one (textOf (take m ws)) vs vs′ (over (take m ws) vs) a (answered (length (take m ws))) (subst (λ (t : List ℕ). Reads a t vs vs′) (line-left ws b n m b′ l) q) (reads-text (take m ws) vs w h) in
+    let z = reads-one (textOf (take m ws)) vs vs′ (inFrontOf (take m ws) vs) a (answered (length (take m ws))) (subst (λ (t : List ℕ). Reads a t vs vs′) (line-left ws b n m b′ l) q) (reads-text (take m ws) vs w h) in
     (z .0 ∙ ap answered (length-take-le m ws (l .room)), z .1)
 
 pub text-again : (ws b : List ℕ) (n m : ℕ) (b′ vs vs′ : List ℕ) (r : ReadBack) → ((i : ℕ) → getD ws i 0 < 65536)
     → Writes ws b (Line n m) b′ → 3 ≤ length vs → Reads (readPage r) (take n b′) vs vs′
-    → (r ≡ Words m) × (vs′ ≡ over (take m ws) vs)
+    → (r ≡ Words m) × (vs′ ≡ inFrontOf (take m ws) vs)
 text-again ws b n m b′ vs vs′ r u p h q =
     let z = again ws b n m b′ vs vs′ (readPage r) u (p .met) h q in
     (read-one r (Words m) (z .0), z .1)
 
 -- WHAT THE READER GAVE, THE WRITER MAKES THE TEXT OF that was read
 pub text-made : (t vs vs′ : List ℕ) (n : ℕ) (b b′ : List ℕ) (r : Written)
-    → Reads (readPage (Words n)) t vs vs′ → 32 ≤ length b → Writes (take n vs′) b r b′ → (r ≡ Line (length t) n) × (b′ ≡ over t b)
+    → Reads (readPage (Words n)) t vs vs′ → 32 ≤ length b → Writes (take n vs′) b r b′ → (r ≡ Line (length t) n) × (b′ ≡ inFrontOf t b)
 text-made t vs vs′ n b b′ r q h p =
     let m = q .count ∙ q .whole .count in
     let l = writes-line (take n vs′) b b′ r h (omega (arith, q .whole .count)) p in
     let line : Line (length (textOf (take n vs′))) (taken (getD (take n vs′) 0 0)) ≡ Line (length t) n = rw (q .text, ← m) refl in
-    (l .0 ∙ line, l .1 ∙ ap (λ (x : List ℕ). over x b) (q .text))
+    (l .0 ∙ line, l .1 ∙ ap (λ (x : List ℕ). inFrontOf x b) (q .text))
 
 -- WORDS LENT PAST THOSE TAKEN ARE IGNORED
 pub text-ignores : (ws vs b : List ℕ) (n m : ℕ) (b′ b″ : List ℕ) (r : Written)
@@ -173,4 +173,4 @@ text-ignores ws vs b n m b′ b″ r p e q =
     let l = lined ws b n m b′ (p .met) in
     let f = same-front ws vs m (l .many) (l .room) e in
     let d = writes-line vs b b″ r (l .wide) (rw (f .0) (f .2)) q in
-    (d .0 ∙ ap (λ (x : ℕ). Line x (taken (getD vs 0 0))) (ap length (f .1) ∙ sym (l .long)) ∙ ap (λ (x : ℕ). Line n x) (f .0), d .1 ∙ ap (λ (x : List ℕ). over x b) (f .1) ∙ sym (l .left))
+    (d .0 ∙ ap (λ (x : ℕ). Line x (taken (getD vs 0 0))) (ap length (f .1) ∙ sym (l .long)) ∙ ap (λ (x : ℕ). Line n x) (f .0), d .1 ∙ ap (λ (x : List ℕ). inFrontOf x b) (f .1) ∙ sym (l .left))

@@ -11,7 +11,7 @@ use lib.Seq.{take-length, length-take-le, drop-cons}
 use Rattle.optext.specs.declared.reading.Guess.{Guess}
 use Rattle.optext.specs.First.{agree}
 use Rattle.optext.specs.Rows.{firstOf}
-use Rattle.optext.specs.Line.{rowOf, takes, lineText, textOf}
+use Rattle.optext.specs.Line.{rowOf, takes, opText, textOf}
 use Rattle.optext.specs.Guess.{guessOf}
 use Rattle.optext.specs.Column.{Whole, IsText, Column, spaceIn, Why, early, after, name, operand}
 use Rattle.optext.specs.Words.{RefusedText, wordsOf}
@@ -22,7 +22,7 @@ use Rattle.optext.proofs.Laws.Meets.{text-words, whole-words}
 
 -- the line of the guess at a text
 unfoldable pub guessLine : List ℕ → List ℕ
-guessLine t = lineText (guessOf t .w) (guessOf t .x) (guessOf t .y)
+guessLine t = opText (guessOf t .w) (guessOf t .x) (guessOf t .y)
 
 -- two texts that agree to the end of both are one
 pub same-text : (t p : List ℕ) → agree t p ≡ length t → agree t p ≡ length p → p ≡ t
@@ -119,17 +119,17 @@ module _ (t : List ℕ) where
       at-30 s = refused 30 (λ i. d (own-far i)) (operand refl inside-text (not-whole inside-line) s)
 
 -- the reader's answers from the facts of its code: c is how far the text agrees with the line of the guess, n the line's length
-module _ (t ws : List ℕ) (g : Guess) (e : g ≡ guessOf t) (c n : ℕ) (p : c ≡ agree t (lineText (g .w) (g .x) (g .y))) (q : n ≡ length (lineText (g .w) (g .x) (g .y))) where
+module _ (t ws : List ℕ) (g : Guess) (e : g ≡ guessOf t) (c n : ℕ) (p : c ≡ agree t (opText (g .w) (g .x) (g .y))) (q : n ≡ length (opText (g .w) (g .x) (g .y))) where
   far : c ≡ agree t (guessLine t)
   unfolding guessLine
-  far = p ∙ ap (λ (z : Guess). agree t (lineText (z .w) (z .x) (z .y))) e
+  far = p ∙ ap (λ (z : Guess). agree t (opText (z .w) (z .x) (z .y))) e
 
   long : n ≡ length (guessLine t)
   unfolding guessLine
-  long = q ∙ ap (λ (z : Guess). length (lineText (z .w) (z .x) (z .y))) e
+  long = q ∙ ap (λ (z : Guess). length (opText (z .w) (z .x) (z .y))) e
 
-  pub found-text : c ≡ length t → c ≡ n → lineText (g .w) (g .x) (g .y) ≡ t
-  found-text a b = same-text t (lineText (g .w) (g .x) (g .y)) (sym p ∙ a) (sym p ∙ b ∙ q)
+  pub found-text : c ≡ length t → c ≡ n → opText (g .w) (g .x) (g .y) ≡ t
+  found-text a b = same-text t (opText (g .w) (g .x) (g .y)) (sym p ∙ a) (sym p ∙ b ∙ q)
 
   pub refuses-32 : 3 ≤ length ws → c ≡ length t → (c ≡ n → ⊥) → RefusedText 32 c t ws ws
   refuses-32 h a b = subst (λ (z : ℕ). RefusedText 32 z t ws ws) (sym far) (at-32 t ws h (sym far ∙ a) (λ z. b (far ∙ z ∙ sym long)))

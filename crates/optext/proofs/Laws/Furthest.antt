@@ -13,8 +13,8 @@ use Rattle.optext.specs.declared.rows.Kind.the-variants.{None, Mask, Dis
 use Rattle.optext.specs.declared.reading.Operand.{Operand}
 use Rattle.optext.specs.First.{agree}
 use Rattle.optext.specs.Rows.{rowCount, nameOf, baseOf, firstOf, secondOf}
-use Rattle.optext.specs.Line.{rowOf, isShown, operandText, sepText, lineText}
-use Rattle.optext.specs.Guess.{headOf, rowAt, unPlain, unMode, unOp, guessA, guessB, guessOf}
+use Rattle.optext.specs.Line.{rowOf, isShown, operandText, sepText, opText}
+use Rattle.optext.specs.Guess.{headOf, rowFor, unPlain, unMode, unOp, guessA, guessB, guessOf}
 use Rattle.optext.proofs.Laws.Choose.{bool-cases}
 use Rattle.optext.proofs.Laws.Near.{Near}
 use Rattle.optext.proofs.Laws.Near.{near-nil, near-at, near-next, near-seq, whole-split}
@@ -58,41 +58,41 @@ op-word Src t = mode-word t
 op-word Word t = omega arith
 
 module _ (t : List ℕ) where
-  ok-1 : PartOk (firstOf (rowAt t)) (guessA t .part)
+  ok-1 : PartOk (firstOf (rowFor t)) (guessA t .part)
   unfolding guessA
-  ok-1 = part-ok (firstOf (rowAt t)) (drop (length (nameOf (rowAt t)) + 1) t)
+  ok-1 = part-ok (firstOf (rowFor t)) (drop (length (nameOf (rowFor t)) + 1) t)
 
-  ok-2 : PartOk (secondOf (rowAt t)) (guessB t .part)
+  ok-2 : PartOk (secondOf (rowFor t)) (guessB t .part)
   unfolding guessB
-  ok-2 = part-ok (secondOf (rowAt t)) (drop (length (nameOf (rowAt t)) + 1 + guessA t .len + 1) t)
+  ok-2 = part-ok (secondOf (rowFor t)) (drop (length (nameOf (rowFor t)) + 1 + guessA t .len + 1) t)
 
-  pub guess-w : guessOf t .w ≡ baseOf (rowAt t) + guessA t .part + guessB t .part
+  pub guess-w : guessOf t .w ≡ baseOf (rowFor t) + guessA t .part + guessB t .part
   unfolding guessOf
-  guess-w = let h = guess-lt (rowAt t) (guessA t .part) (guessB t .part) (rowAt-lt t) ok-1 ok-2 in omega arith
+  guess-w = let h = guess-lt (rowFor t) (guessA t .part) (guessB t .part) (rowAt-lt t) ok-1 ok-2 in omega arith
 
   pub lt-w : guessOf t .w < 65536
-  lt-w = rw guess-w (guess-lt (rowAt t) (guessA t .part) (guessB t .part) (rowAt-lt t) ok-1 ok-2)
+  lt-w = rw guess-w (guess-lt (rowFor t) (guessA t .part) (guessB t .part) (rowAt-lt t) ok-1 ok-2)
 
   pub lt-x : guessOf t .x < 65536
   unfolding guessOf guessA
-  lt-x = op-word (firstOf (rowAt t)) (drop (length (nameOf (rowAt t)) + 1) t)
+  lt-x = op-word (firstOf (rowFor t)) (drop (length (nameOf (rowFor t)) + 1) t)
 
   pub lt-y : guessOf t .y < 65536
   unfolding guessOf guessB
-  lt-y = op-word (secondOf (rowAt t)) (drop (length (nameOf (rowAt t)) + 1 + guessA t .len + 1) t)
+  lt-y = op-word (secondOf (rowFor t)) (drop (length (nameOf (rowFor t)) + 1 + guessA t .len + 1) t)
 
-  pub row-same : rowOf (guessOf t .w) ≡ rowAt t
-  row-same = rw guess-w (inside (rowAt t) (guessA t .part) (guessB t .part) (rowAt-lt t) ok-1 ok-2)
+  pub row-same : rowOf (guessOf t .w) ≡ rowFor t
+  row-same = rw guess-w (inside (rowFor t) (guessA t .part) (guessB t .part) (rowAt-lt t) ok-1 ok-2)
 
   -- the second operand with the comma, as it was read
   abbrev sepAgain : Kind → Operand → List ℕ
   sepAgain k o = cond (isShown k) (44 ∷ again k o) []
 
-  guess-line : lineText (guessOf t .w) (guessOf t .x) (guessOf t .y) ≡ headOf (rowAt t) ++ (again (firstOf (rowAt t)) (guessA t) ++ sepAgain (secondOf (rowAt t)) (guessB t))
+  guess-line : opText (guessOf t .w) (guessOf t .x) (guessOf t .y) ≡ headOf (rowFor t) ++ (again (firstOf (rowFor t)) (guessA t) ++ sepAgain (secondOf (rowFor t)) (guessB t))
   unfolding sepText guessOf
   guess-line =
       line-head (guessOf t .w) (guessOf t .x) (guessOf t .y) lt-w lt-x lt-y
-      ∙ rw (row-same, guess-w, part-1 (rowAt t) (guessA t .part) (guessB t .part) (guessA t .word) (rowAt-lt t) ok-1 ok-2, part-2 (rowAt t) (guessA t .part) (guessB t .part) (guessB t .word) (rowAt-lt t) ok-1 ok-2) refl
+      ∙ rw (row-same, guess-w, part-1 (rowFor t) (guessA t .part) (guessB t .part) (guessA t .word) (rowAt-lt t) ok-1 ok-2, part-2 (rowFor t) (guessA t .part) (guessB t .part) (guessB t .word) (rowAt-lt t) ok-1 ok-2) refl
 
 -- the second operand, after the comma
 near-sep : (s : Kind) (v : List ℕ) (w y : ℕ) → w < 65536 → y < 65536 → Allowed s w
@@ -116,8 +116,8 @@ near-operands f s u w x y lw lx ly a b =
         ∙ ap (λ (o : Operand). o .len) (op-back f w x (drop (length (operandText f w x)) u) lw lx)
 
 module _ (t : List ℕ) (w x y : ℕ) (lw : w < 65536) (lx : x < 65536) (ly : y < 65536) where
-  after-head : (k : ℕ) → k < rowCount → Allowed (firstOf k) w → Allowed (secondOf k) w → rowAt t ≡ k
-      → Near (drop (length (headOf k)) t) (operandText (firstOf k) w x ++ sepText 44 (secondOf k) w y) (again (firstOf (rowAt t)) (guessA t) ++ sepAgain t (secondOf (rowAt t)) (guessB t))
+  after-head : (k : ℕ) → k < rowCount → Allowed (firstOf k) w → Allowed (secondOf k) w → rowFor t ≡ k
+      → Near (drop (length (headOf k)) t) (operandText (firstOf k) w x ++ sepText 44 (secondOf k) w y) (again (firstOf (rowFor t)) (guessA t) ++ sepAgain t (secondOf (rowFor t)) (guessB t))
   unfolding guessA guessB
   after-head k h a b r = rw r (⊎-elim none some (bool-cases (isShown (firstOf k))))
     where
@@ -145,9 +145,9 @@ module _ (t : List ℕ) (w x y : ℕ) (lw : w < 65536) (lx : x < 65536) (ly : y 
       some e = rw (long e, move, ← drop-drop (A .len + 1) (length (nameOf k) + 1) t) (near-operands (firstOf k) (secondOf k) u w x y lw lx ly a b)
 
   -- THE GUESS IS NEAREST
-  pub nearest : Near t (lineText w x y) (lineText (guessOf t .w) (guessOf t .x) (guessOf t .y))
+  pub nearest : Near t (opText w x y) (opText (guessOf t .w) (guessOf t .x) (guessOf t .y))
   nearest =
       rw (line-head w x y lw lx ly, guess-line t)
-      (near-seq t (headOf (rowOf w)) (operandText (firstOf (rowOf w)) w x ++ sepText 44 (secondOf (rowOf w)) w y) (headOf (rowAt t))
-      (again (firstOf (rowAt t)) (guessA t) ++ sepAgain t (secondOf (rowAt t)) (guessB t)) (near-head t (rowOf w) (row-lt w))
+      (near-seq t (headOf (rowOf w)) (operandText (firstOf (rowOf w)) w x ++ sepText 44 (secondOf (rowOf w)) w y) (headOf (rowFor t))
+      (again (firstOf (rowFor t)) (guessA t) ++ sepAgain t (secondOf (rowFor t)) (guessB t)) (near-head t (rowOf w) (row-lt w))
       (λ e q. after-head (rowOf w) (row-lt w) (allowed-1 w lw) (allowed-2 w lw) (head-own t (rowOf w) (row-lt w) e)))

@@ -13,7 +13,7 @@ use lib.Seq.{getD-drop}
 use Rattle.optext.specs.First.{agree, bestFrom}
 use Rattle.optext.specs.Rows.{Row, rowCount, wordRow, rows, theRow, noRow, nameOf, firstOf}
 use Rattle.optext.specs.Line.{isShown}
-use Rattle.optext.specs.Guess.{headIn, headOf, headFar, rowAt}
+use Rattle.optext.specs.Guess.{headIn, headOf, headFar, rowFor}
 use Rattle.optext.proofs.Laws.Table.{row-count}
 use Rattle.optext.proofs.Laws.Choose.{eq-cases, lt-cases, bool-cases, both, both-left, both-right}
 use Rattle.optext.proofs.Laws.Near.{Near}
@@ -119,23 +119,23 @@ heads-free i j h g e =
     less : {m n : ℕ} → m < n → m ≡ n → ⊥
     less h e = omega arith
 
-pub rowAt-lt : (t : List ℕ) → rowAt t < rowCount
-unfolding rowAt
+pub rowAt-lt : (t : List ℕ) → rowFor t < rowCount
+unfolding rowFor
 rowAt-lt t = best-lt (headFar t) wordRow 1 0 rowCount (omega arith) (omega arith)
 
 -- no mnemonic agrees further with the text
-pub head-far : (t : List ℕ) (k : ℕ) → k < rowCount → agree t (headOf k) ≤ agree t (headOf (rowAt t))
-unfolding rowAt
+pub head-far : (t : List ℕ) (k : ℕ) → k < rowCount → agree t (headOf k) ≤ agree t (headOf (rowFor t))
+unfolding rowFor
 head-far t k h =
     best-le (headFar t) wordRow 1 0 k (⊎-elim (λ e. inl e) (λ e. inr (omega arith, omega arith)) (eq-cases k 0))
 
 -- and where the text begins with one, that is it
-pub head-own : (t : List ℕ) (k : ℕ) → k < rowCount → agree t (headOf k) ≡ length (headOf k) → rowAt t ≡ k
+pub head-own : (t : List ℕ) (k : ℕ) → k < rowCount → agree t (headOf k) ≡ length (headOf k) → rowFor t ≡ k
 head-own t k h e =
     let l = head-far t k h in
-    sym (heads-free k (rowAt t) h (rowAt-lt t) (agree-through t (headOf k) (headOf (rowAt t)) e (omega arith)))
+    sym (heads-free k (rowFor t) h (rowAt-lt t) (agree-through t (headOf k) (headOf (rowFor t)) e (omega arith)))
 
-pub near-head : (t : List ℕ) (k : ℕ) → k < rowCount → Near t (headOf k) (headOf (rowAt t))
+pub near-head : (t : List ℕ) (k : ℕ) → k < rowCount → Near t (headOf k) (headOf (rowFor t))
 near-head t k h = record { far = head-far t k h; whole = λ e. ap headOf (head-own t k h e) }
 
 drop-first : (t : List ℕ) (i : ℕ) → getD (drop i t) 0 0 ≡ getD t i 0

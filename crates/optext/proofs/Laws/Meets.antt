@@ -11,8 +11,8 @@ use Rattle.optext.specs.declared.Written.{Written}
 use Rattle.optext.specs.declared.Written.the-variants.{Line, TextShort, NoWords, WordMissing}
 use Rattle.hexdigits.specs.Over.{Wrote}
 use Rattle.optext.specs.Rows.{wordRow, nameOf, baseOf, firstOf, secondOf}
-use Rattle.optext.specs.Line.{rowOf, operandText, takes, sepText, rowText, wordText, lineText, taken, textOf}
-use Rattle.optext.specs.Guess.{rowAt, unOp, guess, guessA, guessB, guessOf}
+use Rattle.optext.specs.Line.{rowOf, operandText, takes, sepText, rowText, wordText, opText, taken, textOf}
+use Rattle.optext.specs.Guess.{rowFor, unOp, guess, guessA, guessB, guessOf}
 use Rattle.refusal.specs.Page.{left}
 use Rattle.optext.specs.Answer.{writtenPage, writeWhy, writeOf, Writes, writeWordOf}
 use Rattle.optext.specs.Column.{Whole}
@@ -60,7 +60,7 @@ module _ (w : ℕ) (b : List ℕ) where
   word-line e n h u = rw (le-ltb (length b) 32 h, u .count, u .bytes) refl
 
 -- what the code of the guess computes, step by step
-pub decode-is : (t : List ℕ) (k n b v w : ℕ) (f s : Kind) (A B : Operand) → k ≡ rowAt t → n ≡ length (nameOf k) → f ≡ firstOf k → s ≡ secondOf k → b ≡ baseOf k
+pub decode-is : (t : List ℕ) (k n b v w : ℕ) (f s : Kind) (A B : Operand) → k ≡ rowFor t → n ≡ length (nameOf k) → f ≡ firstOf k → s ≡ secondOf k → b ≡ baseOf k
     → A ≡ unOp f (drop (n + 1) t) → B ≡ unOp s (drop (n + 1 + A .len + 1) t) → v ≡ (b + A .part) % 2 ^ 16 → w ≡ (v + B .part) % 2 ^ 16
     → guess w (A .word) (B .word) ≡ guessOf t
 unfolding guessOf guessB guessA
@@ -70,14 +70,14 @@ decode-is t k n b v w f s A B e1 e2 e3 e4 e5 e6 e7 e8 e9 =
     rw (e9, e8, e5, e1, q, a) refl
 
 -- the line in the word's own row is the word's line
-pub own-row : (k w x y n : ℕ) (b e : List ℕ) → k ≡ rowOf w → Wrote (rowText k w x y) b e n → Wrote (lineText w x y) b e n
-unfolding lineText
+pub own-row : (k w x y n : ℕ) (b e : List ℕ) → k ≡ rowOf w → Wrote (rowText k w x y) b e n → Wrote (opText w x y) b e n
+unfolding opText
 own-row k w x y n b e q h = subst (λ (j : ℕ). Wrote (rowText j w x y) b e n) q h
 
 -- operands of the same text make the same line
 line-cong : (w x y x' y' : ℕ) → operandText (firstOf (rowOf w)) w x ≡ operandText (firstOf (rowOf w)) w x' → operandText (secondOf (rowOf w)) w y ≡ operandText (secondOf (rowOf w)) w y'
-    → lineText w x y ≡ lineText w x' y'
-unfolding lineText sepText
+    → opText w x y ≡ opText w x' y'
+unfolding opText sepText
 line-cong w x y x' y' p q = rw (p, q) refl
 
 -- each of up to three words
@@ -94,11 +94,11 @@ three a b c l m n zero = l
 three a b c l m n (suc i) = two b c m n i
 
 module _ (w x y : ℕ) (lw : w < 65536) where
-  pub text-words : textOf (wordsOf w x y) ≡ lineText w x y
+  pub text-words : textOf (wordsOf w x y) ≡ opText w x y
   unfolding textOf wordsOf own
   text-words = go (takes (firstOf (rowOf w)) w) (takes (secondOf (rowOf w)) w) refl refl
     where
-      go : (m n : ℕ) → takes (firstOf (rowOf w)) w ≡ m → takes (secondOf (rowOf w)) w ≡ n → textOf (wordsOf w x y) ≡ lineText w x y
+      go : (m n : ℕ) → takes (firstOf (rowOf w)) w ≡ m → takes (secondOf (rowOf w)) w ≡ n → textOf (wordsOf w x y) ≡ opText w x y
       go zero zero e f = rw (e, f) (line-cong w 0 0 x y (op-ignores (firstOf (rowOf w)) w 0 x e) (op-ignores (secondOf (rowOf w)) w 0 y f))
       go zero (suc zero) e f = rw (e, f) (line-cong w y y x y (op-ignores (firstOf (rowOf w)) w y x e) refl)
       go (suc zero) zero e f = rw (e, f) (line-cong w x 0 x y refl (op-ignores (secondOf (rowOf w)) w 0 y f))
@@ -141,7 +141,7 @@ unfolding wordsOf own
 words-1 w x y m n e f p q = rw (← e, ← f, ne-eqb m 1 p, ne-eqb n 1 q) refl
 
 -- the reader's answer to a text that the writer makes, from the guess
-pub accepts : (t ws e : List ℕ) (n w x y : ℕ) → w < 65536 → x < 65536 → y < 65536 → 3 ≤ length ws → lineText w x y ≡ t → Wrote (wordsOf w x y) ws e n
+pub accepts : (t ws e : List ℕ) (n w x y : ℕ) → w < 65536 → x < 65536 → y < 65536 → 3 ≤ length ws → opText w x y ≡ t → Wrote (wordsOf w x y) ws e n
     → ((vs : List ℕ) → Whole vs → textOf vs ≡ t → vs ≡ wordsOf w x y) → Accepts t ws e n
 accepts t ws e n w x y lw lx ly h q v o =
     let s : take n e ≡ wordsOf w x y = wrote-take (wordsOf w x y) ws e n v in

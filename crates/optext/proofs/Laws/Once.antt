@@ -7,7 +7,7 @@ use native.Mathlib.Decide.{decLt}
 use native.Mathlib.Omega.{arith}
 use lib.ListN.{length, take}
 use lib.Seq.{take-take}
-use Rattle.hexdigits.specs.Over.{over}
+use Rattle.hexdigits.specs.Over.{inFrontOf}
 use Rattle.optext.specs.Line.{textOf}
 use Rattle.refusal.specs.Page.{Page, refused, refusedAt, answered}
 use Rattle.optext.specs.Column.{Begins, Column, Why, early, after, name, operand}
@@ -65,7 +65,7 @@ pub reads-one : (t ws e e' : List ℕ) (a a' : Page ℕ) → Reads a t ws e → 
 reads-one t ws e e' (answered n) (answered m) p q =
     let s : take n e ≡ take m e' = q .only (take n e) (p .whole) (p .text) in
     let k : n ≡ m = p .count ∙ ap length s ∙ sym (q .count) in
-    (ap answered k, p .rest ∙ ap (λ (l : List ℕ). over l ws) s ∙ sym (q .rest))
+    (ap answered k, p .rest ∙ ap (λ (l : List ℕ). inFrontOf l ws) s ∙ sym (q .rest))
 reads-one t ws e e' (answered n) (refused r) p q = absurd (not-less (length ws) (p .room) (q .1 .room))
 reads-one t ws e e' (refused r) (answered n) p q = absurd (not-less (length ws) (q .room) (p .1 .room))
 reads-one t ws e e' (answered n) (refusedAt r c) p q = absurd (q .none (record { words = take n e; whole = p .whole; text = p .text }))

@@ -15,7 +15,7 @@ use Rattle.optext.specs.declared.rows.Kind.the-variants.{None, Mask, Dis
 use Rattle.optext.specs.declared.reading.Operand.{Operand}
 use Rattle.optext.specs.Digits.{unHex, unHex2, unHex4}
 use Rattle.optext.specs.Line.{regA, regB, regText, upText, literalText, downText, offsetText, plainText, modeText, operandText, addressed, isReserved, reservedFrom}
-use Rattle.optext.specs.Guess.{op, unReg, notPc, unPlain, unMode, unCount, unOp}
+use Rattle.optext.specs.Guess.{operandRead, unReg, notPc, unPlain, unMode, unCount, unOp}
 use Rattle.optext.proofs.Laws.Choose.{eq-cases, lt-cases}
 use Rattle.optext.proofs.Laws.Near.{Near, near-nil, near-next, near-at, near-seq, near-refl, near-off}
 use Rattle.optext.proofs.Laws.Forms.{plain-reg, plain-pc, plain-up, plain-down, plain-offset, mode-plain, mode-at}
@@ -66,23 +66,23 @@ notPc-lt r h = ⊎-elim (λ e. rw (eq-eqb r 7 e) (omega arith)) (λ e. rw (ne-eq
 abbrev plainOf : Operand → List ℕ
 plainOf o = plainText (o .part / 16) (o .part % 8) (o .word)
 
-read-reg : (c : ℕ) (u : List ℕ) → 71 ≤ c → unPlain (c ∷ u) ≡ op (unReg c (getD u 0 0)) 0 2
+read-reg : (c : ℕ) (u : List ℕ) → 71 ≤ c → unPlain (c ∷ u) ≡ operandRead (unReg c (getD u 0 0)) 0 2
 unfolding unPlain
 read-reg c u h = rw (ne-eqb c 40 (λ e. omega arith), ne-eqb c 45 (λ e. omega arith), ne-eqb c 35 (λ e. omega arith), le-ltb c 71 h) refl
 
-read-offset : (c : ℕ) (u : List ℕ) → 48 ≤ c → c < 71 → unPlain (c ∷ u) ≡ op (48 + unReg (getD u 4 0) (getD u 5 0)) (unHex4 (c ∷ u)) 8
+read-offset : (c : ℕ) (u : List ℕ) → 48 ≤ c → c < 71 → unPlain (c ∷ u) ≡ operandRead (48 + unReg (getD u 4 0) (getD u 5 0)) (unHex4 (c ∷ u)) 8
 unfolding unPlain
 read-offset c u h g = rw (ne-eqb c 40 (λ e. omega arith), ne-eqb c 45 (λ e. omega arith), ne-eqb c 35 (λ e. omega arith), lt-ltb c 71 g) refl
 
-read-up : (u : List ℕ) → unPlain (40 ∷ u) ≡ op (16 + notPc (unReg (getD u 0 0) (getD u 1 0))) 0 5
+read-up : (u : List ℕ) → unPlain (40 ∷ u) ≡ operandRead (16 + notPc (unReg (getD u 0 0) (getD u 1 0))) 0 5
 unfolding unPlain
 read-up u = refl
 
-read-down : (u : List ℕ) → unPlain (45 ∷ u) ≡ op (32 + unReg (getD u 1 0) (getD u 2 0)) 0 5
+read-down : (u : List ℕ) → unPlain (45 ∷ u) ≡ operandRead (32 + unReg (getD u 1 0) (getD u 2 0)) 0 5
 unfolding unPlain
 read-down u = refl
 
-read-literal : (u : List ℕ) → unPlain (35 ∷ u) ≡ op 23 (unHex4 u) 5
+read-literal : (u : List ℕ) → unPlain (35 ∷ u) ≡ operandRead 23 (unHex4 u) 5
 unfolding unPlain
 read-literal u = refl
 

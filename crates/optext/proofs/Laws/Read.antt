@@ -5,28 +5,28 @@ use mathlib.Core.Path.{_≡_, refl, sym}
 use borrow.Author.Tests.{eq-eqb, eqb-true}
 use Prim.Native.Nat.{ℕ}
 use lib.Dec.{eqb}
-use Rattle.optext.specs.Read.{same}
+use Rattle.optext.specs.Read.{sameText}
 
 -- laws of the comparison
-pub same-refl : (a : List ℕ) → same a a ≡ true
+pub same-refl : (a : List ℕ) → sameText a a ≡ true
 same-refl [] = refl
 same-refl (x ∷ xs) = rw (eq-eqb x x refl) (same-refl xs)
 
-pub same-eq : (a b : List ℕ) → same a b ≡ true → a ≡ b
+pub same-eq : (a b : List ℕ) → sameText a b ≡ true → a ≡ b
 same-eq [] [] e = refl
 same-eq [] (y ∷ ys) e = cc
 same-eq (x ∷ xs) [] e = cc
 same-eq (x ∷ xs) (y ∷ ys) e = go (eqb x y) refl (λ q. same-eq xs ys q) e
   where
-    go : (t : Bool) → eqb x y ≡ t → (same xs ys ≡ true → xs ≡ ys) → cond t (same xs ys) false ≡ true → x ∷ xs ≡ y ∷ ys
+    go : (t : Bool) → eqb x y ≡ t → (sameText xs ys ≡ true → xs ≡ ys) → cond t (sameText xs ys) false ≡ true → x ∷ xs ≡ y ∷ ys
     go true p r q = rw (eqb-true x y p, r q) refl
     go false p r q = cc
 
 -- what a function that tells whether two texts are equal answers
-pub same-is : (r : Bool) (a b : List ℕ) → (r ≡ true → a ≡ b) → (a ≡ b → r ≡ true) → r ≡ same a b
+pub same-is : (r : Bool) (a b : List ℕ) → (r ≡ true → a ≡ b) → (a ≡ b → r ≡ true) → r ≡ sameText a b
 same-is true a b p q = sym (rw (p refl) (same-refl b))
-same-is false a b p q = go (same a b) refl
+same-is false a b p q = go (sameText a b) refl
   where
-    go : (t : Bool) → same a b ≡ t → false ≡ t
+    go : (t : Bool) → sameText a b ≡ t → false ≡ t
     go true e = q (same-eq a b e)
     go false e = refl

@@ -11,12 +11,12 @@ use lib.ListN.{length, take, drop, getD, length-append, List·getD-append}
 use Rattle.hexdigits.specs.Digits.{letters, hex4}
 use Rattle.optext.specs.Digits.{unHex4}
 use Rattle.optext.specs.Rows.{wordRow, rowCount, rows, theRow, nameOf, firstOf, secondOf}
-use Rattle.optext.specs.Line.{rowOf, takes, taken, sepText, lineText, textOf, wordText}
-use Rattle.optext.specs.Guess.{rowAt, guessA, guessB, guessOf}
+use Rattle.optext.specs.Line.{rowOf, takes, taken, sepText, opText, textOf, wordText}
+use Rattle.optext.specs.Guess.{rowFor, guessA, guessB, guessOf}
 use Rattle.refusal.specs.Page.{answered}
 use Rattle.optext.specs.Column.{Whole, IsText}
 use Rattle.optext.specs.Words.{Reads, wordsOf}
-use Rattle.optext.specs.Read.{same, readFrom, readOf}
+use Rattle.optext.specs.Read.{sameText, readFrom, wordsOfText}
 use Rattle.optext.proofs.Laws.Read.{same-refl, same-eq}
 use Rattle.optext.proofs.Laws.Choose.{at}
 use Rattle.optext.proofs.Laws.Back.{hex4-back}
@@ -28,39 +28,39 @@ use Rattle.optext.proofs.Laws.Columns.{own-line}
 use Rattle.optext.proofs.Laws.Theorems.{wordsIn, guess-words}
 
 -- THE TEXT OF AN OP CODE GIVES ITS WORDS
-pub read-of-text : (vs : List ℕ) → Whole vs → readOf (textOf vs) ≡ vs
-unfolding readOf readFrom wordsIn guessLine
+pub read-of-text : (vs : List ℕ) → Whole vs → wordsOfText (textOf vs) ≡ vs
+unfolding wordsOfText readFrom wordsIn guessLine
 read-of-text vs h =
-    let e : lineText (guessOf (textOf vs) .w) (guessOf (textOf vs) .x) (guessOf (textOf vs) .y) ≡ textOf vs = own-line (textOf vs) (record { words = vs; whole = h; text = refl }) in
-    let s : same (lineText (guessOf (textOf vs) .w) (guessOf (textOf vs) .x) (guessOf (textOf vs) .y)) (textOf vs) ≡ true = rw e (same-refl (textOf vs)) in
+    let e : opText (guessOf (textOf vs) .w) (guessOf (textOf vs) .x) (guessOf (textOf vs) .y) ≡ textOf vs = own-line (textOf vs) (record { words = vs; whole = h; text = refl }) in
+    let s : sameText (opText (guessOf (textOf vs) .w) (guessOf (textOf vs) .x) (guessOf (textOf vs) .y)) (textOf vs) ≡ true = rw e (same-refl (textOf vs)) in
     rw s (guess-words vs h)
 
 -- and a text that gives words is theirs
-pub read-of-words : (t : List ℕ) → 0 < length (readOf t) → Whole (readOf t) × (textOf (readOf t) ≡ t)
-unfolding readOf readFrom
-read-of-words t h = go (same (lineText (guessOf t .w) (guessOf t .x) (guessOf t .y)) t) refl h
+pub read-of-words : (t : List ℕ) → 0 < length (wordsOfText t) → Whole (wordsOfText t) × (textOf (wordsOfText t) ≡ t)
+unfolding wordsOfText readFrom
+read-of-words t h = go (sameText (opText (guessOf t .w) (guessOf t .x) (guessOf t .y)) t) refl h
   where
     ws : List ℕ
     ws = wordsOf (guessOf t .w) (guessOf t .x) (guessOf t .y)
 
-    go : (b : Bool) → same (lineText (guessOf t .w) (guessOf t .x) (guessOf t .y)) t ≡ b → 0 < length (cond b ws [])
+    go : (b : Bool) → sameText (opText (guessOf t .w) (guessOf t .x) (guessOf t .y)) t ≡ b → 0 < length (cond b ws [])
         → Whole (cond b ws []) × (textOf (cond b ws []) ≡ t)
     go true e h = (whole-words (guessOf t .w) (guessOf t .x) (guessOf t .y) (lt-w t) (lt-x t) (lt-y t), text-words (guessOf t .w) (guessOf t .x) (guessOf t .y) (lt-w t) ∙ same-eq _ t e)
     go false e h = absurd (omega arith)
 
 -- the reader answers these words, and a refusal where there are none
-pub read-answers : (t ws e : List ℕ) (n : ℕ) → Reads (answered n) t ws e → readOf t ≡ take n e
-read-answers t ws e n p = ap readOf (sym (p .text)) ∙ read-of-text (take n e) (p .whole)
+pub read-answers : (t ws e : List ℕ) (n : ℕ) → Reads (answered n) t ws e → wordsOfText t ≡ take n e
+read-answers t ws e n p = ap wordsOfText (sym (p .text)) ∙ read-of-text (take n e) (p .whole)
 
-pub read-refuses : (t : List ℕ) → (IsText t → ⊥) → readOf t ≡ []
-read-refuses t d = go (readOf t) refl
+pub read-refuses : (t : List ℕ) → (IsText t → ⊥) → wordsOfText t ≡ []
+read-refuses t d = go (wordsOfText t) refl
   where
-    go : (l : List ℕ) → readOf t ≡ l → readOf t ≡ []
+    go : (l : List ℕ) → wordsOfText t ≡ l → wordsOfText t ≡ []
     go [] e = e
     go (x ∷ l) e =
-        let k : length (readOf t) ≡ suc (length l) = ap length e in
+        let k : length (wordsOfText t) ≡ suc (length l) = ap length e in
         let z = read-of-words t (omega arith) in
-        absurd (d (record { words = readOf t; whole = z .0; text = z .1 }))
+        absurd (d (record { words = wordsOfText t; whole = z .0; text = z .1 }))
 
 -- ---- .WORD and .ORG before four digits
 
@@ -78,15 +78,15 @@ dot-row k h = go (ltb 0 (length (nameOf k))) refl (eqb (getD (nameOf k) 0 0) 46)
     go true p false q t = (ltb-true _ _ p, λ e. absurd (eqb-false _ 46 q e))
     go false p b q t = absurd t
 
-first-letter : (w x y : ℕ) → getD (lineText w x y) 0 0 ≡ getD (nameOf (rowOf w)) 0 0
-unfolding lineText
+first-letter : (w x y : ℕ) → getD (opText w x y) 0 0 ≡ getD (nameOf (rowOf w)) 0 0
+unfolding opText
 first-letter w x y =
     let h = dot-row (rowOf w) (row-lt w) .0 in
     List·getD-append (nameOf (rowOf w) ++ sepText 32 (firstOf (rowOf w)) w x) (sepText 44 (secondOf (rowOf w)) w y) 0 0 (simp length-append (omega arith))
     ∙ List·getD-append (nameOf (rowOf w)) (sepText 32 (firstOf (rowOf w)) w x) 0 0 h
 
-word-text : (w x y : ℕ) → rowOf w ≡ wordRow → lineText w x y ≡ letters ".WORD " ++ hex4 w
-unfolding lineText sepText theRow rows hex4
+word-text : (w x y : ℕ) → rowOf w ≡ wordRow → opText w x y ≡ letters ".WORD " ++ hex4 w
+unfolding opText sepText theRow rows hex4
 word-text w x y e = rw e refl
 
 none-taken : (w : ℕ) → 1 + takes (firstOf wordRow) w + takes (secondOf wordRow) w ≡ 1
@@ -115,23 +115,23 @@ same-digits v w lv lw e =
     sym (hex4-back v [] lv) ∙ ap unHex4 d ∙ hex4-back w [] lw
 
 -- .WORD of any word is no text, or its own word's
-pub read-word : (w : ℕ) → w < 65536 → (readOf (letters ".WORD " ++ hex4 w) ≡ []) ⊎ (readOf (letters ".WORD " ++ hex4 w) ≡ w ∷ [])
-read-word w h = go (readOf t) refl
+pub read-word : (w : ℕ) → w < 65536 → (wordsOfText (letters ".WORD " ++ hex4 w) ≡ []) ⊎ (wordsOfText (letters ".WORD " ++ hex4 w) ≡ w ∷ [])
+read-word w h = go (wordsOfText t) refl
   where
     t : List ℕ
     t = letters ".WORD " ++ hex4 w
 
-    go : (l : List ℕ) → readOf t ≡ l → (readOf t ≡ []) ⊎ (readOf t ≡ w ∷ [])
+    go : (l : List ℕ) → wordsOfText t ≡ l → (wordsOfText t ≡ []) ⊎ (wordsOfText t ≡ w ∷ [])
     go [] e = inl e
     go (x ∷ l) e =
-        let k : length (readOf t) ≡ suc (length l) = ap length e in
+        let k : length (wordsOfText t) ≡ suc (length l) = ap length e in
         let z = read-of-words t (omega arith) in
-        let p = pointed (readOf t) (z .0) (ap (λ (s : List ℕ). getD s 0 0) (z .1)) in
-        let q : getD (readOf t) 0 0 ≡ w = same-digits _ w (z .0 .words 0) h (sym (p .1) ∙ z .1) in
+        let p = pointed (wordsOfText t) (z .0) (ap (λ (s : List ℕ). getD s 0 0) (z .1)) in
+        let q : getD (wordsOfText t) 0 0 ≡ w = same-digits _ w (z .0 .words 0) h (sym (p .1) ∙ z .1) in
         inr (p .0 ∙ ap (λ (v : ℕ). v ∷ []) q)
 
 -- .ORG is none
-pub read-origin : (a : ℕ) → readOf (letters ".ORG " ++ hex4 a) ≡ []
+pub read-origin : (a : ℕ) → wordsOfText (letters ".ORG " ++ hex4 a) ≡ []
 read-origin a = read-refuses t (λ i. no-letter (other i))
   where
     t : List ℕ
@@ -146,8 +146,8 @@ read-origin a = read-refuses t (λ i. no-letter (other i))
     no-letter e = omega (arith, e)
 
 -- no characters are no text
-pub read-nothing : readOf [] ≡ []
-unfolding readOf readFrom lineText theRow rows rowOf guessOf rowAt guessA guessB
+pub read-nothing : wordsOfText [] ≡ []
+unfolding wordsOfText readFrom opText theRow rows rowOf guessOf rowFor guessA guessB
 read-nothing = refl
 
 -- the writer's .WORD of any word is the name and four digits

@@ -10,12 +10,12 @@ use Rattle.hexdigits.specs.Digits.{letters, digits, hexOf, hex4, hex2}
 use Rattle.optext.specs.declared.rows.Kind.{Kind}
 use Rattle.optext.specs.declared.rows.Kind.the-variants.{None, Mask, Disp, Reg, Arg4, Arg6, Count, High, Mid, Dst, Addr, Src, Word}
 use Rattle.optext.specs.Rows.{rowCount, rows, theRow, nameOf, firstOf, secondOf}
-use Rattle.optext.specs.Line.{registers, regA, regB, regText, upText, literalText, downText, offsetText, plainText, modeText, rowOf, sepText, rowText, wordText, lineText, textOf}
+use Rattle.optext.specs.Line.{registers, regA, regB, regText, upText, literalText, downText, offsetText, plainText, modeText, rowOf, sepText, rowText, wordText, opText, textOf}
 use Rattle.optext.proofs.Laws.Choose.{both, both-left, both-right, at}
 use Rattle.optext.proofs.Laws.Longest.{text-le}
 use Rattle.optext.proofs.Laws.Reader.{any-word-text}
 use Rattle.optext.proofs.Laws.Trip.{row-lt}
-use Rattle.optext.specs.Shown.{other, Other, Without, none, more, lastOf, Stands}
+use Rattle.optext.specs.Shown.{other, OtherLetter, Without, none, more, lastLetter, Stands}
 
 -- ---- laws of these
 
@@ -23,7 +23,7 @@ pub without-append : {c : ℕ} {s t : List ℕ} → Without c s → Without c t 
 without-append none q = q
 without-append (more o p) q = more o (without-append p q)
 
-pub without-at : (c : ℕ) (t : List ℕ) (k : ℕ) → Other c 0 → Without c t → Other c (getD t k 0)
+pub without-at : (c : ℕ) (t : List ℕ) (k : ℕ) → OtherLetter c 0 → Without c t → OtherLetter c (getD t k 0)
 without-at c [] k z p = z
 without-at c (x ∷ t) zero z (more o p) = o
 without-at c (x ∷ t) (suc k) z (more o p) = without-at c t k z p
@@ -37,11 +37,11 @@ computed : (c : ℕ) (t : List ℕ) → T (lacks c t) → Without c t
 computed c [] h = none
 computed c (x ∷ t) h = more (record { is = both-left (other c x) (lacks c t) h }) (computed c t (both-right (other c x) (lacks c t) h))
 
-last-append : (d : ℕ) (s t : List ℕ) → lastOf d (s ++ t) ≡ lastOf (lastOf d s) t
+last-append : (d : ℕ) (s t : List ℕ) → lastLetter d (s ++ t) ≡ lastLetter (lastLetter d s) t
 last-append d [] t = refl
 last-append d (x ∷ s) t = last-append x s t
 
-last-other : (c d : ℕ) (t : List ℕ) → Other c d → Without c t → Other c (lastOf d t)
+last-other : (c d : ℕ) (t : List ℕ) → OtherLetter c d → Without c t → OtherLetter c (lastLetter d t)
 last-other c d [] p q = p
 last-other c d (x ∷ t) p (more o q) = last-other c x t o q
 
@@ -52,23 +52,23 @@ either P false s t p q = q
 
 -- ---- digits and registers are neither a colon nor a space
 
-digit : (d : ℕ) → Other 58 (hexOf d)
+digit : (d : ℕ) → OtherLetter 58 (hexOf d)
 unfolding hexOf digits
 digit d = without-at 58 digits d (record { is = tt }) (computed 58 digits tt)
 
-last-digit : (d : ℕ) → Other 32 (hexOf d)
+last-digit : (d : ℕ) → OtherLetter 32 (hexOf d)
 unfolding hexOf digits
 last-digit d = without-at 32 digits d (record { is = tt }) (computed 32 digits tt)
 
-first-letter : (r : ℕ) → Other 58 (regA r)
+first-letter : (r : ℕ) → OtherLetter 58 (regA r)
 unfolding regA registers
 first-letter r = without-at 58 registers (r * 2) (record { is = tt }) (computed 58 registers tt)
 
-second-letter : (r : ℕ) → Other 58 (regB r)
+second-letter : (r : ℕ) → OtherLetter 58 (regB r)
 unfolding regB registers
 second-letter r = without-at 58 registers (r * 2 + 1) (record { is = tt }) (computed 58 registers tt)
 
-last-letter : (r : ℕ) → Other 32 (regB r)
+last-letter : (r : ℕ) → OtherLetter 32 (regB r)
 unfolding regB registers
 last-letter r = without-at 32 registers (r * 2 + 1) (record { is = tt }) (computed 32 registers tt)
 
@@ -76,7 +76,7 @@ last-letter r = without-at 32 registers (r * 2 + 1) (record { is = tt }) (comput
 
 record Plain (t : List ℕ) : Type 0 where
   pub colon : Without 58 t
-  pub ending : (d : ℕ) → Other 32 (lastOf d t)
+  pub ending : (d : ℕ) → OtherLetter 32 (lastLetter d t)
 
 two-digits : (x : ℕ) → Plain (hex2 x)
 unfolding hex2
@@ -94,10 +94,10 @@ register r = record { colon = more (first-letter r) (more (second-letter r) none
 signed : (x : ℕ) (t : List ℕ) → T (other 58 x) → Plain t → Plain (x ∷ t)
 signed x t o p = record { colon = more (record { is = o }) (p .colon); ending = λ d. p .ending x }
 
-closed : (r : ℕ) (t : List ℕ) → T (lacks 58 t) → T (other 32 (lastOf 32 t)) → Plain (regA r ∷ regB r ∷ t)
+closed : (r : ℕ) (t : List ℕ) → T (lacks 58 t) → T (other 32 (lastLetter 32 t)) → Plain (regA r ∷ regB r ∷ t)
 closed r t o e = record { colon = more (first-letter r) (more (second-letter r) (computed 58 t o)); ending = λ d. last (regB r) t e }
   where
-    last : (d : ℕ) (t : List ℕ) → T (other 32 (lastOf 32 t)) → Other 32 (lastOf d t)
+    last : (d : ℕ) (t : List ℕ) → T (other 32 (lastLetter 32 t)) → OtherLetter 32 (lastLetter d t)
     last d [] e = absurd e
     last d (x ∷ t) e = record { is = e }
 
@@ -118,7 +118,7 @@ mode f x = either Plain (eqb (f / 8 % 2) 0) _ _ (plain (f / 16) (f % 8) x) (sign
 -- an operand after its separator s, or nothing: no space ends both where none ends what stands before
 record Behind (t : List ℕ) : Type 0 where
   pub colon : Without 58 t
-  pub ending : (d : ℕ) → Other 32 d → Other 32 (lastOf d t)
+  pub ending : (d : ℕ) → OtherLetter 32 d → OtherLetter 32 (lastLetter d t)
 
 module _ (s : ℕ) (o : T (other 58 s)) where
   after : {t : List ℕ} → Plain t → Behind (s ∷ t)
@@ -177,7 +177,7 @@ four-long x = refl
 
 -- the text of any op code; digits after any text, as in .WORD of any word
 pub text-stands : (vs : List ℕ) → Stands (textOf vs)
-unfolding textOf lineText
+unfolding textOf opText
 text-stands vs = row-stands (rowOf (getD vs 0 0)) _ _ _ (row-lt (getD vs 0 0)) (let h = text-le vs in omega arith)
 
 pub number-stands : (t : List ℕ) (x : ℕ) → length t ≤ 28 → T (lacks 58 t) → Stands (t ++ hex4 x)

@@ -12,37 +12,37 @@ use lib.Seq.{getD-drop, drop-append-add}
 use Rattle.optext.specs.declared.rows.Kind.{Kind}
 use Rattle.optext.specs.declared.rows.Kind.the-variants.{None, Mask, Disp, Reg, Arg4, Arg6, Count, High, Mid, Dst, Addr, Src, Word}
 use Rattle.hexdigits.specs.Digits.{hex4}
-use Rattle.optext.specs.Rows.{Row, rowCount, rowWidth, rows, theRow, noRow, nameOf, baseOf, firstOf, secondOf, lineOf, flat, letterOf, kindAs}
+use Rattle.optext.specs.Rows.{Row, rowCount, rowWidth, rows, theRow, noRow, nameOf, baseOf, firstOf, secondOf, rowBytes, tableBytes, letterOf, kindAs}
 use Rattle.optext.specs.Line.{isShown}
 use Rattle.optext.proofs.Laws.Choose.{lt-cases, at}
 
 -- from a row's place on, the flat table begins with the row
-pub flat-drop : (rs : List Row) (k : ℕ) → k < length rs → drop (k * rowWidth) (flat rs) ≡ lineOf (getD rs k noRow) ++ drop (k * rowWidth + rowWidth) (flat rs)
+pub flat-drop : (rs : List Row) (k : ℕ) → k < length rs → drop (k * rowWidth) (tableBytes rs) ≡ rowBytes (getD rs k noRow) ++ drop (k * rowWidth + rowWidth) (tableBytes rs)
 unfolding hex4
 flat-drop [] k h = absurd (omega arith)
 flat-drop (r ∷ rs) zero h = refl
 flat-drop (r ∷ rs) (suc k) h =
     let e : suc k * rowWidth ≡ rowWidth + k * rowWidth = omega arith in
     let g : suc k * rowWidth + rowWidth ≡ rowWidth + (k * rowWidth + rowWidth) = omega arith in
-    rw (g, e) (drop-append-add (lineOf r) (flat rs) (k * rowWidth) ∙ flat-drop rs k (omega arith)
-    ∙ ap (λ (l : List ℕ). lineOf (getD rs k noRow) ++ l) (sym (drop-append-add (lineOf r) (flat rs) (k * rowWidth + rowWidth))))
+    rw (g, e) (drop-append-add (rowBytes r) (tableBytes rs) (k * rowWidth) ∙ flat-drop rs k (omega arith)
+    ∙ ap (λ (l : List ℕ). rowBytes (getD rs k noRow) ++ l) (sym (drop-append-add (rowBytes r) (tableBytes rs) (k * rowWidth + rowWidth))))
 
 pub row-count : length rows ≡ rowCount
 unfolding rows
 row-count = refl
 
-pub flat-length : length (flat rows) ≡ rowCount * rowWidth
+pub flat-length : length (tableBytes rows) ≡ rowCount * rowWidth
 unfolding rows hex4
 flat-length = refl
 
-pub table-at : (k i : ℕ) → k < rowCount → i < rowWidth → getD (flat rows) (k * rowWidth + i) 0 ≡ getD (lineOf (theRow k)) i 0
+pub table-at : (k i : ℕ) → k < rowCount → i < rowWidth → getD (tableBytes rows) (k * rowWidth + i) 0 ≡ getD (rowBytes (theRow k)) i 0
 unfolding theRow hex4
 table-at k i h g =
-    sym (getD-drop (k * rowWidth) (flat rows) i 0) ∙ ap (λ (l : List ℕ). getD l i 0) (flat-drop rows k (rw row-count h))
-    ∙ List·getD-append (lineOf (getD rows k noRow)) (drop (k * rowWidth + rowWidth) (flat rows)) 0 i g
+    sym (getD-drop (k * rowWidth) (tableBytes rows) i 0) ∙ ap (λ (l : List ℕ). getD l i 0) (flat-drop rows k (rw row-count h))
+    ∙ List·getD-append (rowBytes (getD rows k noRow)) (drop (k * rowWidth + rowWidth) (tableBytes rows)) 0 i g
 
 -- the five places of a mnemonic
-pub line-name : (r : Row) (i : ℕ) → i < 5 → getD (lineOf r) i 0 ≡ getD (r .name) i 32
+pub line-name : (r : Row) (i : ℕ) → i < 5 → getD (rowBytes r) i 0 ≡ getD (r .name) i 32
 line-name r zero h = refl
 line-name r (suc zero) h = refl
 line-name r (suc (suc zero)) h = refl
@@ -99,15 +99,15 @@ unfolding noSpace theRow rows
 name-space k i h g e = no-space (nameOf k) i (at (λ k. noSpace (nameOf k)) rowCount tt k h) g e
 
 -- where a mnemonic ends: at the first space of its five places
-pub name-ends : (k i c : ℕ) → k < rowCount → i ≤ length (nameOf k) → i < 5 → c ≡ getD (lineOf (theRow k)) i 0 → c ≡ 32 → i ≡ length (nameOf k)
+pub name-ends : (k i c : ℕ) → k < rowCount → i ≤ length (nameOf k) → i < 5 → c ≡ getD (rowBytes (theRow k)) i 0 → c ≡ 32 → i ≡ length (nameOf k)
 name-ends k i c h l g e q =
     ⊎-elim (λ m. absurd (name-space k i h m (sym (line-name (theRow k) i g) ∙ sym e ∙ q))) (λ m. omega arith) (lt-cases i (length (nameOf k)))
 
-pub name-goes : (k i c : ℕ) → i < 5 → c ≡ getD (lineOf (theRow k)) i 0 → (c ≡ 32 → ⊥) → i < length (nameOf k)
+pub name-goes : (k i c : ℕ) → i < 5 → c ≡ getD (rowBytes (theRow k)) i 0 → (c ≡ 32 → ⊥) → i < length (nameOf k)
 name-goes k i c g e n =
     ⊎-elim (λ m. m) (λ m. absurd (n (e ∙ line-name (theRow k) i g ∙ List·getD-eq-default (nameOf k) 32 m))) (lt-cases i (length (nameOf k)))
 
-pub name-letter : (k i c : ℕ) → i < 5 → i < length (nameOf k) → c ≡ getD (lineOf (theRow k)) i 0 → c ≡ getD (nameOf k) i 0
+pub name-letter : (k i c : ℕ) → i < 5 → i < length (nameOf k) → c ≡ getD (rowBytes (theRow k)) i 0 → c ≡ getD (nameOf k) i 0
 name-letter k i c g l e = e ∙ line-name (theRow k) i g ∙ any-default (nameOf k) i 32 0 l
 
 -- a base op code is a word

@@ -12,10 +12,10 @@ use Rattle.optext.specs.declared.Written.the-variants.{Line, TextShort, 
 use Rattle.optext.specs.declared.ReadBack.{ReadBack}
 use Rattle.optext.specs.declared.ReadBack.the-variants.{Words, WordsShort, EarlyEnd, AfterText, UnknownName, BadOperand}
 use lib.Seq.{take-append-seam}
-use Rattle.hexdigits.specs.Over.{over}
+use Rattle.hexdigits.specs.Over.{inFrontOf}
 use Rattle.optext.specs.First.{agree}
 use Rattle.optext.specs.Rows.{firstOf, secondOf}
-use Rattle.optext.specs.Line.{rowOf, takes, lineText, taken, textOf}
+use Rattle.optext.specs.Line.{rowOf, takes, opText, taken, textOf}
 use Rattle.optext.specs.Guess.{guess, guessOf}
 use Rattle.refusal.specs.Page.{Page, refused, refusedAt, answered}
 use Rattle.refusal.proofs.Laws.Page.{one, one-call}
@@ -30,7 +30,7 @@ use Rattle.optext.proofs.Laws.Back.{word-taken}
 use Rattle.optext.proofs.Laws.Trip.{guess-back}
 use Rattle.optext.proofs.Laws.Near.{agree-self}
 use Rattle.optext.proofs.Laws.Columns.{near-text, own-line}
-use Rattle.optext.specs.Theorems.{OneText, NoneBegins, OneLine, OneWord, OneAnswer, RefusedLines, ReadAgain}
+use Rattle.optext.specs.Theorems.{OneText, NoneBegins, OneLine, OneWordText, OneAnswer, RefusedLines, ReadAgain}
 
 -- the words of the guess at an op code's text are the op code's words
 unfoldable pub wordsIn : Guess → List ℕ
@@ -70,7 +70,7 @@ guess-words vs h = go (takes (firstOf (rowOf w)) w) (takes (secondOf (rowOf w)) 
     y : ℕ
     y = getD vs (1 + takes (firstOf (rowOf w)) w) 0
 
-    back : guessOf (lineText w x y) ≡ guess w (wordOf (firstOf (rowOf w)) w x) (wordOf (secondOf (rowOf w)) w y)
+    back : guessOf (opText w x y) ≡ guess w (wordOf (firstOf (rowOf w)) w x) (wordOf (secondOf (rowOf w)) w y)
     back = guess-back w x y lw (h .words 1) (h .words (1 + takes (firstOf (rowOf w)) w))
 
     count : (m n : ℕ) → takes (firstOf (rowOf w)) w ≡ m → takes (secondOf (rowOf w)) w ≡ n → length vs ≡ 1 + m + n
@@ -132,7 +132,7 @@ read-one = one readBackOf read-back
 pub one-line : OneLine
 one-line ws b e e' r r' p q = one-call writtenPage written-one r r' e e' (p .met ∙ sym (q .met))
 
-pub one-word : OneWord
+pub one-word : OneWordText
 one-word w b e e' r r' p q = one-call writtenPage written-one r r' e e' (p ∙ sym q)
 
 pub one-answer : OneAnswer
@@ -149,8 +149,8 @@ refused-lines t ws e (UnknownName c) h p = (λ q. p .none, λ q. absurd (no q))
 refused-lines t ws e (BadOperand c) h p = (λ q. p .none, λ q. absurd (no q))
 
 -- what the reader may answer to the text of an op code: its words, and the other words as they were
-pub reads-text : (vs ws : List ℕ) → Whole vs → 3 ≤ length ws → Reads (answered (length vs)) (textOf vs) ws (over vs ws)
-unfolding over
+pub reads-text : (vs ws : List ℕ) → Whole vs → 3 ≤ length ws → Reads (answered (length vs)) (textOf vs) ws (inFrontOf vs ws)
+unfolding inFrontOf
 reads-text vs ws h g =
     let s : take (length vs) (vs ++ drop (length vs) ws) ≡ vs = take-append-seam vs (drop (length vs) ws) in
     record {
@@ -163,4 +163,4 @@ reads-text vs ws h g =
     }
 
 pub read-again : ReadAgain
-read-again vs ws e r h g p = one-answer (textOf vs) ws e (over vs ws) r (Words (length vs)) p (reads-text vs ws h g)
+read-again vs ws e r h g p = one-answer (textOf vs) ws e (inFrontOf vs ws) r (Words (length vs)) p (reads-text vs ws h g)

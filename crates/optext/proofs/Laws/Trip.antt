@@ -11,8 +11,8 @@ use lib.Seq.{drop-append-add}
 use Rattle.optext.specs.declared.rows.Kind.{Kind}
 use Rattle.optext.specs.declared.rows.Kind.the-variants.{None, Mask, Disp, Reg, Arg4, Arg6, Count, High, Mid, Dst, Addr, Src, Word}
 use Rattle.optext.specs.Rows.{rowCount, wordRow, rows, theRow, nameOf, baseOf, firstOf, secondOf}
-use Rattle.optext.specs.Line.{fieldOf, fitsRow, rowOf, isShown, operandText, sepText, lineText}
-use Rattle.optext.specs.Guess.{headOf, rowAt, op, unOp, guess, guessA, guessB, guessOf}
+use Rattle.optext.specs.Line.{fieldOf, fitsRow, rowOf, isShown, operandText, sepText, opText}
+use Rattle.optext.specs.Guess.{headOf, rowFor, operandRead, unOp, guess, guessA, guessB, guessOf}
 use Rattle.optext.proofs.Laws.Choose.{no, bool-cases, lt-cases, first-le, first-hit}
 use Rattle.optext.proofs.Laws.Table.{none-both}
 use Rattle.optext.proofs.Laws.Near.{agree-self}
@@ -56,7 +56,7 @@ none-text Addr w x e = absurd (no e)
 none-text Src w x e = absurd (no e)
 none-text Word w x e = absurd (no e)
 
-none-back : (k : Kind) (t : List ℕ) (w x : ℕ) → isShown k ≡ false → unOp k t ≡ op (fieldOf k w) (wordOf k w x) (length (operandText k w x))
+none-back : (k : Kind) (t : List ℕ) (w x : ℕ) → isShown k ≡ false → unOp k t ≡ operandRead (fieldOf k w) (wordOf k w x) (length (operandText k w x))
 none-back None t w x e = refl
 none-back Mask t w x e = absurd (no e)
 none-back Disp t w x e = absurd (no e)
@@ -72,50 +72,50 @@ none-back Src t w x e = absurd (no e)
 none-back Word t w x e = absurd (no e)
 
 module _ (w x y : ℕ) (lw : w < 65536) (lx : x < 65536) (ly : y < 65536) where
-  line-none : isShown (firstOf (rowOf w)) ≡ false → lineText w x y ≡ nameOf (rowOf w)
-  unfolding lineText
+  line-none : isShown (firstOf (rowOf w)) ≡ false → opText w x y ≡ nameOf (rowOf w)
+  unfolding opText
   line-none e =
       rw (sep-none 32 (firstOf (rowOf w)) w x e, sep-none 44 (secondOf (rowOf w)) w y (none-both (rowOf w) (row-lt w) e))
       (append-nil (nameOf (rowOf w) ++ []) ∙ append-nil (nameOf (rowOf w)))
 
-  line-some : isShown (firstOf (rowOf w)) ≡ true → lineText w x y ≡ nameOf (rowOf w) ++ (32 ∷ (operandText (firstOf (rowOf w)) w x ++ sepText 44 (secondOf (rowOf w)) w y))
-  unfolding lineText
+  line-some : isShown (firstOf (rowOf w)) ≡ true → opText w x y ≡ nameOf (rowOf w) ++ (32 ∷ (operandText (firstOf (rowOf w)) w x ++ sepText 44 (secondOf (rowOf w)) w y))
+  unfolding opText
   line-some n = rw (sep-some 32 (firstOf (rowOf w)) w x n) (append-assoc (nameOf (rowOf w)) (32 ∷ operandText (firstOf (rowOf w)) w x) (sepText 44 (secondOf (rowOf w)) w y))
 
   -- the line begins with its row's mnemonic
-  pub line-head : lineText w x y ≡ headOf (rowOf w) ++ (operandText (firstOf (rowOf w)) w x ++ sepText 44 (secondOf (rowOf w)) w y)
+  pub line-head : opText w x y ≡ headOf (rowOf w) ++ (operandText (firstOf (rowOf w)) w x ++ sepText 44 (secondOf (rowOf w)) w y)
   unfolding headOf
   line-head =
       ⊎-elim (λ e. line-none e ∙ sym (rw (e, none-text (firstOf (rowOf w)) w x e, sep-none 44 (secondOf (rowOf w)) w y (none-both (rowOf w) (row-lt w) e)) (append-nil (nameOf (rowOf w)))))
       (λ n. rw (line-some n, n) (sym (append-assoc (nameOf (rowOf w)) (32 ∷ []) (operandText (firstOf (rowOf w)) w x ++ sepText 44 (secondOf (rowOf w)) w y))))
       (bool-cases (isShown (firstOf (rowOf w))))
 
-  pub row-back : rowAt (lineText w x y) ≡ rowOf w
+  pub row-back : rowFor (opText w x y) ≡ rowOf w
   row-back =
-      head-own (lineText w x y) (rowOf w) (row-lt w)
+      head-own (opText w x y) (rowOf w) (row-lt w)
       (rw line-head (agree-self (headOf (rowOf w)) (operandText (firstOf (rowOf w)) w x ++ sepText 44 (secondOf (rowOf w)) w y)))
 
-  A-back : guessA (lineText w x y) ≡ op (fieldOf (firstOf (rowOf w)) w) (wordOf (firstOf (rowOf w)) w x) (length (operandText (firstOf (rowOf w)) w x))
+  A-back : guessA (opText w x y) ≡ operandRead (fieldOf (firstOf (rowOf w)) w) (wordOf (firstOf (rowOf w)) w x) (length (operandText (firstOf (rowOf w)) w x))
   unfolding guessA
   A-back =
       rw row-back
-      (⊎-elim (λ e. none-back (firstOf (rowOf w)) (drop (length (nameOf (rowOf w)) + 1) (lineText w x y)) w x e)
+      (⊎-elim (λ e. none-back (firstOf (rowOf w)) (drop (length (nameOf (rowOf w)) + 1) (opText w x y)) w x e)
       (λ n. rw (line-some n, drop-append-add (nameOf (rowOf w)) (32 ∷ (operandText (firstOf (rowOf w)) w x ++ sepText 44 (secondOf (rowOf w)) w y)) 1)
       (op-back (firstOf (rowOf w)) w x (sepText 44 (secondOf (rowOf w)) w y) lw lx))
       (bool-cases (isShown (firstOf (rowOf w)))))
 
-  B-back : guessB (lineText w x y) ≡ op (fieldOf (secondOf (rowOf w)) w) (wordOf (secondOf (rowOf w)) w y) (length (operandText (secondOf (rowOf w)) w y))
+  B-back : guessB (opText w x y) ≡ operandRead (fieldOf (secondOf (rowOf w)) w) (wordOf (secondOf (rowOf w)) w y) (length (operandText (secondOf (rowOf w)) w y))
   unfolding guessB
   B-back =
       rw (row-back, A-back)
-      (⊎-elim (λ e. none-back (secondOf (rowOf w)) (drop (length (nameOf (rowOf w)) + 1 + length (operandText (firstOf (rowOf w)) w x) + 1) (lineText w x y)) w y e)
+      (⊎-elim (λ e. none-back (secondOf (rowOf w)) (drop (length (nameOf (rowOf w)) + 1 + length (operandText (firstOf (rowOf w)) w x) + 1) (opText w x y)) w y e)
       (λ n. rw (after-comma n (both n)) (rw append-nil at (op-back (secondOf (rowOf w)) w y [] lw ly)))
       (bool-cases (isShown (secondOf (rowOf w)))))
     where
       both : isShown (secondOf (rowOf w)) ≡ true → isShown (firstOf (rowOf w)) ≡ true
       both n = ⊎-elim (λ e. absurd (no (sym n ∙ none-both (rowOf w) (row-lt w) e))) (λ e. e) (bool-cases (isShown (firstOf (rowOf w))))
 
-      after-comma : isShown (secondOf (rowOf w)) ≡ true → isShown (firstOf (rowOf w)) ≡ true → drop (length (nameOf (rowOf w)) + 1 + length (operandText (firstOf (rowOf w)) w x) + 1) (lineText w x y) ≡ operandText (secondOf (rowOf w)) w y
+      after-comma : isShown (secondOf (rowOf w)) ≡ true → isShown (firstOf (rowOf w)) ≡ true → drop (length (nameOf (rowOf w)) + 1 + length (operandText (firstOf (rowOf w)) w x) + 1) (opText w x y) ≡ operandText (secondOf (rowOf w)) w y
       after-comma n f =
           let N : List ℕ = nameOf (rowOf w) in
           let A : List ℕ = operandText (firstOf (rowOf w)) w x in
@@ -130,7 +130,7 @@ module _ (w x y : ℕ) (lw : w < 65536) (lx : x < 65536) (ly : y < 65536) where
           (drop-append-add A (44 ∷ B) 1)
 
   -- the guess at the line of w, x and y
-  pub guess-back : guessOf (lineText w x y) ≡ guess w (wordOf (firstOf (rowOf w)) w x) (wordOf (secondOf (rowOf w)) w y)
+  pub guess-back : guessOf (opText w x y) ≡ guess w (wordOf (firstOf (rowOf w)) w x) (wordOf (secondOf (rowOf w)) w y)
   unfolding guessOf
   guess-back =
       let e = word-back w lw in

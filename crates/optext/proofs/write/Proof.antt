@@ -2,7 +2,7 @@ use mathlib.Core.Path.{_≡_, refl}
 use Prim.Native.Nat.{_+_}
 use native.Mathlib.Omega.{arith}
 use lib.ListN.{getD}
-use Rattle.optext.specs.Line.{lineText, taken, textOf}
+use Rattle.optext.specs.Line.{opText, taken, textOf}
 use Rattle.optext.proofs.Laws.Meets.{writes-8, writes-6, writes-7, writes-line, own-row}
 use Rattle.optext.proofs.Laws.Forms.{takes-le}
 use borrow.Author.Needs.{needs}
@@ -35,7 +35,7 @@ returns-4 c =
     let a = c .before .before .before .before .before .before .before .before .before .before .before .before .before .before .before .before .before .args in
     let q : 1 + c .before .before .before .before .before .before .before .before .before .takes-of .result + c .before .before .before .before .before .before .before .takes-of2 .result ≡ taken (getD (a .words .now) 0 0) =
     rw (c .before .before .before .before .before .before .before .before .before .takes-of .ensures, c .before .before .before .before .before .before .before .takes-of2 .ensures, c .before .before .before .before .before .before .before .before .before .before .first .ensures, c .before .before .before .before .before .before .before .before .second .ensures, c .before .before .before .before .before .before .before .before .before .before .before .row-of .ensures .0) refl in
-    let p : lineText (getD (a .words .now) 0 0) (c .before .before .before .before .before .word-at .result) (c .before .before .before .before .word-at2 .result) ≡ textOf (a .words .now) =
+    let p : opText (getD (a .words .now) 0 0) (c .before .before .before .before .before .word-at .result) (c .before .before .before .before .word-at2 .result) ≡ textOf (a .words .now) =
     rw (c .before .before .before .before .before .word-at .ensures, c .before .before .before .before .word-at2 .ensures, c .before .before .before .before .before .before .before .before .before .takes-of .ensures, c .before .before .before .before .before .before .before .before .before .before .first .ensures, c .before .before .before .before .before .before .before .before .before .before .before .row-of .ensures .0) refl in
     writes-line (a .words .now) (a .text .now) (c .before .before .put-line .last .0) (c .before .before .put-line .result) _ (c .before .before .before .before .before .before .before .before .before .before .before .before .before .before .if1 .left) (c .before .before .before .before .before .before .before .before .before .before .before .before .before .if2 .left) (omega (arith, q, c .before .before .before .before .before .before .if3 .left))
     (rw p at (own-row _ _ _ _ _ _ _ (c .before .before .before .before .before .before .before .before .before .before .before .row-of .ensures .0) (c .before .before .put-line .ensures))) q

@@ -8,7 +8,7 @@ use lib.Dec.{ltb}
 use lib.ListN.{length, take, drop, getD, length-take}
 use lib.Seq.{take-take, take-at, length-take-le, getD-take}
 use borrow.Author.Tests.{eq-eqb, ltb-true, ltb-false, le-ltb}
-use Rattle.hexdigits.specs.Over.{over}
+use Rattle.hexdigits.specs.Over.{inFrontOf}
 use Rattle.wordbytes.specs.Words.{wordAt, bytesIn}
 use Rattle.wordbytes.proofs.Laws.{word-again, low-of, high-of}
 use Rattle.refusal.specs.Numbers.{wordsOdd}
@@ -21,7 +21,7 @@ use Rattle.optext.specs.Column.{Why, early, after, name, operand}
 use Rattle.optext.specs.Words.{Accepts, Reads}
 use Rattle.optext.proofs.Laws.Meets.{taken-le}
 use Rattle.optext.proofs.Laws.Calls.{some-taken, lined, line-written, same-front, again}
-use Rattle.optext_c.specs.Calls.{lent, wordsIn, odd, lentWhy, lineWords, writeCall, readIn, ReadCall}
+use Rattle.optext_c.specs.Calls.{lent, wordsIn, oddLength, lentWhy, textWords, writeCall, wordsRead, ReadCall}
 
 -- ---- what is lent
 
@@ -116,15 +116,15 @@ same-words b v m few room g =
 
 -- ---- refused for what is lent, or not
 
-lent-sound : (a b : List ℕ) → lentWhy a b ≡ 0 → (answerWhy a ≡ 0) × (odd b ≡ false)
+lent-sound : (a b : List ℕ) → lentWhy a b ≡ 0 → (answerWhy a ≡ 0) × (oddLength b ≡ false)
 unfolding lentWhy
-lent-sound a b e = let h = first-both (answerWhy a) (cond (odd b) wordsOdd 0) e in (h .0, by (odd b) (h .1))
+lent-sound a b e = let h = first-both (answerWhy a) (cond (oddLength b) wordsOdd 0) e in (h .0, by (oddLength b) (h .1))
   where
     by : (uneven : Bool) → cond uneven wordsOdd 0 ≡ 0 → uneven ≡ false
     by true k = absurd (omega (arith, k))
     by false k = refl
 
-lent-fits : (a b : List ℕ) → answerWhy a ≡ 0 → odd b ≡ false → lentWhy a b ≡ 0
+lent-fits : (a b : List ℕ) → answerWhy a ≡ 0 → oddLength b ≡ false → lentWhy a b ≡ 0
 unfolding lentWhy
 lent-fits a b h k = rw (h, k) refl
 
@@ -133,7 +133,7 @@ lent-fits a b h k = rw (h, k) refl
 -- the line's length and the words taken stand in the answer
 pub record Wrote (b t a t′ a′ : List ℕ) : Type 0 where
   pub six : answerWhy a ≡ 0
-  pub even : odd b ≡ false
+  pub even : oddLength b ≡ false
   pub long : ℕ
   pub many : ℕ
   pub line : left (answered (linePage long many)) t′ ≡ writeOf (wordsIn b) t
@@ -146,7 +146,7 @@ unfolding writeCall writeOf
 wrote b t a t′ a′ h = by (lentWhy a b) (writeWhy (wordsIn b) (length t)) refl refl h
   where
     by : (bad why : ℕ) → lentWhy a b ≡ bad → writeWhy (wordsIn b) (length t) ≡ why
-        → told 0 (t′, a′) ≡ answering lineWords a (call bad (call why (inFront (textOf (wordsIn b)) (taken (getD (wordsIn b) 0 0)) t) t) t) → Wrote b t a t′ a′
+        → told 0 (t′, a′) ≡ answering textWords a (call bad (call why (inFront (textOf (wordsIn b)) (taken (getD (wordsIn b) 0 0)) t) t) t) → Wrote b t a t′ a′
     by (suc bad) why e f g = absurd (omega (arith, ap (λ z. z .number) g))
     by zero (suc why) e f g = absurd (omega (arith, ap (λ z. z .number) g))
     by zero zero e f g =
@@ -164,8 +164,8 @@ wrote b t a t′ a′ h = by (lentWhy a b) (writeWhy (wordsIn b) (length t)) ref
         }
 
 -- a call of the writer with room, over bytes that have every word that the op code takes
-writes-line : (b t a : List ℕ) (k : ℕ) (t′ a′ : List ℕ) → answerWhy a ≡ 0 → odd b ≡ false → 32 ≤ length t → taken (getD (wordsIn b) 0 0) ≤ length (wordsIn b) → told k (t′, a′) ≡ writeCall b t a
-    → told {B = List ℕ × List ℕ} k (t′, a′) ≡ told 0 (over (textOf (wordsIn b)) t, threeWords (length (textOf (wordsIn b))) (taken (getD (wordsIn b) 0 0)) 0)
+writes-line : (b t a : List ℕ) (k : ℕ) (t′ a′ : List ℕ) → answerWhy a ≡ 0 → oddLength b ≡ false → 32 ≤ length t → taken (getD (wordsIn b) 0 0) ≤ length (wordsIn b) → told k (t′, a′) ≡ writeCall b t a
+    → told {B = List ℕ × List ℕ} k (t′, a′) ≡ told 0 (inFrontOf (textOf (wordsIn b)) t, threeWords (length (textOf (wordsIn b))) (taken (getD (wordsIn b) 0 0)) 0)
 unfolding writeCall
 writes-line b t a k t′ a′ six even h l e = e ∙ rw (lent-fits a b six even, line-written (wordsIn b) t h l) refl
 
@@ -173,7 +173,7 @@ writes-line b t a k t′ a′ six even h l e = e ∙ rw (lent-fits a b six even,
 pub record Took (t c d c′ d′ : List ℕ) : Type 0 where
   pub words : List ℕ
   pub accepts : Accepts t (wordsIn c) words (wordAt d′ 0)
-  pub left : c′ ≡ over (bytesIn (take (wordAt d′ 0) words)) c
+  pub left : c′ ≡ inFrontOf (bytesIn (take (wordAt d′ 0) words)) c
 
 why-not-0 : {t : List ℕ} {c n : ℕ} → Why t c n → 0 ≡ n → ⊥
 why-not-0 (early e p) h = omega (arith, e, h)
@@ -181,13 +181,13 @@ why-not-0 (after e p i) h = omega (arith, e, h)
 why-not-0 (name e p i s) h = omega (arith, e, h)
 why-not-0 (operand e p i s) h = omega (arith, e, h)
 
-took-with : (t c d c′ d′ : List ℕ) (a : Page ℕ) (e : List ℕ) → Reads a t (wordsIn c) e → told 0 (c′, d′) ≡ readIn c d (left a e) → Took t c d c′ d′
+took-with : (t c d c′ d′ : List ℕ) (a : Page ℕ) (e : List ℕ) → Reads a t (wordsIn c) e → told 0 (c′, d′) ≡ wordsRead c d (left a e) → Took t c d c′ d′
 took-with t c d c′ d′ (answered n) e p h =
     let one : wordAt d′ 0 ≡ n = ap (λ z. wordAt (z .lent .1) 0) h ∙ word-again n in
     record {
       words = e;
       accepts = subst (λ (k : ℕ). Accepts t (wordsIn c) e k) (sym one) p;
-      left = ap (λ z. z .lent .0) h ∙ ap (λ (k : ℕ). over (bytesIn (take k e)) c) (sym one);
+      left = ap (λ z. z .lent .0) h ∙ ap (λ (k : ℕ). inFrontOf (bytesIn (take k e)) c) (sym one);
     }
 took-with t c d c′ d′ (refused r) e p h = absurd (omega (arith, p .0, ap (λ z. z .number) h))
 took-with t c d c′ d′ (refusedAt r k) e p h = absurd (why-not-0 (p .why) (ap (λ z. z .number) h))
@@ -195,7 +195,7 @@ took-with t c d c′ d′ (refusedAt r k) e p h = absurd (why-not-0 (p .why) (ap
 pub took : (t c d c′ d′ : List ℕ) → ReadCall t c d (told 0 (c′, d′)) → Took t c d c′ d′
 took t c d c′ d′ p = by (lentWhy d c) (p .reads) (p .leaves)
   where
-    by : (bad : ℕ) → (bad ≡ 0 → Reads (p .page) t (wordsIn c) (p .words)) → told 0 (c′, d′) ≡ readIn c d (call bad (left (p .page) (p .words)) (wordsIn c)) → Took t c d c′ d′
+    by : (bad : ℕ) → (bad ≡ 0 → Reads (p .page) t (wordsIn c) (p .words)) → told 0 (c′, d′) ≡ wordsRead c d (call bad (left (p .page) (p .words)) (wordsIn c)) → Took t c d c′ d′
     by zero r e = took-with t c d c′ d′ (p .page) (p .words) (r refl) e
     by (suc bad) r e = absurd (omega (arith, ap (λ z. z .number) e))
 
@@ -208,14 +208,14 @@ is-answer a h = rw (eq-eqb (length a) 6 h) refl
 three : (c : List ℕ) → 6 ≤ length c → 3 ≤ length (wordsIn c)
 three c h = let n : length (wordsIn c) ≡ 3 = words-long c ∙ rw (le-ltb (length c / 2) 3 (omega arith)) refl in omega (arith, n)
 
-over-front : (xs c : List ℕ) (m : ℕ) → length xs ≡ m → take m (over xs c) ≡ xs
-unfolding over
+over-front : (xs c : List ℕ) (m : ℕ) → length xs ≡ m → take m (inFrontOf xs c) ≡ xs
+unfolding inFrontOf
 over-front xs c m e = take-at xs (drop (length xs) c) m e
 
 -- WHAT THE WRITER LEFT, THE READER GIVES BACK
 pub text-again : (b t a t′ a′ c d : List ℕ) (k : ℕ) (c′ d′ : List ℕ) → ((i : ℕ) → getD b i 0 < 256) → told 0 (t′, a′) ≡ writeCall b t a
-    → length d ≡ 6 → odd c ≡ false → 6 ≤ length c → ReadCall (take (wordAt a′ 0) t′) c d (told k (c′, d′))
-    → (k ≡ 0) × (c′ ≡ over (take (wordAt a′ 2 * 2) b) c) × (d′ ≡ threeWords (wordAt a′ 2) 0 0)
+    → length d ≡ 6 → oddLength c ≡ false → 6 ≤ length c → ReadCall (take (wordAt a′ 0) t′) c d (told k (c′, d′))
+    → (k ≡ 0) × (c′ ≡ inFrontOf (take (wordAt a′ 2 * 2) b) c) × (d′ ≡ threeWords (wordAt a′ 2) 0 0)
 text-again b t a t′ a′ c d k c′ d′ bytes e six even room p =
     let w = wrote b t a t′ a′ e in
     let m = w .many in
@@ -224,16 +224,16 @@ text-again b t a t′ a′ c d k c′ d′ bytes e six even room p =
     let r = subst (λ (z : ℕ). ReadCall (take z t′) c d (told k (c′, d′))) (w .first) p in
     let fits = lent-fits d c (is-answer d six) even in
     let z = again ws t (w .long) m t′ (wordsIn c) (r .words) (r .page) (words-small b bytes) (w .line) (three c room) (r .reads fits) in
-    let x : told k (c′, d′) ≡ readIn c d (left (answered m) (over (take m ws) (wordsIn c))) =
-    r .leaves ∙ ap (λ (y : ℕ). readIn c d (call y (left (r .page) (r .words)) (wordsIn c))) fits ∙ ap (λ (y : Page ℕ). readIn c d (left y (r .words))) (z .0) ∙ ap (λ (y : List ℕ). readIn c d (left (answered m) y)) (z .1) in
+    let x : told k (c′, d′) ≡ wordsRead c d (left (answered m) (inFrontOf (take m ws) (wordsIn c))) =
+    r .leaves ∙ ap (λ (y : ℕ). wordsRead c d (call y (left (r .page) (r .words)) (wordsIn c))) fits ∙ ap (λ (y : Page ℕ). wordsRead c d (left y (r .words))) (z .0) ∙ ap (λ (y : List ℕ). wordsRead c d (left (answered m) y)) (z .1) in
     let few : m ≤ 3 = omega (arith, l .many, taken-le (getD ws 0 0)) in
-    let front : bytesIn (take m (over (take m ws) (wordsIn c))) ≡ take (m * 2) b = ap bytesIn (over-front (take m ws) (wordsIn c) m (length-take-le m ws (l .room))) ∙ front-bytes b m bytes (l .room) few in
-    rw (w .second) (ap (λ y. y .number) x, ap (λ y. y .lent .0) x ∙ ap (λ (y : List ℕ). over y c) front, ap (λ y. y .lent .1) x)
+    let front : bytesIn (take m (inFrontOf (take m ws) (wordsIn c))) ≡ take (m * 2) b = ap bytesIn (over-front (take m ws) (wordsIn c) m (length-take-le m ws (l .room))) ∙ front-bytes b m bytes (l .room) few in
+    rw (w .second) (ap (λ y. y .number) x, ap (λ y. y .lent .0) x ∙ ap (λ (y : List ℕ). inFrontOf y c) front, ap (λ y. y .lent .1) x)
 
 -- WHAT THE READER GAVE, THE WRITER MAKES THE TEXT OF that was read
 pub text-made : (t c d c′ d′ u a : List ℕ) (k : ℕ) (u′ a′ : List ℕ) → ReadCall t c d (told 0 (c′, d′))
     → length a ≡ 6 → 32 ≤ length u → told k (u′, a′) ≡ writeCall (take (wordAt d′ 0 * 2) c′) u a
-    → (k ≡ 0) × (u′ ≡ over t u) × (a′ ≡ threeWords (length t) (wordAt d′ 0) 0)
+    → (k ≡ 0) × (u′ ≡ inFrontOf t u) × (a′ ≡ threeWords (length t) (wordAt d′ 0) 0)
 text-made t c d c′ d′ u a k u′ a′ p six room e =
     let w = took t c d c′ d′ p in
     let n = wordAt d′ 0 in
@@ -244,19 +244,19 @@ text-made t c d c′ d′ u a k u′ a′ p six room e =
     let few : n ≤ 3 = subst (λ (z : ℕ). z ≤ 3) many (taken-le (getD ws 0 0)) in
     let bytes : take (n * 2) c′ ≡ bytesIn ws = ap (λ (z : List ℕ). take (n * 2) z) (w .left) ∙ over-front (bytesIn ws) c (n * 2) (bytes-long ws ∙ ap (λ (z : ℕ). z * 2) count) in
     let again : wordsIn (bytesIn ws) ≡ ws = words-again ws (rw count some) (rw count few) in
-    let even : odd (bytesIn ws) ≡ false = even-bytes ws in
+    let even : oddLength (bytesIn ws) ≡ false = even-bytes ws in
     let x = writes-line (bytesIn ws) u a k u′ a′ (is-answer a six) even room (rw (again, many, count) (le-refl n)) (e ∙ ap (λ (z : List ℕ). writeCall z u a) bytes) in
-    let y : told {B = List ℕ × List ℕ} k (u′, a′) ≡ told 0 (over t u, threeWords (length t) n 0) = x ∙ rw (again, w .accepts .text, many) refl in
+    let y : told {B = List ℕ × List ℕ} k (u′, a′) ≡ told 0 (inFrontOf t u, threeWords (length t) n 0) = x ∙ rw (again, w .accepts .text, many) refl in
     (ap (λ z. z .number) y, ap (λ z. z .lent .0) y, ap (λ z. z .lent .1) y)
   where
     le-refl : (n : ℕ) → n ≤ n
     le-refl n = omega arith
 
-    even-bytes : (ws : List ℕ) → odd (bytesIn ws) ≡ false
+    even-bytes : (ws : List ℕ) → oddLength (bytesIn ws) ≡ false
     even-bytes ws = rw (bytes-long ws, eq-eqb (length ws * 2 % 2) 0 (omega arith)) refl
 
 -- WORDS LENT PAST THOSE TAKEN ARE IGNORED
-pub text-ignores : (b v t a t′ a′ : List ℕ) (k : ℕ) (t″ a″ : List ℕ) → told 0 (t′, a′) ≡ writeCall b t a → odd v ≡ false → take (wordAt a′ 2 * 2) v ≡ take (wordAt a′ 2 * 2) b
+pub text-ignores : (b v t a t′ a′ : List ℕ) (k : ℕ) (t″ a″ : List ℕ) → told 0 (t′, a′) ≡ writeCall b t a → oddLength v ≡ false → take (wordAt a′ 2 * 2) v ≡ take (wordAt a′ 2 * 2) b
     → told k (t″, a″) ≡ writeCall v t a → (k ≡ 0) × (t″ ≡ t′) × (a″ ≡ a′)
 text-ignores b v t a t′ a′ k t″ a″ e even f d =
     let w = wrote b t a t′ a′ e in

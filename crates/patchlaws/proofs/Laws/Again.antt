@@ -14,55 +14,55 @@ use Rattle.optext.specs.Digits.{unHex4}
 use Rattle.optext.specs.Line.{wordText, taken, textOf}
 use Rattle.optext.proofs.Laws.Back.{hex4-back}
 use Rattle.optext.specs.Column.{Whole}
-use Rattle.optext.specs.Read.{readOf, opOf}
+use Rattle.optext.specs.Read.{wordsOfText, opOf}
 use Rattle.optext.proofs.Laws.Read.{same-refl}
 use Rattle.optext.proofs.Laws.Reader.{read-of-text, read-word, read-origin, read-nothing, any-word-text}
 use Rattle.patchline.specs.declared.oneline.How.{How}
 use Rattle.patchline.specs.declared.oneline.How.the-variants.{Origin, Plain}
 use Rattle.patchline.specs.Line.{secondIn, labelIn, opIn, op, says, isNumber, isDirective, saidOf, withLabel}
-use Rattle.assembler.specs.Source.{textAt, valueOf, hereOf, put, wordsIn}
-use Rattle.assembler.specs.Section.{placed}
+use Rattle.assembler.specs.Source.{textAt, valueOf, hereOf, withLabels, lineOp}
+use Rattle.assembler.specs.Section.{wordsPlaced}
 use Rattle.patchlaws.specs.Again.{originLine, ReaderWords, ReaderPlaced, ListedAgain, WordAgain, OriginAgain}
 
 -- a line that is taken so that no label is put into it keeps the words that it says
 abbrev Fixed : How → Type 0
 Fixed how = (third : Bool) (v h : ℕ) (o : Op) → withLabel how third v h o ≡ o
 
-put-fixed : (s u : List ℕ) (how : How) (third : Bool) (h : ℕ) (o : Op) → Fixed how → put s how third h u o ≡ o
-unfolding put
+put-fixed : (s u : List ℕ) (how : How) (third : Bool) (h : ℕ) (o : Op) → Fixed how → withLabels s how third h u o ≡ o
+unfolding withLabels
 put-fixed s u how third h o f = rw (f third (valueOf s u) h o) (go (eqb (length u) 0))
   where
     go : (b : Bool) → cond b o o ≡ o
     go true = refl
     go false = refl
 
-fixed-words : (s t : List ℕ) (how : How) (h : ℕ) (o : Op) → Fixed how → saidOf t ≡ says how o → wordsIn s h t ≡ o
-unfolding wordsIn
-fixed-words s t how h o f q = rw q (ap (λ (p : Op). put s how (eqb (o .count) 3) h (labelIn (secondIn t)) p) (put-fixed s _ how false h o f) ∙ put-fixed s _ how _ h o f)
+fixed-words : (s t : List ℕ) (how : How) (h : ℕ) (o : Op) → Fixed how → saidOf t ≡ says how o → lineOp s h t ≡ o
+unfolding lineOp
+fixed-words s t how h o f q = rw q (ap (λ (p : Op). withLabels s how (eqb (o .count) 3) h (labelIn (secondIn t)) p) (put-fixed s _ how false h o f) ∙ put-fixed s _ how _ h o f)
 
-pub plain-words : (s t : List ℕ) (h : ℕ) (o : Op) → saidOf t ≡ says Plain o → wordsIn s h t ≡ o
+pub plain-words : (s t : List ℕ) (h : ℕ) (o : Op) → saidOf t ≡ says Plain o → lineOp s h t ≡ o
 plain-words s t h o q = fixed-words s t Plain h o (λ third v h o. refl) q
 
-pub origin-words : (s t : List ℕ) (h : ℕ) (o : Op) → saidOf t ≡ says Origin o → wordsIn s h t ≡ o
+pub origin-words : (s t : List ℕ) (h : ℕ) (o : Op) → saidOf t ≡ says Origin o → lineOp s h t ≡ o
 origin-words s t h o q = fixed-words s t Origin h o (λ third v h o. refl) q
 
 some : (t : List ℕ) → 0 < length t → length t ≡ 0 → ⊥
 some t h e = omega arith
 
 -- "A line that 01's reader takes gives exactly that reader's words"
-reader-said : (t : List ℕ) → 0 < length t → 0 < length (readOf t) → saidOf t ≡ says Plain (opOf (readOf t))
+reader-said : (t : List ℕ) → 0 < length t → 0 < length (wordsOfText t) → saidOf t ≡ says Plain (opOf (wordsOfText t))
 unfolding saidOf opIn
-reader-said t l p = rw (ne-eqb (length t) 0 (some t l), lt-ltb 0 (length (readOf t)) p) refl
+reader-said t l p = rw (ne-eqb (length t) 0 (some t l), lt-ltb 0 (length (wordsOfText t)) p) refl
 
 pub reader-words : ReaderWords
-reader-words s t h l p = plain-words s t h (opOf (readOf t)) (reader-said t l p)
+reader-words s t h l p = plain-words s t h (opOf (wordsOfText t)) (reader-said t l p)
 
 pub reader-placed : ReaderPlaced
-unfolding placed
+unfolding wordsPlaced
 reader-placed s i l p = rw (reader-words s (textAt s i) (hereOf s i) l p) refl
 
 -- ".WORD here takes any word": the word that its digits are, where the reader takes no such line
-any-said : (t : List ℕ) → 0 < length t → readOf t ≡ [] → isDirective (letters ".ORG ") t ≡ false → isDirective (letters ".WORD ") t ≡ true
+any-said : (t : List ℕ) → 0 < length t → wordsOfText t ≡ [] → isDirective (letters ".ORG ") t ≡ false → isDirective (letters ".WORD ") t ≡ true
     → saidOf t ≡ says Plain (op 1 (unHex4 (drop 6 t)))
 unfolding saidOf opIn
 any-said t l e f g = rw (ne-eqb (length t) 0 (some t l), e, f, g) refl
@@ -77,7 +77,7 @@ whole-some vs h = omega (arith, h .count)
 text-some : (vs : List ℕ) → Whole vs → 0 < length (textOf vs)
 text-some vs h = go (textOf vs) (read-of-text vs h)
   where
-    go : (t : List ℕ) → readOf t ≡ vs → 0 < length t
+    go : (t : List ℕ) → wordsOfText t ≡ vs → 0 < length t
     go [] e = let z : length vs ≡ 0 = ap length (sym e ∙ read-nothing) in absurd (omega (arith, whole-some vs h))
     go (x ∷ t) e = omega arith
 

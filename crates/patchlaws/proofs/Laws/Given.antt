@@ -10,19 +10,19 @@ use Rattle.optext.proofs.Laws.Choose.{lt-cases}
 use lib.Dec.{ltb, eqb}
 use lib.ListN.{length, drop, getD}
 use lib.Seq.{drop-drop}
-use Rattle.hexdigits.specs.Over.{over}
+use Rattle.hexdigits.specs.Over.{inFrontOf}
 use Rattle.wordmath.specs.Address.{plus}
 use Rattle.wordbytes.specs.Words.{wordAt}
 use Rattle.optext.specs.declared.Op.{Op}
 use Rattle.optext.specs.Line.{taken, textOf}
 use Rattle.optext.specs.Column.{Whole, IsText}
-use Rattle.optext.specs.Read.{readOf, opOf}
+use Rattle.optext.specs.Read.{wordsOfText, opOf}
 use Rattle.optext.proofs.Laws.Meets.{taken-le}
 use Rattle.optext.proofs.Laws.Reader.{read-of-text, read-refuses}
 use Rattle.patchline.specs.declared.oneline.How.the-variants.{Plain}
 use Rattle.patchline.specs.Line.{opIn, says, saidOf}
-use Rattle.assembler.specs.Source.{countOf, textAt, saidAt, isOrigin, originAt, endAt, hereOf, misplaced, wordsIn}
-use Rattle.assembler.specs.Section.{inserted, lowerOf, higherOf, entryOf, entered, placed, bytesOf, flat, sectionOf}
+use Rattle.assembler.specs.Source.{lineCount, textAt, saidAt, isOrigin, originAt, endAt, hereOf, misplaced, lineOp}
+use Rattle.assembler.specs.Section.{inserted, lowerOf, higherOf, sectionEntry, entered, wordsPlaced, entryBytes, sectionBytes, sectionOf}
 use Rattle.refusal.specs.Page.{Page, refused, refusedAt, answered, Left, left, Told, told, call}
 use Rattle.answer.specs.Answer.{answerWhy, answering}
 use Rattle.assembler.specs.Answer.{assembled, asmOf}
@@ -32,7 +32,7 @@ use Rattle.assembler.specs.Ends.{assembleWhy}
 use Rattle.assembler.proofs.Laws.Ends.{Ends, done, alone, atLine, assemble-ends, line-told}
 use Rattle.assembler_c.specs.Call.{sizeWords, assembleCall}
 use Rattle.patchlaws.specs.Rising.{addressIn, Rises}
-use Rattle.patchlaws.specs.Given.{Has, Gives, OneWord, ReaderGives, Wd16ReaderGives, OpIsText}
+use Rattle.patchlaws.specs.Given.{Has, Gives, OneWordAt, ReaderGives, Wd16ReaderGives, OpIsText}
 use Rattle.patchlaws.proofs.Laws.Again.{plain-words, text-said}
 use Rattle.patchlaws.specs.Labels.{LabelGives, LabelsGive, Wd16LabelsGive}
 use Rattle.patchlaws.proofs.Laws.Labels.{branch-read, sob-read}
@@ -79,9 +79,9 @@ inserted-old x z (y ∷ ys) a = by (a .place) (a .within) (a .there) (ltb x y) (
 entered-old : (o : Op) (h z : ℕ) (l : List ℕ) → Among z l → Among z (entered o h l)
 unfolding entered
 entered-old o h z l a =
-    let one = inserted-old (entryOf h (o .a)) z l a in
-    let two = inserted-old (entryOf (plus h 2) (o .b)) z _ one in
-    let three = inserted-old (entryOf (plus h 4) (o .c)) z _ two in
+    let one = inserted-old (sectionEntry h (o .a)) z l a in
+    let two = inserted-old (sectionEntry (plus h 2) (o .b)) z _ one in
+    let three = inserted-old (sectionEntry (plus h 4) (o .c)) z _ two in
     pick (ltb 2 (o .count)) three (pick (ltb 1 (o .count)) two (pick (ltb 0 (o .count)) one a))
   where
     pick : {u v : List ℕ} (t : Bool) → Among z u → Among z v → Among z (cond t u v)
@@ -89,53 +89,53 @@ entered-old o h z l a =
     pick false p q = q
 
 -- the same entry, at an address that does not wrap
-moved : (a b w : ℕ) {l : List ℕ} → a ≡ b → Among (entryOf a w) l → Among (entryOf b w) l
-moved a b w {l} e m = subst (λ (x : ℕ). Among (entryOf x w) l) e m
+moved : (a b w : ℕ) {l : List ℕ} → a ≡ b → Among (sectionEntry a w) l → Among (sectionEntry b w) l
+moved a b w {l} e m = subst (λ (x : ℕ). Among (sectionEntry x w) l) e m
 
 entered-new : (ws : List ℕ) (h : ℕ) (l : List ℕ) → length ws ≤ 3 → h + 2 * length ws ≤ 65536 → (j : ℕ) → j < length ws
-    → Among (entryOf (h + 2 * j) (getD ws j 0)) (entered (opOf ws) h l)
+    → Among (sectionEntry (h + 2 * j) (getD ws j 0)) (entered (opOf ws) h l)
 unfolding entered
 entered-new [] h l few room j k = absurd (omega (arith, k))
-entered-new (a ∷ []) h l few room zero k = moved h (h + 2 * 0) a (omega arith) (inserted-new (entryOf h a) l)
+entered-new (a ∷ []) h l few room zero k = moved h (h + 2 * 0) a (omega arith) (inserted-new (sectionEntry h a) l)
 entered-new (a ∷ []) h l few room (suc j) k = absurd (omega (arith, k))
 entered-new (a ∷ b ∷ []) h l few room zero k =
-    moved h (h + 2 * 0) a (omega arith) (inserted-old (entryOf (plus h 2) b) (entryOf h a) (inserted (entryOf h a) l) (inserted-new (entryOf h a) l))
-entered-new (a ∷ b ∷ []) h l few room (suc zero) k = moved (plus h 2) (h + 2 * 1) b (omega (arith, room)) (inserted-new (entryOf (plus h 2) b) (inserted (entryOf h a) l))
+    moved h (h + 2 * 0) a (omega arith) (inserted-old (sectionEntry (plus h 2) b) (sectionEntry h a) (inserted (sectionEntry h a) l) (inserted-new (sectionEntry h a) l))
+entered-new (a ∷ b ∷ []) h l few room (suc zero) k = moved (plus h 2) (h + 2 * 1) b (omega (arith, room)) (inserted-new (sectionEntry (plus h 2) b) (inserted (sectionEntry h a) l))
 entered-new (a ∷ b ∷ []) h l few room (suc (suc j)) k = absurd (omega (arith, k))
 entered-new (a ∷ b ∷ c ∷ []) h l few room zero k =
-    let one = inserted (entryOf h a) l in
-    let two = inserted (entryOf (plus h 2) b) one in
-    moved h (h + 2 * 0) a (omega arith) (inserted-old (entryOf (plus h 4) c) (entryOf h a) two (inserted-old (entryOf (plus h 2) b) (entryOf h a) one (inserted-new (entryOf h a) l)))
+    let one = inserted (sectionEntry h a) l in
+    let two = inserted (sectionEntry (plus h 2) b) one in
+    moved h (h + 2 * 0) a (omega arith) (inserted-old (sectionEntry (plus h 4) c) (sectionEntry h a) two (inserted-old (sectionEntry (plus h 2) b) (sectionEntry h a) one (inserted-new (sectionEntry h a) l)))
 entered-new (a ∷ b ∷ c ∷ []) h l few room (suc zero) k =
-    let one = inserted (entryOf h a) l in
-    moved (plus h 2) (h + 2 * 1) b (omega (arith, room)) (inserted-old (entryOf (plus h 4) c) (entryOf (plus h 2) b) (inserted (entryOf (plus h 2) b) one) (inserted-new (entryOf (plus h 2) b) one))
+    let one = inserted (sectionEntry h a) l in
+    moved (plus h 2) (h + 2 * 1) b (omega (arith, room)) (inserted-old (sectionEntry (plus h 4) c) (sectionEntry (plus h 2) b) (inserted (sectionEntry (plus h 2) b) one) (inserted-new (sectionEntry (plus h 2) b) one))
 entered-new (a ∷ b ∷ c ∷ []) h l few room (suc (suc zero)) k =
-    moved (plus h 4) (h + 2 * 2) c (omega (arith, room)) (inserted-new (entryOf (plus h 4) c) (inserted (entryOf (plus h 2) b) (inserted (entryOf h a) l)))
+    moved (plus h 4) (h + 2 * 2) c (omega (arith, room)) (inserted-new (sectionEntry (plus h 4) c) (inserted (sectionEntry (plus h 2) b) (inserted (sectionEntry h a) l)))
 entered-new (a ∷ b ∷ c ∷ []) h l few room (suc (suc (suc j))) k = absurd (omega (arith, k))
 entered-new (a ∷ b ∷ c ∷ d ∷ ws) h l few room j k = absurd (omega (arith, few))
 
 -- a line's entries are among those of all lines
-placed-among : (s : List ℕ) (i n x : ℕ) → i < n → Among x (entered (wordsIn s (hereOf s i) (textAt s i)) (hereOf s i) (placed s i)) → Among x (placed s n)
-unfolding placed
+placed-among : (s : List ℕ) (i n x : ℕ) → i < n → Among x (entered (lineOp s (hereOf s i) (textAt s i)) (hereOf s i) (wordsPlaced s i)) → Among x (wordsPlaced s n)
+unfolding wordsPlaced
 placed-among s i zero x h a = absurd (omega (arith, h))
 placed-among s i (suc n) x h a =
     elim (ℕ-discrete i n) [
-      | yes e ↦ subst (λ (k : ℕ). Among x (entered (wordsIn s (hereOf s k) (textAt s k)) (hereOf s k) (placed s k))) e a
-      | no d ↦ entered-old (wordsIn s (hereOf s n) (textAt s n)) (hereOf s n) x (placed s n) (placed-among s i n x (omega (arith, h, d)) a)
+      | yes e ↦ subst (λ (k : ℕ). Among x (entered (lineOp s (hereOf s k) (textAt s k)) (hereOf s k) (wordsPlaced s k))) e a
+      | no d ↦ entered-old (lineOp s (hereOf s n) (textAt s n)) (hereOf s n) x (wordsPlaced s n) (placed-among s i n x (omega (arith, h, d)) a)
     ]
 
 -- ---- and in the bytes of the section
 
-flat-from : (l rest : List ℕ) (k : ℕ) → k < length l → drop (k * 4) (flat l ++ rest) ≡ bytesOf (getD l k 0) ++ (flat (drop (suc k) l) ++ rest)
-unfolding flat
+flat-from : (l rest : List ℕ) (k : ℕ) → k < length l → drop (k * 4) (sectionBytes l ++ rest) ≡ entryBytes (getD l k 0) ++ (sectionBytes (drop (suc k) l) ++ rest)
+unfolding sectionBytes
 flat-from [] rest k h = absurd (omega (arith, h))
 flat-from (e ∷ l) rest zero h = refl
 flat-from (e ∷ l) rest (suc k) h =
     let q : suc k * 4 ≡ 4 + k * 4 = omega arith in
-    ap (λ (m : ℕ). drop m (bytesOf e ++ (flat l ++ rest))) q ∙ sym (drop-drop (k * 4) 4 (bytesOf e ++ (flat l ++ rest))) ∙ flat-from l rest k (omega (arith, h))
+    ap (λ (m : ℕ). drop m (entryBytes e ++ (sectionBytes l ++ rest))) q ∙ sym (drop-drop (k * 4) 4 (entryBytes e ++ (sectionBytes l ++ rest))) ∙ flat-from l rest k (omega (arith, h))
 
 module _ (bytes rest l : List ℕ) (few : length l ≤ 4096) (q : bytes ≡ sectionOf l ++ rest) where
-  entry-from : (k : ℕ) → k < length l → drop (2 + k * 4) bytes ≡ bytesOf (getD l k 0) ++ (flat (drop (suc k) l) ++ rest)
+  entry-from : (k : ℕ) → k < length l → drop (2 + k * 4) bytes ≡ entryBytes (getD l k 0) ++ (sectionBytes (drop (suc k) l) ++ rest)
   entry-from k h = sym (drop-drop (k * 4) 2 bytes) ∙ ap (λ (z : List ℕ). drop (k * 4) z) (behind bytes rest l 0 few q) ∙ flat-from l rest k h
 
   count-of : wordAt bytes 0 ≡ length l
@@ -150,7 +150,7 @@ module _ (bytes rest l : List ℕ) (few : length l ≤ 4096) (q : bytes ≡ sect
       let at : 4 + k * 4 ≡ 2 + k * 4 + 2 = omega arith in
       ap (λ (m : ℕ). wordAt bytes m) at ∙ word-is bytes (2 + k * 4 + 2) _ _ _ d ∙ omega arith
 
-  has-of : (a w : ℕ) → a < 65536 → w < 65536 → Among (entryOf a w) l → Has bytes a w
+  has-of : (a w : ℕ) → a < 65536 → w < 65536 → Among (sectionEntry a w) l → Has bytes a w
   has-of a w la lw m =
       let e = m .there in
       record {
@@ -164,32 +164,32 @@ module _ (bytes rest l : List ℕ) (few : length l ≤ 4096) (q : bytes ≡ sect
 
 -- each line in its place, and the section in front
 record Leaves (s bytes : List ℕ) : Type 0 where
-  pub few : countOf s ≤ 1024
-  pub in-place : (k : ℕ) → k < countOf s → misplaced s k ≡ false
+  pub few : lineCount s ≤ 1024
+  pub in-place : (k : ℕ) → k < lineCount s → misplaced s k ≡ false
   pub rest : List ℕ
   pub front : bytes ≡ assembled s ++ rest
 
 left-of : (s out : List ℕ) (n : ℕ) (out′ : List ℕ) → left (answered n) out′ ≡ asmOf s out → Leaves s out′
-unfolding over
+unfolding inFrontOf
 left-of s out n out′ e =
     let page : asmOf s out .page ≡ answered n = sym (ap (λ z. z .page) e) in
     let g = good s out n page in
     record { few = g .few; in-place = g .in-place; rest = drop (length (assembled s)) out; front = ap (λ z. z .lent) e ∙ leaves s out n page }
 
 -- A LINE WITH THESE WORDS GIVES THEM
-line-gives : (s bytes : List ℕ) → Leaves s bytes → (i : ℕ) (ws : List ℕ) → i < countOf s → length ws ≤ 3 → ((j : ℕ) → getD ws j 0 < 65536)
-    → wordsIn s (hereOf s i) (textAt s i) ≡ opOf ws → isOrigin (saidAt s i .how) ≡ false → Gives s i bytes ws
+line-gives : (s bytes : List ℕ) → Leaves s bytes → (i : ℕ) (ws : List ℕ) → i < lineCount s → length ws ≤ 3 → ((j : ℕ) → getD ws j 0 < 65536)
+    → lineOp s (hereOf s i) (textAt s i) ≡ opOf ws → isOrigin (saidAt s i .how) ≡ false → Gives s i bytes ws
 unfolding assembled originAt endAt
 line-gives s bytes g i ws h few small e plain =
     let n : saidAt s i .op .count ≡ length ws = sym (words-count s i) ∙ ap (λ (o : Op). o .count) e in
     let room : originAt s i + 2 * length ws ≤ 65536 = omega (arith, n, ends-below s i (g .in-place i h)) in
-    let l = placed s (countOf s) in
-    let lines : length l ≤ 4096 = omega (arith, placed-few s (countOf s), g .few) in
+    let l = wordsPlaced s (lineCount s) in
+    let lines : length l ≤ 4096 = omega (arith, placed-few s (lineCount s), g .few) in
     record {
       words = λ j k.
           let here : hereOf s i ≡ originAt s i = omega (arith, room, k) in
-          let new = rw here at (entered-new ws (hereOf s i) (placed s i) few (omega (arith, room, here)) j k) in
-          has-of bytes (g .rest) l lines (g .front) (originAt s i + 2 * j) (getD ws j 0) (omega (arith, room, k)) (small j) (placed-among s i (countOf s) (entryOf (originAt s i + 2 * j) (getD ws j 0)) h (rw (e, here) new));
+          let new = rw here at (entered-new ws (hereOf s i) (wordsPlaced s i) few (omega (arith, room, here)) j k) in
+          has-of bytes (g .rest) l lines (g .front) (originAt s i + 2 * j) (getD ws j 0) (omega (arith, room, k)) (small j) (placed-among s i (lineCount s) (sectionEntry (originAt s i + 2 * j) (getD ws j 0)) h (rw (e, here) new));
       next = rw (plain, n) refl;
     }
 
@@ -198,7 +198,7 @@ line-gives s bytes g i ws h few small e plain =
 whole-few : (ws : List ℕ) → Whole ws → length ws ≤ 3
 whole-few ws w = omega (arith, w .count, taken-le (getD ws 0 0))
 
-reader-line : (s bytes : List ℕ) → Leaves s bytes → (i : ℕ) (ws : List ℕ) → i < countOf s → Whole ws → textOf ws ≡ textAt s i → Gives s i bytes ws
+reader-line : (s bytes : List ℕ) → Leaves s bytes → (i : ℕ) (ws : List ℕ) → i < lineCount s → Whole ws → textOf ws ≡ textAt s i → Gives s i bytes ws
 unfolding saidAt
 reader-line s bytes g i ws h w t =
     let said : saidOf (textAt s i) ≡ says Plain (opOf ws) = ap saidOf (sym t) ∙ text-said ws w in
@@ -209,7 +209,7 @@ reader-gives s out n out′ e i ws h w t = reader-line s out′ (left-of s out n
 
 pub op-is-text : OpIsText
 unfolding opIn
-op-is-text t = (λ ws w e. ap (λ (u : List ℕ). opOf (readOf u)) (sym e) ∙ ap opOf (read-of-text ws w), λ none. ap opOf (read-refuses t none))
+op-is-text t = (λ ws w e. ap (λ (u : List ℕ). opOf (wordsOfText u)) (sym e) ∙ ap opOf (read-of-text ws w), λ none. ap opOf (read-refuses t none))
 
 -- ---- for C
 
@@ -270,12 +270,12 @@ rises-small low [] r k h = absurd (omega (arith, h))
 rises-small low (e ∷ l) r zero h = r .2
 rises-small low (e ∷ l) r (suc k) h = rises-small (addressIn e + 1) l (r .3) k (omega (arith, h))
 
-pub one-word : OneWord
+pub one-word : OneWordAt
 unfolding assembled
 one-word s out n out′ e a w v x y =
     let g = left-of s out n out′ e in
-    let l = placed s (countOf s) in
-    let lines : length l ≤ 4096 = omega (arith, placed-few s (countOf s), g .few) in
+    let l = wordsPlaced s (lineCount s) in
+    let lines : length l ≤ 4096 = omega (arith, placed-few s (lineCount s), g .few) in
     let rises = placed-rises s (g .in-place) in
     let count = count-of out′ (g .rest) l lines (g .front) in
     let i = x .place in
@@ -297,7 +297,7 @@ one-word s out n out′ e a w v x y =
 
 -- ---- a line with a label
 
-label-line : (s bytes : List ℕ) → Leaves s bytes → (i : ℕ) → i < countOf s → LabelGives s i bytes
+label-line : (s bytes : List ℕ) → Leaves s bytes → (i : ℕ) → i < lineCount s → LabelGives s i bytes
 unfolding saidAt
 label-line s bytes g i h = record {
   branch = λ how comma label.
@@ -323,7 +323,7 @@ label-line s bytes g i h = record {
       (r .0, r .1, r .2, given (r .0) (r .1) (r .3) (ap isOrigin how));
 }
   where
-    given : (ws : List ℕ) → Whole ws → wordsIn s (hereOf s i) (textAt s i) ≡ opOf ws → isOrigin (saidAt s i .how) ≡ false → Gives s i bytes ws
+    given : (ws : List ℕ) → Whole ws → lineOp s (hereOf s i) (textAt s i) ≡ opOf ws → isOrigin (saidAt s i .how) ≡ false → Gives s i bytes ws
     given ws w e o = line-gives s bytes g i ws h (whole-few ws w) (w .words) e o
 
 pub labels-give : LabelsGive

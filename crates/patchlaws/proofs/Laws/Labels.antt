@@ -14,21 +14,21 @@ use Rattle.wordmath.specs.Address.{plus}
 use Rattle.optext.specs.declared.Op.{Op}
 use Rattle.optext.specs.Digits.{unHex2, unHex4}
 use Rattle.optext.specs.Rows.{rows, theRow, nameOf, baseOf, firstOf, secondOf}
-use Rattle.optext.specs.Line.{regText, regA, regB, fieldOf, takes, taken, rowOf, sepText, rowText, lineText, textOf}
+use Rattle.optext.specs.Line.{regText, regA, regB, fieldOf, takes, taken, rowOf, sepText, rowText, opText, textOf}
 use Rattle.optext.specs.Column.{Whole}
-use Rattle.optext.specs.Read.{readOf, opOf}
+use Rattle.optext.specs.Read.{wordsOfText, opOf}
 use Rattle.optext.proofs.Laws.Choose.{lt-cases}
 use Rattle.optext.proofs.Laws.Back.{hex2-back}
 use Rattle.optext.proofs.Laws.Inside.{inside}
 use Rattle.optext.proofs.Laws.Trip.{word-back}
 use Rattle.optext.proofs.Laws.Reader.{read-of-words}
-use Rattle.patchline.specs.Text.{partOf, pastOf, isName}
+use Rattle.patchline.specs.Text.{slice, pastOf, isName}
 use Rattle.patchline.specs.declared.oneline.How.{How}
 use Rattle.patchline.specs.declared.oneline.How.the-variants.{Unknown, Origin, Plain, Branch, Sob, Relative}
 use Rattle.patchline.specs.declared.oneline.Said.{Said}
-use Rattle.patchline.specs.Line.{operandsAt, commaAt, firstIn, secondIn, atOf, bare, labelIn, filledIn, aliasOf, tailOf, filled, isDirective, isBranch, isSob, says, op, opIn, saidWith, saidOf, ahead, behind, withA, withLabel}
-use Rattle.assembler.specs.Source.{valueOf, put, wordsIn}
-use Rattle.patchlaws.specs.Labels.{Reads, branchDigits, sobDigits, BranchRead, SobRead, SobIsRow}
+use Rattle.patchline.specs.Line.{operandsAt, commaAt, firstIn, secondIn, atOf, bareOperand, labelIn, filledIn, aliasOf, tailOf, filled, isDirective, isBranch, isSob, says, op, opIn, saidWith, saidOf, ahead, behind, withA, withLabel}
+use Rattle.assembler.specs.Source.{valueOf, withLabels, lineOp}
+use Rattle.patchlaws.specs.Labels.{ReadsLine, branchDigits, sobDigits, BranchRead, SobRead, SobIsRow}
 
 -- ---- texts with two digits at their end
 
@@ -61,7 +61,7 @@ digits-same xs ys a b la lb e =
 
 record Tailed (w m : ℕ) : Type 0 where
   head : List ℕ
-  line : (d x y : ℕ) → d < m → lineText (w / m * m + d) x y ≡ head ++ hex2 d
+  line : (d x y : ℕ) → d < m → opText (w / m * m + d) x y ≡ head ++ hex2 d
   one : (d : ℕ) → d < m → taken (w / m * m + d) ≡ 1
   small : w / m * m + m ≤ 65536
 
@@ -122,7 +122,7 @@ numbered w e = by (leb 1 (w / 256) && leb (w / 256) 7) refl (leb 128 (w / 256) &
     by false p false g r = differ r
 
 branch-tailed : (w : ℕ) → w < 65536 → isBranch w ≡ true → Tailed w 256
-unfolding lineText taken
+unfolding opText taken
 branch-tailed w l e =
     let n = numbered w e in
     let j = numberOf (w / 256) in
@@ -153,7 +153,7 @@ unfolding theRow rows
 sob-one w = refl
 
 sob-tailed : (w : ℕ) → isSob w ≡ true → Tailed w 64
-unfolding lineText taken
+unfolding opText taken
 sob-tailed w e =
     let h : w / 512 ≡ 59 = eqb-true (w / 512) 59 e in
     let r = w / 64 % 8 in
@@ -175,11 +175,11 @@ sob-tailed w e =
 
 -- ---- a text with a label at its end: with digits for it
 
-pub isLabel : (o : List ℕ) → 0 < length (labelIn o) → isName (bare o) ≡ true
+pub isLabel : (o : List ℕ) → 0 < length (labelIn o) → isName (bareOperand o) ≡ true
 unfolding labelIn
-isLabel o h = by (isName (bare o)) h
+isLabel o h = by (isName (bareOperand o)) h
   where
-    by : (t : Bool) → 0 < length (cond t (bare o) []) → t ≡ true
+    by : (t : Bool) → 0 < length (cond t (bareOperand o) []) → t ≡ true
     by true k = refl
     by false k = absurd (omega (arith, k))
 
@@ -187,35 +187,35 @@ no-name : isName [] ≡ false
 unfolding isName pastOf
 no-name = refl
 
-pub noLabel : (o : List ℕ) → labelIn o ≡ [] → isName (bare o) ≡ false
+pub noLabel : (o : List ℕ) → labelIn o ≡ [] → isName (bareOperand o) ≡ false
 unfolding labelIn
-noLabel o e = by (isName (bare o)) refl e
+noLabel o e = by (isName (bareOperand o)) refl e
   where
-    by : (t : Bool) → isName (bare o) ≡ t → cond t (bare o) [] ≡ [] → t ≡ false
+    by : (t : Bool) → isName (bareOperand o) ≡ t → cond t (bareOperand o) [] ≡ [] → t ≡ false
     by true q z = sym q ∙ ap isName z ∙ no-name
     by false q z = refl
 
 abbrev pub beforeFirst : List ℕ → List ℕ
-beforeFirst t = aliasOf (partOf 0 (operandsAt t) t) ++ partOf 0 (atOf (firstIn t)) (firstIn t)
+beforeFirst t = aliasOf (slice 0 (operandsAt t) t) ++ slice 0 (atOf (firstIn t)) (firstIn t)
 
 abbrev pub beforeSecond : List ℕ → List ℕ
-beforeSecond t = (aliasOf (partOf 0 (operandsAt t) t) ++ firstIn t) ++ (44 ∷ partOf 0 (atOf (secondIn t)) (secondIn t))
+beforeSecond t = (aliasOf (slice 0 (operandsAt t) t) ++ firstIn t) ++ (44 ∷ slice 0 (atOf (secondIn t)) (secondIn t))
 
 -- its only operand
-pub first-filled : (t d : List ℕ) → length t ≤ commaAt t → isName (bare (firstIn t)) ≡ true
+pub first-filled : (t d : List ℕ) → length t ≤ commaAt t → isName (bareOperand (firstIn t)) ≡ true
     → filled d t ≡ beforeFirst t ++ d
 unfolding filled filledIn tailOf
 first-filled t d c e =
     rw (e, le-ltb (commaAt t) (length t) c)
-    (append-nil (aliasOf (partOf 0 (operandsAt t) t) ++ (partOf 0 (atOf (firstIn t)) (firstIn t) ++ d)) ∙ sym (append-assoc (aliasOf (partOf 0 (operandsAt t) t)) (partOf 0 (atOf (firstIn t)) (firstIn t)) d))
+    (append-nil (aliasOf (slice 0 (operandsAt t) t) ++ (slice 0 (atOf (firstIn t)) (firstIn t) ++ d)) ∙ sym (append-assoc (aliasOf (slice 0 (operandsAt t) t)) (slice 0 (atOf (firstIn t)) (firstIn t)) d))
 
 -- its second operand
-pub second-filled : (t d : List ℕ) → commaAt t < length t → isName (bare (firstIn t)) ≡ false → isName (bare (secondIn t)) ≡ true
+pub second-filled : (t d : List ℕ) → commaAt t < length t → isName (bareOperand (firstIn t)) ≡ false → isName (bareOperand (secondIn t)) ≡ true
     → filled d t ≡ beforeSecond t ++ d
 unfolding filled filledIn tailOf
 second-filled t d c f e =
     rw (f, e, lt-ltb (commaAt t) (length t) c)
-    (sym (append-assoc (aliasOf (partOf 0 (operandsAt t) t) ++ firstIn t) (44 ∷ partOf 0 (atOf (secondIn t)) (secondIn t)) d))
+    (sym (append-assoc (aliasOf (slice 0 (operandsAt t) t) ++ firstIn t) (44 ∷ slice 0 (atOf (secondIn t)) (secondIn t)) d))
 
 -- ---- the digits in their place give the op code with the field in it
 
@@ -223,14 +223,14 @@ record Digits (t vs : List ℕ) (m d : ℕ) : Type 0 where
   single : vs ≡ getD vs 0 0 ∷ []
   empty : getD vs 0 0 % m ≡ 0
   small : getD vs 0 0 + d < 65536
-  reads : Reads t (hex2 d) ((getD vs 0 0 + d) ∷ [])
+  reads : ReadsLine t (hex2 d) ((getD vs 0 0 + d) ∷ [])
 
 alone : (l : List ℕ) → length l ≡ 1 → l ≡ getD l 0 0 ∷ []
 alone [] e = absurd (omega (arith, e))
 alone (a ∷ []) e = refl
 alone (a ∷ b ∷ l) e = absurd (omega (arith, e))
 
-text-line : (l : List ℕ) → (y : ℕ) × (textOf l ≡ lineText (getD l 0 0) (getD l 1 0) y)
+text-line : (l : List ℕ) → (y : ℕ) × (textOf l ≡ opText (getD l 0 0) (getD l 1 0) y)
 unfolding textOf
 text-line l = (_, refl)
 
@@ -238,7 +238,7 @@ digits-read : (t q vs : List ℕ) (m d : ℕ) → getD vs 0 0 ≡ getD vs 0 0 / 
 digits-read t q vs m d parts low l k fill whole text r =
     let w = getD vs 0 0 in
     let line = text-line vs in
-    let own : lineText w (getD vs 1 0) (line .0) ≡ r .head ++ hex2 (w % m) = ap (λ (x : ℕ). lineText x (getD vs 1 0) (line .0)) parts ∙ r .line (w % m) (getD vs 1 0) (line .0) low in
+    let own : opText w (getD vs 1 0) (line .0) ≡ r .head ++ hex2 (w % m) = ap (λ (x : ℕ). opText x (getD vs 1 0) (line .0)) parts ∙ r .line (w % m) (getD vs 1 0) (line .0) low in
     let same = digits-same q (r .head) 0 (w % m) (omega arith) (omega (arith, low, l)) (sym (fill (hex2 0)) ∙ sym text ∙ line .1 ∙ own) in
     let base : w / m * m ≡ w = omega (arith, parts, same .1) in
     let new = text-line ((w + d) ∷ []) in
@@ -249,7 +249,7 @@ digits-read t q vs m d parts low l k fill whole text r =
       small = omega (arith, is, r .small, k);
       reads = record {
         whole = record { count = sym (ap taken is ∙ r .one d k); words = one-word (w + d) (omega (arith, is, r .small, k)) };
-        text = new .1 ∙ ap (λ (x : ℕ). lineText x 0 (new .0)) is ∙ r .line d 0 (new .0) k ∙ ap (λ (z : List ℕ). z ++ hex2 d) (sym (same .0)) ∙ sym (fill (hex2 d));
+        text = new .1 ∙ ap (λ (x : ℕ). opText x 0 (new .0)) is ∙ r .line d 0 (new .0) k ∙ ap (λ (z : List ℕ). z ++ hex2 d) (sym (same .0)) ∙ sym (fill (hex2 d));
       };
     }
   where
@@ -309,16 +309,16 @@ some-words (x ∷ l) n = omega arith
 
 -- ---- what is put into its words
 
-pub put-none : (s : List ℕ) (how : How) (third : Bool) (h : ℕ) (u : List ℕ) (o : Op) → u ≡ [] → put s how third h u o ≡ o
-unfolding put
+pub put-none : (s : List ℕ) (how : How) (third : Bool) (h : ℕ) (u : List ℕ) (o : Op) → u ≡ [] → withLabels s how third h u o ≡ o
+unfolding withLabels
 put-none s how third h u o e = rw e refl
 
-pub put-some : (s : List ℕ) (how : How) (third : Bool) (h : ℕ) (u : List ℕ) (o : Op) → 0 < length u → put s how third h u o ≡ withLabel how third (valueOf s u) h o
-unfolding put
+pub put-some : (s : List ℕ) (how : How) (third : Bool) (h : ℕ) (u : List ℕ) (o : Op) → 0 < length u → withLabels s how third h u o ≡ withLabel how third (valueOf s u) h o
+unfolding withLabels
 put-some s how third h u o l = rw (ne-eqb (length u) 0 (λ e. omega (arith, e, l))) refl
 
 nothing-in : labelIn [] ≡ []
-unfolding labelIn bare isName pastOf
+unfolding labelIn bareOperand isName pastOf
 nothing-in = refl
 
 past-end : (n : ℕ) (t : List ℕ) → length t ≤ n → drop n t ≡ []
@@ -339,10 +339,10 @@ has-comma t h =
 -- ---- THE STATEMENTS
 
 pub branch-read : BranchRead
-unfolding opIn wordsIn
+unfolding opIn lineOp
 branch-read s t h how comma label =
     let sb = said-branch t how in
-    let vs = readOf (zeros t) in
+    let vs = wordsOfText (zeros t) in
     let w = getD vs 0 0 in
     let some = some-words vs (λ e. differ (subst (λ (x : ℕ). isBranch x ≡ true) e (sb .0))) in
     let read = read-of-words (zeros t) some in
@@ -354,14 +354,14 @@ branch-read s t h how comma label =
     let words : withLabel Branch false (valueOf s u) h (opOf vs) ≡ opOf ((w + d) ∷ []) = ap (λ (l : List ℕ). withLabel Branch false (valueOf s u) h (opOf l)) (g .single) ∙ ap (λ (x : ℕ). opOf (x ∷ [])) a in (
       (w + d) ∷ [],
       g .reads,
-      rw (sb .1) (put-none s Branch (eqb (length vs) 3) h (labelIn (secondIn t)) (put s Branch false h u (opOf vs)) (no-second t comma) ∙ put-some s Branch false h u (opOf vs) label ∙ words),
+      rw (sb .1) (put-none s Branch (eqb (length vs) 3) h (labelIn (secondIn t)) (withLabels s Branch false h u (opOf vs)) (no-second t comma) ∙ put-some s Branch false h u (opOf vs) label ∙ words),
     )
 
 pub sob-read : SobRead
-unfolding opIn wordsIn
+unfolding opIn lineOp
 sob-read s t h how first label =
     let sb = said-sob t how in
-    let vs = readOf (zeros t) in
+    let vs = wordsOfText (zeros t) in
     let w = getD vs 0 0 in
     let some = some-words vs (λ e. differ (subst (λ (x : ℕ). isSob x ≡ true) e (sb .0))) in
     let read = read-of-words (zeros t) some in
@@ -373,7 +373,7 @@ sob-read s t h how first label =
     let words : withLabel Sob (eqb (length vs) 3) (valueOf s u) h (opOf vs) ≡ opOf ((w + d) ∷ []) = ap (λ (l : List ℕ). withLabel Sob (eqb (length vs) 3) (valueOf s u) h (opOf l)) (g .single) ∙ ap (λ (x : ℕ). opOf (x ∷ [])) a in (
       (w + d) ∷ [],
       g .reads,
-      rw (sb .1) (ap (λ (o : Op). put s Sob (eqb (length vs) 3) h u o) (put-none s Sob false h (labelIn (firstIn t)) (opOf vs) first) ∙ put-some s Sob (eqb (length vs) 3) h u (opOf vs) label ∙ words),
+      rw (sb .1) (ap (λ (o : Op). withLabels s Sob (eqb (length vs) 3) h u o) (put-none s Sob false h (labelIn (firstIn t)) (opOf vs) first) ∙ put-some s Sob (eqb (length vs) 3) h u (opOf vs) label ∙ words),
     )
 
 -- SOB is its row

@@ -13,16 +13,16 @@ use Rattle.opcodes.specs.Fields.{highByte}
 use Rattle.plate.specs.Plate.{formatOf}
 use Rattle.optext.specs.declared.Op.{Op}
 use Rattle.optext.specs.Rows.{rows, theRow, nameOf, firstOf, secondOf}
-use Rattle.optext.specs.Line.{regText, modeText, modeTakes, takes, taken, isReserved, rowOf, sepText, rowText, lineText, textOf}
+use Rattle.optext.specs.Line.{regText, modeText, modeTakes, takes, taken, isReserved, rowOf, sepText, rowText, opText, textOf}
 use Rattle.optext.specs.Column.{Whole}
-use Rattle.optext.specs.Read.{readOf, opOf}
+use Rattle.optext.specs.Read.{wordsOfText, opOf}
 use Rattle.optext.proofs.Laws.Choose.{both, both-left, both-right, at}
 use Rattle.optext.proofs.Laws.Inside.{inside}
 use Rattle.optext.proofs.Laws.Reader.{read-of-words}
 use Rattle.patchline.specs.declared.oneline.How.the-variants.{Relative}
 use Rattle.patchline.specs.Line.{commaAt, firstIn, secondIn, labelIn, filled, isSob, opIn, saidOf, withLabel}
-use Rattle.assembler.specs.Source.{valueOf, put, wordsIn}
-use Rattle.patchlaws.specs.Labels.{Reads, takesOne, OnlyRead, LastRead}
+use Rattle.assembler.specs.Source.{valueOf, withLabels, lineOp}
+use Rattle.patchlaws.specs.Labels.{ReadsLine, takesOne, OnlyRead, LastRead}
 use Rattle.patchlaws.proofs.Laws.Modes.{offsetPc, mode-end}
 use Rattle.patchlaws.proofs.Laws.Labels.{Each, each-at, differ, offsets, isLabel, noLabel, beforeFirst, beforeSecond, first-filled, second-filled, put-none, put-some, no-second, has-comma}
 use Rattle.patchlaws.proofs.Laws.Offsets.{said-relative, shown, put-in, put-whole, put-op, some-count, zero-offset, low-word}
@@ -66,7 +66,7 @@ seven-number q l e = by (at sevenTest 1024 tt q l)
         (ltb→lt (numberSeven q) 32 (both-left (ltb (numberSeven q) 32) _ u), eqb→eq (baseSeven (numberSeven q)) q (both-right (ltb (numberSeven q) 32) _ u))
 
 seven : (w : ℕ) → w < 65536 → formatOf (highByte w) ≡ 7 → Last w
-unfolding lineText taken
+unfolding opText taken
 seven w l e =
     let high : w / 64 / 4 ≡ w / 256 = omega arith in
     let n = seven-number (w / 64) (omega (arith, l)) (ap formatOf high ∙ e) in
@@ -78,7 +78,7 @@ seven w l e =
       head = nameOf (51 + j) ++ (32 ∷ []);
       text = λ l z.
           shown l (modeTakes (w % 64)) (ap (λ (v : ℕ). takes (firstOf (rowOf v)) v) z ∙ ap (λ (i : ℕ). takes (firstOf i) w) k ∙ r .first w)
-          ∙ ap (λ (v : ℕ). lineText v (getD l 1 0) (getD l (1 + modeTakes (w % 64)) 0)) z
+          ∙ ap (λ (v : ℕ). opText v (getD l 1 0) (getD l (1 + modeTakes (w % 64)) 0)) z
           ∙ rw k (r .text w (getD l 1 0) (getD l (1 + modeTakes (w % 64)) 0) ∙ ap (λ (m : List ℕ). (nameOf (51 + j) ++ (32 ∷ [])) ++ m) (append-nil (modeText (w % 64) (getD l 1 0))));
       count = rw (k, r .first w, r .second w) (omega arith);
     }
@@ -127,7 +127,7 @@ low-nine i d e l = by (rw (lt-ltb i 3 (omega (arith, l))) at e)
     by q = omega (arith, q, l)
 
 nine : (w : ℕ) → w < 65536 → formatOf (highByte w) ≡ 9 → (w / 512 ≡ 59 → ⊥) → (w / 1024 ≡ 28 → 8 ≤ w % 64) → Last w
-unfolding lineText taken
+unfolding opText taken
 nine w l e sob mode =
     let half : w / 256 / 2 ≡ w / 512 = omega arith in
     let n = nine-number (w / 256) (omega (arith, l)) e (λ z. sob (omega (arith, half, z))) in
@@ -139,7 +139,7 @@ nine w l e sob mode =
       head = (nameOf (rowNine i) ++ (32 ∷ regText (w / 64 % 8))) ++ (44 ∷ []);
       text = λ l z.
           shown l 0 (ap (λ (v : ℕ). takes (firstOf (rowOf v)) v) z ∙ ap (λ (i : ℕ). takes (firstOf i) w) k ∙ r .first w)
-          ∙ ap (λ (v : ℕ). lineText v (getD l 1 0) (getD l 1 0)) z
+          ∙ ap (λ (v : ℕ). opText v (getD l 1 0) (getD l 1 0)) z
           ∙ rw k (r .text w (getD l 1 0) (getD l 1 0));
       count = rw (k, r .first w, r .second w) (omega arith);
     }
@@ -186,7 +186,7 @@ last-of w l e = by (eqb (formatOf (highByte w)) 7) refl e
 
 record One (t : List ℕ) (v h : ℕ) : Type 0 where
   words : List ℕ
-  reads : Reads t (offsetPc (minus v (plus h 4))) words
+  reads : ReadsLine t (offsetPc (minus v (plus h 4))) words
   put : withLabel Relative false v h (opIn (offsets t)) ≡ opOf words
   third : eqb (opIn (offsets t) .count) 3 ≡ false
 
@@ -194,7 +194,7 @@ one : (t q : List ℕ) (v h : ℕ) → saidOf t .how ≡ Relative → takesOne (
 unfolding opIn
 one t q v h how takes-one fill =
     let sr = said-relative t how in
-    let vs = readOf (offsets t) in
+    let vs = wordsOfText (offsets t) in
     let w = getD vs 0 0 in
     let read = read-of-words (offsets t) (some-count vs (sr .0)) in
     let r = last-of w (read .0 .words 0) (ap (λ z. takesOne (z .op .a)) (sym (sr .1)) ∙ takes-one) in
@@ -214,19 +214,19 @@ one t q v h how takes-one fill =
     }
 
 pub only-read : OnlyRead
-unfolding wordsIn
+unfolding lineOp
 only-read s t h how takes-one comma label =
     let sr = said-relative t how in
     let x = one t (beforeFirst t) (valueOf s (labelIn (firstIn t))) h how takes-one (λ d. first-filled t d comma (isLabel (firstIn t) label)) in (
       x .words,
       x .reads,
       rw (sr .1)
-          (put-none s Relative (eqb (opIn (offsets t) .count) 3) h (labelIn (secondIn t)) (put s Relative false h (labelIn (firstIn t)) (opIn (offsets t))) (no-second t comma)
+          (put-none s Relative (eqb (opIn (offsets t) .count) 3) h (labelIn (secondIn t)) (withLabels s Relative false h (labelIn (firstIn t)) (opIn (offsets t))) (no-second t comma)
           ∙ put-some s Relative false h (labelIn (firstIn t)) (opIn (offsets t)) label ∙ x .put),
     )
 
 pub last-read : LastRead
-unfolding wordsIn
+unfolding lineOp
 last-read s t h how takes-one other label =
     let sr = said-relative t how in
     let u = labelIn (secondIn t) in
@@ -234,6 +234,6 @@ last-read s t h how takes-one other label =
       x .words,
       x .reads,
       rw (sr .1)
-          (ap (λ (z : Op). put s Relative (eqb (opIn (offsets t) .count) 3) h u z) (put-none s Relative false h (labelIn (firstIn t)) (opIn (offsets t)) other)
+          (ap (λ (z : Op). withLabels s Relative (eqb (opIn (offsets t) .count) 3) h u z) (put-none s Relative false h (labelIn (firstIn t)) (opIn (offsets t)) other)
           ∙ put-some s Relative (eqb (opIn (offsets t) .count) 3) h u (opIn (offsets t)) label ∙ ap (λ (b : Bool). withLabel Relative b (valueOf s u) h (opIn (offsets t))) (x .third) ∙ x .put),
     )

@@ -18,10 +18,10 @@ use Rattle.listing.specs.declared.Found.the-variants.{Nothing, Cut, Whole}
 use Rattle.listing.specs.Listing.{stands, allStand, wordsAt, foundAt, lineOf, movesOn, lineAt, nextAt, linesFrom, listingOf}
 use Rattle.listing.proofs.Laws.Alike.{and-true, or-right}
 use Rattle.listing.proofs.Laws.Joined.{taken-some}
-use Rattle.assembler.specs.Section.{entryOf, sectionOf}
-use Rattle.assembler.specs.Answer.{written}
+use Rattle.assembler.specs.Section.{sectionEntry, sectionOf}
+use Rattle.assembler.specs.Answer.{sectionWritten}
 use Rattle.patchlaws.proofs.Laws.Again.{text-said, word-said}
-use Rattle.patchlaws.specs.Pieces.{Piece, entriesFrom, entriesOf, Good, Rise}
+use Rattle.patchlaws.specs.Pieces.{Piece, entriesOfWords, entriesOfPieces, GoodPiece, Rise}
 use Rattle.patchlaws.proofs.Laws.Pieces.{pieces-again}
 use Rattle.patchlaws.specs.Listed.{piece, shownBy, piecesFrom, wordsFrom, piecesOf, fittedWords, Shows, ended, unfitted, shown, ListingShows, ListingAgain}
 
@@ -121,7 +121,7 @@ module _ (map image : List ℕ) (last : ℕ) where
     first-word a zero h = absurd (omega arith)
     first-word a (suc n) h = refl
 
-    whole-good : (a n : ℕ) → a % 2 ≡ 0 → AllThere a n → Good (piece a (take n (wordsAt image a)) (textOf (take n (wordsAt image a))))
+    whole-good : (a n : ℕ) → a % 2 ≡ 0 → AllThere a n → GoodPiece (piece a (take n (wordsAt image a)) (textOf (take n (wordsAt image a))))
     whole-good a n e h =
         let t = taken-le (wordAt image a) in
         let s = taken-some (wordAt image a) in
@@ -144,7 +144,7 @@ module _ (map image : List ℕ) (last : ℕ) where
         room (suc (suc (suc zero))) i h l = let z = inside (a + 4) (h .third refl) in omega arith
         room (suc (suc (suc (suc n)))) i h l = absurd (let t = taken-le (wordAt image a) in let c = h .count in omega arith)
 
-    cut-good : (a : ℕ) → a % 2 ≡ 0 → a ≤ last → Good (piece a (wordAt image a ∷ []) (wordText (wordAt image a)))
+    cut-good : (a : ℕ) → a % 2 ≡ 0 → a ≤ last → GoodPiece (piece a (wordAt image a ∷ []) (wordText (wordAt image a)))
     cut-good a e h = record {
       even = e;
       some = omega arith;
@@ -178,7 +178,7 @@ module _ (map image : List ℕ) (last : ℕ) where
   words-past zero a h = refl
   words-past (suc m) a h = rw (lt-leb a last h) (words-past m (a + 2) (omega arith))
 
-  word-here : (m a : ℕ) → stands map last a ≡ true → wordsFrom map image last (suc m) a ≡ entryOf a (wordAt image a) ∷ wordsFrom map image last m (a + 2)
+  word-here : (m a : ℕ) → stands map last a ≡ true → wordsFrom map image last (suc m) a ≡ sectionEntry a (wordAt image a) ∷ wordsFrom map image last m (a + 2)
   unfolding wordsFrom
   word-here m a s = rw s refl
 
@@ -186,7 +186,7 @@ module _ (map image : List ℕ) (last : ℕ) where
   unfolding wordsFrom
   no-word m a f = rw f (go (leb a last))
     where
-      go : (b : Bool) → cond (b && false) (entryOf a (wordAt image a) ∷ wordsFrom map image last m (a + 2)) (wordsFrom map image last m (a + 2)) ≡ wordsFrom map image last m (a + 2)
+      go : (b : Bool) → cond (b && false) (sectionEntry a (wordAt image a) ∷ wordsFrom map image last m (a + 2)) (wordsFrom map image last m (a + 2)) ≡ wordsFrom map image last m (a + 2)
       go true = refl
       go false = refl
 
@@ -201,15 +201,15 @@ module _ (map image : List ℕ) (last : ℕ) where
   abbrev Same : List ℕ → ℕ → Type 0
   Same es b = (m : ℕ) → Reaches m b → es ≡ wordsFrom map image last m b
 
-  one-more : (a : ℕ) (es : List ℕ) → stands map last a ≡ true → Same es (a + 2) → Same (entryOf a (wordAt image a) ∷ es) a
+  one-more : (a : ℕ) (es : List ℕ) → stands map last a ≡ true → Same es (a + 2) → Same (sectionEntry a (wordAt image a) ∷ es) a
   one-more a es s f zero h = absurd (let z = inside a s in omega arith)
-  one-more a es s f (suc m) h = ap (λ (l : List ℕ). entryOf a (wordAt image a) ∷ l) (f m (omega arith)) ∙ sym (word-here m a s)
+  one-more a es s f (suc m) h = ap (λ (l : List ℕ). sectionEntry a (wordAt image a) ∷ l) (f m (omega arith)) ∙ sym (word-here m a s)
 
   none-more : (a : ℕ) (es : List ℕ) → a ≤ last → fitted map a ≡ false → Same es (a + 2) → Same es a
   none-more a es l e f zero h = absurd (omega arith)
   none-more a es l e f (suc m) h = f m (omega arith) ∙ sym (no-word m a e)
 
-  whole-more : (k a : ℕ) (es : List ℕ) → AllThere a k → Same es (a + k * 2) → Same (entriesFrom a (take k (wordsAt image a)) ++ es) a
+  whole-more : (k a : ℕ) (es : List ℕ) → AllThere a k → Same es (a + k * 2) → Same (entriesOfWords a (take k (wordsAt image a)) ++ es) a
   whole-more zero a es z f = absurd (let t = taken-some (wordAt image a) in let c = z .count in omega arith)
   whole-more (suc zero) a es z f = one-more a es (z .first) f
   whole-more (suc (suc zero)) a es z f =
@@ -221,22 +221,22 @@ module _ (map image : List ℕ) (last : ℕ) where
       one-more a _ (z .first) (one-more (a + 2) _ (z .second refl) (rw e (one-more (a + 4) es (z .third refl) (rw g f))))
   whole-more (suc (suc (suc (suc k)))) a es z f = absurd (let t = taken-le (wordAt image a) in let c = z .count in omega arith)
 
-  module _ (n : ℕ) (same : (a : ℕ) → Reaches n a → Same (entriesOf (piecesFrom map image last n a)) a) (a : ℕ) (h : Reaches (suc n) a) where
-    same-found : (f : Found) → At a f → a ≤ last → Same (entriesOf (shownBy a (wordsAt image a) f ++ piecesFrom map image last n (a + movesOn f * 2))) a
-    unfolding shownBy entriesOf
+  module _ (n : ℕ) (same : (a : ℕ) → Reaches n a → Same (entriesOfPieces (piecesFrom map image last n a)) a) (a : ℕ) (h : Reaches (suc n) a) where
+    same-found : (f : Found) → At a f → a ≤ last → Same (entriesOfPieces (shownBy a (wordsAt image a) f ++ piecesFrom map image last n (a + movesOn f * 2))) a
+    unfolding shownBy entriesOfPieces
     same-found Nothing z l = none-more a _ l z (same (a + 1 * 2) (omega arith))
     same-found Cut z l = one-more a _ (standing a l z) (same (a + 1 * 2) (omega arith))
     same-found (Whole k) z l =
         whole-more k a _ z (same (a + k * 2) (let t = taken-some (wordAt image a) in let c = z .count in omega arith))
 
     same-more : (b : Bool) → leb a last ≡ b
-        → Same (entriesOf (cond b (shownBy a (wordsAt image a) (foundAt map image last a) ++ piecesFrom map image last n (nextAt map image last a)) [])) a
-    unfolding entriesOf nextAt
+        → Same (entriesOfPieces (cond b (shownBy a (wordsAt image a) (foundAt map image last a) ++ piecesFrom map image last n (nextAt map image last a)) [])) a
+    unfolding entriesOfPieces nextAt
     same-more true q = same-found (foundAt map image last a) (at a) (leb-true a last q)
     same-more false q = λ m r. sym (words-past m a (leb-false a last q))
 
-  same-from : (n a : ℕ) → Reaches n a → Same (entriesOf (piecesFrom map image last n a)) a
-  unfolding piecesFrom entriesOf
+  same-from : (n a : ℕ) → Reaches n a → Same (entriesOfPieces (piecesFrom map image last n a)) a
+  unfolding piecesFrom entriesOfPieces
   same-from zero a h = λ m r. sym (words-past m a (omega arith))
   same-from (suc n) a h = same-more n (same-from n) a h (leb a last) refl
 
@@ -245,7 +245,7 @@ module _ (first last : ℕ) (map image : List ℕ) where
   unfolding listingOf piecesOf
   listing-shows = shows-from map image last 32768 first
 
-  entries-are : last < 65536 → entriesOf (piecesOf first last map image) ≡ fittedWords first last map image
+  entries-are : last < 65536 → entriesOfPieces (piecesOf first last map image) ≡ fittedWords first last map image
   unfolding piecesOf fittedWords
   entries-are h = same-from map image last 32768 first (omega arith) 32768 (omega arith)
 
@@ -257,4 +257,4 @@ module _ (first last : ℕ) (map image : List ℕ) where
     pub listing-again : ListingAgain first last map image bytes even small
     listing-again out n r =
         pieces-again (piecesOf first last map image) rises out r n
-        ∙ ap (λ (ws : List ℕ). written (sectionOf ws) out) (entries-are small)
+        ∙ ap (λ (ws : List ℕ). sectionWritten (sectionOf ws) out) (entries-are small)

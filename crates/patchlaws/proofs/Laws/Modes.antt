@@ -9,7 +9,7 @@ use lib.Dec.{T, eqb, eqb→eq}
 use lib.ListN.{length, drop, getD, length-append}
 use Rattle.hexdigits.specs.Digits.{letters, digits, hexOf, hex4}
 use Rattle.optext.specs.Digits.{unHex4}
-use Rattle.optext.specs.Shown.{other, Other, Without, none, more}
+use Rattle.optext.specs.Shown.{other, OtherLetter, Without, none, more}
 use Rattle.optext.proofs.Laws.Shown.{without-append, without-at, lacks}
 use Rattle.optext.proofs.Laws.Choose.{both, both-left, both-right, at}
 use Rattle.optext.proofs.Laws.Back.{hex4-back}
@@ -21,30 +21,30 @@ pub computed : (c : ℕ) (t : List ℕ) → T (lacks c t) → Without c t
 computed c [] h = none
 computed c (x ∷ t) h = more (record { is = both-left (other c x) (lacks c t) h }) (computed c t (both-right (other c x) (lacks c t) h))
 
-not-it : (c x : ℕ) → Other c x → x ≡ c → ⊥
+not-it : (c x : ℕ) → OtherLetter c x → x ≡ c → ⊥
 not-it c x o e = by (eqb x c) refl (o .is)
   where
     by : (t : Bool) → eqb x c ≡ t → T (not t) → ⊥
     by true q h = h
     by false q h = eqb-false x c q e
 
-digit-not-41 : (d : ℕ) → Other 41 (hexOf d)
+digit-not-41 : (d : ℕ) → OtherLetter 41 (hexOf d)
 unfolding hexOf digits
 digit-not-41 d = without-at 41 digits d (record { is = tt }) (computed 41 digits tt)
 
-digit-not-44 : (d : ℕ) → Other 44 (hexOf d)
+digit-not-44 : (d : ℕ) → OtherLetter 44 (hexOf d)
 unfolding hexOf digits
 digit-not-44 d = without-at 44 digits d (record { is = tt }) (computed 44 digits tt)
 
-second-not-41 : (r : ℕ) → Other 41 (regB r)
+second-not-41 : (r : ℕ) → OtherLetter 41 (regB r)
 unfolding regB registers
 second-not-41 r = without-at 41 registers (r * 2 + 1) (record { is = tt }) (computed 41 registers tt)
 
-first-not-44 : (r : ℕ) → Other 44 (regA r)
+first-not-44 : (r : ℕ) → OtherLetter 44 (regA r)
 unfolding regA registers
 first-not-44 r = without-at 44 registers (r * 2) (record { is = tt }) (computed 44 registers tt)
 
-second-not-44 : (r : ℕ) → Other 44 (regB r)
+second-not-44 : (r : ℕ) → OtherLetter 44 (regB r)
 unfolding regB registers
 second-not-44 r = without-at 44 registers (r * 2 + 1) (record { is = tt }) (computed 44 registers tt)
 

@@ -15,22 +15,22 @@ use Rattle.plate.specs.Plate.{formatOf}
 use Rattle.optext.specs.declared.Op.{Op}
 use Rattle.optext.specs.Digits.{unHex4}
 use Rattle.optext.specs.Rows.{rows, theRow, nameOf, firstOf, secondOf}
-use Rattle.optext.specs.Line.{modeText, modeTakes, takes, taken, rowOf, sepText, rowText, lineText, textOf}
+use Rattle.optext.specs.Line.{modeText, modeTakes, takes, taken, rowOf, sepText, rowText, opText, textOf}
 use Rattle.optext.specs.Shown.{Without}
 use Rattle.optext.specs.Column.{Whole}
-use Rattle.optext.specs.Read.{readOf, opOf}
+use Rattle.optext.specs.Read.{wordsOfText, opOf}
 use Rattle.optext.proofs.Laws.Shown.{without-append}
 use Rattle.optext.proofs.Laws.Choose.{both, both-left, both-right, at}
 use Rattle.optext.proofs.Laws.Back.{op-ignores}
 use Rattle.optext.proofs.Laws.Forms.{mode-takes-le}
 use Rattle.optext.proofs.Laws.Inside.{inside}
 use Rattle.optext.proofs.Laws.Reader.{read-of-words}
-use Rattle.patchline.specs.Text.{partOf, isName}
+use Rattle.patchline.specs.Text.{slice, isName}
 use Rattle.patchline.specs.declared.oneline.How.{How}
 use Rattle.patchline.specs.declared.oneline.How.the-variants.{Unknown, Origin, Plain, Branch, Sob, Relative}
-use Rattle.patchline.specs.Line.{operandsAt, commaAt, firstIn, secondIn, atOf, bare, labelIn, filledIn, aliasOf, tailOf, filled, isDirective, isBranch, isSob, says, op, opIn, saidWith, saidOf, withLabel}
-use Rattle.assembler.specs.Source.{valueOf, put, wordsIn}
-use Rattle.patchlaws.specs.Labels.{Reads, offsetDigits, filledTwice, FirstRead, SecondRead, BothRead}
+use Rattle.patchline.specs.Line.{operandsAt, commaAt, firstIn, secondIn, atOf, bareOperand, labelIn, filledIn, aliasOf, tailOf, filled, isDirective, isBranch, isSob, says, op, opIn, saidWith, saidOf, withLabel}
+use Rattle.assembler.specs.Source.{valueOf, withLabels, lineOp}
+use Rattle.patchlaws.specs.Labels.{ReadsLine, offsetDigits, filledTwice, FirstRead, SecondRead, BothRead}
 use Rattle.patchlaws.proofs.Laws.Modes.{computed, mode-commas, comma-same, offsetPc, zeros-are, mode-end}
 use Rattle.patchlaws.proofs.Laws.Labels.{Each, each-at, unlike, zeros, offsets, isLabel, noLabel, beforeFirst, beforeSecond, second-filled, put-none, put-some, has-comma}
 
@@ -68,13 +68,13 @@ ten-number h l e = by (at tenTest 256 tt h l)
 
 record Ten (w : ℕ) : Type 0 where
   name : List ℕ
-  text : (x y : ℕ) → lineText w x y ≡ (name ++ modeText (w / 64 % 64) x) ++ (44 ∷ modeText (w % 64) y)
+  text : (x y : ℕ) → opText w x y ≡ (name ++ modeText (w / 64 % 64) x) ++ (44 ∷ modeText (w % 64) y)
   first : takes (firstOf (rowOf w)) w ≡ modeTakes (w / 64 % 64)
   count : taken w ≡ 1 + modeTakes (w / 64 % 64) + modeTakes (w % 64)
   free : Without 44 name
 
 ten : (w : ℕ) → w < 65536 → formatOf (highByte w) ≡ 10 → Ten w
-unfolding lineText taken
+unfolding opText taken
 ten w l e =
     let n = ten-number (w / 256) (omega (arith, l)) e in
     let j = numberOf (w / 256 / 16) in
@@ -116,16 +116,16 @@ said-relative t h =
     (op 0 0) (opIn t) (op 0 (unHex4 (drop 5 t))) (op 1 (unHex4 (drop 6 t))) (opIn (zeros t)) (op 0 0) (opIn (offsets t)) h
 
 -- the first operand's label, before a second operand
-first-of-two : (t d : List ℕ) → commaAt t < length t → isName (bare (firstIn t)) ≡ true → isName (bare (secondIn t)) ≡ false → filled d t ≡ (beforeFirst t ++ d) ++ (44 ∷ secondIn t)
+first-of-two : (t d : List ℕ) → commaAt t < length t → isName (bareOperand (firstIn t)) ≡ true → isName (bareOperand (secondIn t)) ≡ false → filled d t ≡ (beforeFirst t ++ d) ++ (44 ∷ secondIn t)
 unfolding filled filledIn tailOf
 first-of-two t d c f e =
     rw (f, e, lt-ltb (commaAt t) (length t) c)
-    (ap (λ (z : List ℕ). z ++ (44 ∷ secondIn t)) (sym (append-assoc (aliasOf (partOf 0 (operandsAt t) t)) (partOf 0 (atOf (firstIn t)) (firstIn t)) d)))
+    (ap (λ (z : List ℕ). z ++ (44 ∷ secondIn t)) (sym (append-assoc (aliasOf (slice 0 (operandsAt t) t)) (slice 0 (atOf (firstIn t)) (firstIn t)) d)))
 
 -- ---- a word put into others
 
 -- the text of words, by the words that it shows
-pub shown : (l : List ℕ) (n : ℕ) → takes (firstOf (rowOf (getD l 0 0))) (getD l 0 0) ≡ n → textOf l ≡ lineText (getD l 0 0) (getD l 1 0) (getD l (1 + n) 0)
+pub shown : (l : List ℕ) (n : ℕ) → takes (firstOf (rowOf (getD l 0 0))) (getD l 0 0) ≡ n → textOf l ≡ opText (getD l 0 0) (getD l 1 0) (getD l (1 + n) 0)
 unfolding textOf
 shown l n e = rw e refl
 
@@ -169,17 +169,17 @@ pub low-word : (v h n : ℕ) → minus v (plus h n) < 65536
 low-word v h n = omega arith
 
 -- the line of a first operand that has no word of its own
-line-ignores : (w x′ x y : ℕ) → takes (firstOf (rowOf w)) w ≡ 0 → lineText w x′ y ≡ lineText w x y
-unfolding lineText sepText
+line-ignores : (w x′ x y : ℕ) → takes (firstOf (rowOf w)) w ≡ 0 → opText w x′ y ≡ opText w x y
+unfolding opText sepText
 line-ignores w x′ x y e = rw (op-ignores (firstOf (rowOf w)) w x′ x e) refl
 
 -- ---- THE STATEMENTS
 
 pub first-read : FirstRead
-unfolding opIn wordsIn
+unfolding opIn lineOp
 first-read s t h how ten-op comma label other =
     let sr = said-relative t how in
-    let vs = readOf (offsets t) in
+    let vs = wordsOfText (offsets t) in
     let w = getD vs 0 0 in
     let read = read-of-words (offsets t) (some-count vs (sr .0)) in
     let r = ten w (read .0 .words 0) (ap (λ z. formatOf (highByte (z .op .a))) (sym (sr .1)) ∙ ten-op) in
@@ -201,14 +201,14 @@ first-read s t h how ten-op comma label other =
       set vs 1 o,
       record { whole = put-whole vs 1 o (omega arith) (omega (arith, n)) (low-word v h 4) (read .0); text = text },
       rw (sr .1)
-          (put-none s Relative (eqb (length vs) 3) h (labelIn (secondIn t)) (put s Relative false h (labelIn (firstIn t)) (opOf vs)) other ∙ put-some s Relative false h (labelIn (firstIn t)) (opOf vs) label ∙ words),
+          (put-none s Relative (eqb (length vs) 3) h (labelIn (secondIn t)) (withLabels s Relative false h (labelIn (firstIn t)) (opOf vs)) other ∙ put-some s Relative false h (labelIn (firstIn t)) (opOf vs) label ∙ words),
     )
 
 pub second-read : SecondRead
-unfolding opIn wordsIn
+unfolding opIn lineOp
 second-read s t h how ten-op other label =
     let sr = said-relative t how in
-    let vs = readOf (offsets t) in
+    let vs = wordsOfText (offsets t) in
     let w = getD vs 0 0 in
     let read = read-of-words (offsets t) (some-count vs (sr .0)) in
     let r = ten w (read .0 .words 0) (ap (λ z. formatOf (highByte (z .op .a))) (sym (sr .1)) ∙ ten-op) in
@@ -217,7 +217,7 @@ second-read s t h how ten-op other label =
     let y = getD vs (1 + m1) 0 in
     let fill : (d : List ℕ) → filled d t ≡ beforeSecond t ++ d = λ d. second-filled t d (has-comma t label) (noLabel (firstIn t) other) (isLabel (secondIn t) label) in
     let before : List ℕ = (r .name ++ modeText (w / 64 % 64) x) ++ (44 ∷ []) in
-    let own : lineText w x y ≡ before ++ modeText (w % 64) y = r .text x y ∙ sym (append-assoc (r .name ++ modeText (w / 64 % 64) x) (44 ∷ []) (modeText (w % 64) y)) in
+    let own : opText w x y ≡ before ++ modeText (w % 64) y = r .text x y ∙ sym (append-assoc (r .name ++ modeText (w / 64 % 64) x) (44 ∷ []) (modeText (w % 64) y)) in
     let line : before ++ modeText (w % 64) y ≡ beforeSecond t ++ offsetPc 0 =
     sym own ∙ sym (shown vs m1 (r .first)) ∙ read .1 ∙ ap (λ (z : List ℕ). filled z t) zero-offset ∙ fill (offsetPc 0) in
     let m = mode-end before (beforeSecond t) (w % 64) y (omega arith) line in
@@ -236,13 +236,13 @@ second-read s t h how ten-op other label =
       set vs i o,
       record { whole = put-whole vs i o (omega arith) (omega (arith, n)) (low-word v h (cond (eqb (length vs) 3) 6 4)) (read .0); text = rw (sr .1) text },
       rw (sr .1)
-          (ap (λ (z : Op). put s Relative (eqb (length vs) 3) h (labelIn (secondIn t)) z) (put-none s Relative false h (labelIn (firstIn t)) (opOf vs) other) ∙ put-some s Relative (eqb (length vs) 3) h (labelIn (secondIn t)) (opOf vs) label ∙ words),
+          (ap (λ (z : Op). withLabels s Relative (eqb (length vs) 3) h (labelIn (secondIn t)) z) (put-none s Relative false h (labelIn (firstIn t)) (opOf vs) other) ∙ put-some s Relative (eqb (length vs) 3) h (labelIn (secondIn t)) (opOf vs) label ∙ words),
     )
   where
     -- the first operand's own word is as it was, or it has none
-    kept : (w x x′ y n : ℕ) → takes (firstOf (rowOf w)) w ≡ n → n ≤ 1 → (n ≡ 1 → x′ ≡ x) → lineText w x′ y ≡ lineText w x y
+    kept : (w x x′ y n : ℕ) → takes (firstOf (rowOf w)) w ≡ n → n ≤ 1 → (n ≡ 1 → x′ ≡ x) → opText w x′ y ≡ opText w x y
     kept w x x′ y zero e l f = line-ignores w x′ x y e
-    kept w x x′ y (suc zero) e l f = ap (λ (z : ℕ). lineText w z y) (f refl)
+    kept w x x′ y (suc zero) e l f = ap (λ (z : ℕ). opText w z y) (f refl)
     kept w x x′ y (suc (suc n)) e l f = absurd (omega (arith, l))
 
     -- the second or the third word, by their number
@@ -261,14 +261,14 @@ second-read s t h how ten-op other label =
 -- ---- both operands are labels
 
 abbrev atSecond : List ℕ → List ℕ
-atSecond t = partOf 0 (atOf (secondIn t)) (secondIn t)
+atSecond t = slice 0 (atOf (secondIn t)) (secondIn t)
 
-twice-filled : (t d e : List ℕ) → commaAt t < length t → isName (bare (firstIn t)) ≡ true → isName (bare (secondIn t)) ≡ true
+twice-filled : (t d e : List ℕ) → commaAt t < length t → isName (bareOperand (firstIn t)) ≡ true → isName (bareOperand (secondIn t)) ≡ true
     → filledTwice d e t ≡ (beforeFirst t ++ d) ++ (44 ∷ (atSecond t ++ e))
 unfolding filledIn tailOf
 twice-filled t d e c f g =
     rw (f, g, lt-ltb (commaAt t) (length t) c)
-    (ap (λ (z : List ℕ). z ++ (44 ∷ (atSecond t ++ e))) (sym (append-assoc (aliasOf (partOf 0 (operandsAt t) t)) (partOf 0 (atOf (firstIn t)) (firstIn t)) d)))
+    (ap (λ (z : List ℕ). z ++ (44 ∷ (atSecond t ++ e))) (sym (append-assoc (aliasOf (slice 0 (operandsAt t) t)) (slice 0 (atOf (firstIn t)) (firstIn t)) d)))
 
 once-twice : (t d : List ℕ) → filled d t ≡ filledTwice d d t
 unfolding filled
@@ -281,10 +281,10 @@ three-words a b c la lb lc (suc (suc zero)) = lc
 three-words a b c la lb lc (suc (suc (suc i))) = omega arith
 
 pub both-read : BothRead
-unfolding opIn wordsIn
+unfolding opIn lineOp
 both-read s t h how ten-op label label′ =
     let sr = said-relative t how in
-    let vs = readOf (offsets t) in
+    let vs = wordsOfText (offsets t) in
     let w = getD vs 0 0 in
     let read = read-of-words (offsets t) (some-count vs (sr .0)) in
     let r = ten w (read .0 .words 0) (ap (λ z. formatOf (highByte (z .op .a))) (sym (sr .1)) ∙ ten-op) in
@@ -308,6 +308,6 @@ both-read s t h how ten-op label label′ =
       record { count = sym three; words = three-words w o p (read .0 .words 0) (low-word v h 4) (low-word u h 6) },
       text,
       rw (sr .1)
-          (put-some s Relative (eqb (length vs) 3) h (labelIn (secondIn t)) (put s Relative false h (labelIn (firstIn t)) (opOf vs)) label′
+          (put-some s Relative (eqb (length vs) 3) h (labelIn (secondIn t)) (withLabels s Relative false h (labelIn (firstIn t)) (opOf vs)) label′
           ∙ ap (λ (z : Op). withLabel Relative (eqb (length vs) 3) u h z) (put-some s Relative false h (labelIn (firstIn t)) (opOf vs) label) ∙ words),
     )

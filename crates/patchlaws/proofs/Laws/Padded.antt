@@ -7,10 +7,10 @@ use native.Mathlib.Omega.{arith}
 use lib.Dec.{T, eqb}
 use lib.ListN.{length, take, drop, getD, replicate, length-append, length-replicate, getD-replicate, List·getD-append}
 use lib.Seq.{take-append-seam, drop-append-add, take-at, getD-append-add}
-use Rattle.optext.specs.Read.{same}
-use Rattle.patchline.specs.Text.{isName, gives, nameIn, labelOf, endFrom, shown, restOf}
-use Rattle.assembler.specs.Source.{countOf, lineAt, textAt}
-use Rattle.optext.specs.Shown.{Other, Without, none, more, lastOf, Stands}
+use Rattle.optext.specs.Read.{sameText}
+use Rattle.patchline.specs.Text.{isName, gives, nameIn, labelOf, paddingFrom, withoutPadding, restOf}
+use Rattle.assembler.specs.Source.{lineCount, lineAt, textAt}
+use Rattle.optext.specs.Shown.{OtherLetter, Without, none, more, lastLetter, Stands}
 use Rattle.optext.proofs.Laws.Shown.{without-append, without-at}
 use Rattle.patchlaws.specs.Padded.{padded, sourceOf}
 
@@ -20,7 +20,7 @@ unfoldable pub AllStand : List (List ℕ) → Type 0
 AllStand [] = Unit {0}
 AllStand (t ∷ ts) = Stands t × AllStand ts
 
-not-at : (c x : ℕ) → Other c x → eqb x c ≡ false
+not-at : (c x : ℕ) → OtherLetter c x → eqb x c ≡ false
 not-at c x h = go (eqb x c) (h .is)
   where
     go : (b : Bool) → T (not b) → b ≡ false
@@ -31,7 +31,7 @@ no-colons : (n : ℕ) → Without 58 (replicate n 32)
 no-colons zero = none
 no-colons (suc n) = more (record { is = tt }) (no-colons n)
 
-last-at : (x : ℕ) (t : List ℕ) → getD (x ∷ t) (length t) 0 ≡ lastOf x t
+last-at : (x : ℕ) (t : List ℕ) → getD (x ∷ t) (length t) 0 ≡ lastLetter x t
 last-at x [] = refl
 last-at x (y ∷ t) = last-at y t
 
@@ -44,7 +44,7 @@ module _ (t : List ℕ) (s : Stands t) where
       let c : eqb (getD (t ++ replicate (32 - length t) 32) (length u) 0) 58 ≡ false =
       not-at 58 _ (without-at 58 (t ++ replicate (32 - length t) 32) (length u) (record { is = tt }) (without-append (s .colon) (no-colons (32 - length t))))
       in
-      rw c (go (isName u) (same (take (length u) (t ++ replicate (32 - length t) 32)) u) u)
+      rw c (go (isName u) (sameText (take (length u) (t ++ replicate (32 - length t) 32)) u) u)
     where
       go : (b c : Bool) (u : List ℕ) → cond b (cond (c && false) u []) [] ≡ []
       go true true u = refl
@@ -52,24 +52,24 @@ module _ (t : List ℕ) (s : Stands t) where
       go false c u = refl
 
 -- the padding goes
-spaces-end : (t : List ℕ) (n m : ℕ) → m ≤ n → endFrom (length t + m) (t ++ replicate n 32) ≡ endFrom (length t) (t ++ replicate n 32)
-unfolding endFrom
+spaces-end : (t : List ℕ) (n m : ℕ) → m ≤ n → paddingFrom (length t + m) (t ++ replicate n 32) ≡ paddingFrom (length t) (t ++ replicate n 32)
+unfolding paddingFrom
 spaces-end t n zero h = let z : length t + 0 ≡ length t = omega arith in rw z refl
 spaces-end t n (suc m) h =
     let z : length t + suc m ≡ suc (length t + m) = omega arith in
     let q : getD (t ++ replicate n 32) (length t + m) 0 ≡ 32 = getD-append-add t (replicate n 32) m 0 ∙ getD-replicate n m 32 0 (omega arith) in
     rw (z, q) (spaces-end t n m (omega arith))
 
-text-end : (t p : List ℕ) → Other 32 (lastOf 0 t) → endFrom (length t) (t ++ p) ≡ length t
-unfolding endFrom
+text-end : (t p : List ℕ) → OtherLetter 32 (lastLetter 0 t) → paddingFrom (length t) (t ++ p) ≡ length t
+unfolding paddingFrom
 text-end [] p h = refl
 text-end (x ∷ t) p h =
-    let q : getD ((x ∷ t) ++ p) (length t) 0 ≡ lastOf x t = List·getD-append (x ∷ t) p 0 (length t) (omega arith) ∙ last-at x t in
-    rw (q, not-at 32 (lastOf x t) h) refl
+    let q : getD ((x ∷ t) ++ p) (length t) 0 ≡ lastLetter x t = List·getD-append (x ∷ t) p 0 (length t) (omega arith) ∙ last-at x t in
+    rw (q, not-at 32 (lastLetter x t) h) refl
 
 -- THE TEXT IS THE REST OF ITS LINE
 pub rest-is : (t : List ℕ) → Stands t → restOf (padded t) ≡ t
-unfolding restOf shown padded
+unfolding restOf withoutPadding padded
 rest-is t s = rw (no-label t s) found
   where
     n : ℕ
@@ -78,10 +78,10 @@ rest-is t s = rw (no-label t s) found
     size : length (t ++ replicate n 32) ≡ length t + n
     size = simp length-append (ap (λ (k : ℕ). length t + k) (length-replicate n 32))
 
-    end : endFrom (length (t ++ replicate n 32)) (t ++ replicate n 32) ≡ length t
-    end = ap (λ (k : ℕ). endFrom k (t ++ replicate n 32)) size ∙ spaces-end t n n (omega arith) ∙ text-end t (replicate n 32) (s .ending)
+    end : paddingFrom (length (t ++ replicate n 32)) (t ++ replicate n 32) ≡ length t
+    end = ap (λ (k : ℕ). paddingFrom k (t ++ replicate n 32)) size ∙ spaces-end t n n (omega arith) ∙ text-end t (replicate n 32) (s .ending)
 
-    found : take (endFrom (length (t ++ replicate n 32)) (t ++ replicate n 32)) (t ++ replicate n 32) ≡ t
+    found : take (paddingFrom (length (t ++ replicate n 32)) (t ++ replicate n 32)) (t ++ replicate n 32) ≡ t
     found = ap (λ (k : ℕ). take k (t ++ replicate n 32)) end ∙ take-append-seam t (replicate n 32)
 
 -- ---- the lines of a source
@@ -117,7 +117,7 @@ stands-at (t ∷ ts) zero s h = s .0
 stands-at (t ∷ ts) (suc i) s h = stands-at ts i (s .1) (omega arith)
 
 module _ (ts : List (List ℕ)) (a : AllStand ts) where
-  pub count-is : countOf (sourceOf ts) ≡ length ts
+  pub count-is : lineCount (sourceOf ts) ≡ length ts
   count-is = let h = source-lines ts a in omega arith
 
   module _ (i : ℕ) (h : i < length ts) where

@@ -16,8 +16,8 @@ use Rattle.patchline.specs.declared.oneline.How.{How}
 use Rattle.patchline.specs.declared.oneline.How.the-variants.{Unknown, Origin, Plain, Branch, Sob, Relative}
 use Rattle.patchline.specs.declared.oneline.Said.{Said}
 use Rattle.patchline.specs.Line.{withLabel}
-use Rattle.assembler.specs.Source.{countOf, textAt, saidAt, isOrigin, originAt, endAt, hereOf, overlaps, isOdd, misplaced, valueOf, put, wordsIn}
-use Rattle.assembler.specs.Section.{inserted, entryOf, entered, placed}
+use Rattle.assembler.specs.Source.{lineCount, textAt, saidAt, isOrigin, originAt, endAt, hereOf, overlaps, isOdd, misplaced, valueOf, withLabels, lineOp}
+use Rattle.assembler.specs.Section.{inserted, sectionEntry, entered, wordsPlaced}
 use Rattle.patchlaws.specs.Rising.{addressIn, Rises, PlacedRises}
 
 -- an address of a word of one of the first i lines
@@ -89,16 +89,16 @@ with-count Sob third v h o = refl
 with-count Relative true v h o = refl
 with-count Relative false v h o = refl
 
-put-count : (s u : List ℕ) (how : How) (third : Bool) (h : ℕ) (o : Op) → put s how third h u o .count ≡ o .count
-unfolding put
+put-count : (s u : List ℕ) (how : How) (third : Bool) (h : ℕ) (o : Op) → withLabels s how third h u o .count ≡ o .count
+unfolding withLabels
 put-count s u how third h o = go (eqb (length u) 0)
   where
     go : (b : Bool) → cond b o (withLabel how third (valueOf s u) h o) .count ≡ o .count
     go true = refl
     go false = with-count how third (valueOf s u) h o
 
-pub words-count : (s : List ℕ) (i : ℕ) → wordsIn s (hereOf s i) (textAt s i) .count ≡ saidAt s i .op .count
-unfolding wordsIn saidAt
+pub words-count : (s : List ℕ) (i : ℕ) → lineOp s (hereOf s i) (textAt s i) .count ≡ saidAt s i .op .count
+unfolding lineOp saidAt
 words-count s i = put-count s _ _ _ _ _ ∙ put-count s _ _ _ _ _
 
 -- ---- one entry more
@@ -153,7 +153,7 @@ rises-more x low (y ∷ ys) a b c d r = go (ltb x y) refl (λ z m. rises-more z 
 
 -- ---- the words of a line more
 
-address-is : (a w : ℕ) → addressIn (entryOf a w) ≡ a
+address-is : (a w : ℕ) → addressIn (sectionEntry a w) ≡ a
 address-is a w = omega arith
 
 -- what holds of the entries before a line's words and after some of them
@@ -189,13 +189,13 @@ module _ (s : List ℕ) (i : ℕ) (p : misplaced s i ≡ false) (v : originAt s 
   upto-more m n [] h u = tt
   upto-more m n (e ∷ l) h u = (⊎-elim (λ z. inl z) (λ z. inr (z .0, omega (arith, h, z .1))) (u .0), upto-more m n l h (u .1))
 
-  one-more : (y a w : ℕ) (l : List ℕ) → y ≡ a → originAt s i ≤ a → a % 2 ≡ 0 → a < endAt s i → a < 65536 → Stage a l → Stage (a + 2) (inserted (entryOf y w) l)
+  one-more : (y a w : ℕ) (l : List ℕ) → y ≡ a → originAt s i ≤ a → a % 2 ≡ 0 → a < endAt s i → a < 65536 → Stage a l → Stage (a + 2) (inserted (sectionEntry y w) l)
   one-more y a w l q f v t b h =
-      let k : addressIn (entryOf y w) ≡ a = address-is y w ∙ q in
-      let d : Each (Not (addressIn (entryOf y w))) l = subst (λ (z : ℕ). Each (Not z) l) (sym k) (upto-apart a l f t (h .upto)) in
+      let k : addressIn (sectionEntry y w) ≡ a = address-is y w ∙ q in
+      let d : Each (Not (addressIn (sectionEntry y w))) l = subst (λ (z : ℕ). Each (Not z) l) (sym k) (upto-apart a l f t (h .upto)) in
       record {
-        rises = rises-more (entryOf y w) 0 l (omega arith) (rw k v) (rw k b) d (h .rises);
-        upto = each-more (Upto (a + 2)) (entryOf y w) l (subst (λ (z : ℕ). Upto (a + 2) z) (sym k) (inr (f, omega arith))) (upto-more a (a + 2) l (omega arith) (h .upto));
+        rises = rises-more (sectionEntry y w) 0 l (omega arith) (rw k v) (rw k b) d (h .rises);
+        upto = each-more (Upto (a + 2)) (sectionEntry y w) l (subst (λ (z : ℕ). Upto (a + 2) z) (sym k) (inr (f, omega arith))) (upto-more a (a + 2) l (omega arith) (h .upto));
       }
 
   begun : (l : List ℕ) → Held s i l → Stage (originAt s i) l
@@ -228,18 +228,18 @@ module _ (s : List ℕ) (i : ℕ) (p : misplaced s i ≡ false) (v : originAt s 
     most : originAt s i + 2 * w .count ≤ 65536
     most = omega (arith, top, ends-below s i p)
 
-    one : 1 ≤ w .count → Stage (originAt s i + 2) (inserted (entryOf (hereOf s i) (w .a)) l)
+    one : 1 ≤ w .count → Stage (originAt s i + 2) (inserted (sectionEntry (hereOf s i) (w .a)) l)
     one c =
         let m = most in
         one-more (hereOf s i) (originAt s i) (w .a) l (omega arith) (omega arith) v (omega (arith, top, c)) (omega arith) (begun l h)
 
-    two : 2 ≤ w .count → Stage (originAt s i + 2 + 2) (inserted (entryOf (plus (hereOf s i) 2) (w .b)) (inserted (entryOf (hereOf s i) (w .a)) l))
+    two : 2 ≤ w .count → Stage (originAt s i + 2 + 2) (inserted (sectionEntry (plus (hereOf s i) 2) (w .b)) (inserted (sectionEntry (hereOf s i) (w .a)) l))
     two c =
         let m = most in
         one-more (plus (hereOf s i) 2) (originAt s i + 2) (w .b) _ (omega arith) (omega arith) (omega arith) (omega (arith, top, c)) (omega arith) (one (omega arith))
 
     three : 3 ≤ w .count
-        → Stage (originAt s i + 2 + 2 + 2) (inserted (entryOf (plus (hereOf s i) 4) (w .c)) (inserted (entryOf (plus (hereOf s i) 2) (w .b)) (inserted (entryOf (hereOf s i) (w .a)) l)))
+        → Stage (originAt s i + 2 + 2 + 2) (inserted (sectionEntry (plus (hereOf s i) 4) (w .c)) (inserted (sectionEntry (plus (hereOf s i) 2) (w .b)) (inserted (sectionEntry (hereOf s i) (w .a)) l)))
     three c =
         let m = most in
         one-more (plus (hereOf s i) 4) (originAt s i + 2 + 2) (w .c) _ (omega arith) (omega arith) (omega arith) (omega (arith, top, c)) (omega arith) (two (omega arith))
@@ -248,28 +248,28 @@ module _ (s : List ℕ) (i : ℕ) (p : misplaced s i ≡ false) (v : originAt s 
     unfolding entered
     line-more = third (ltb 2 (w .count)) refl
       where
-        first : (b : Bool) → ltb 0 (w .count) ≡ b → Held s (suc i) (cond b (inserted (entryOf (hereOf s i) (w .a)) l) l)
+        first : (b : Bool) → ltb 0 (w .count) ≡ b → Held s (suc i) (cond b (inserted (sectionEntry (hereOf s i) (w .a)) l) l)
         first true q = ended _ _ (let c = ltb-true 0 (w .count) q in omega (arith, top, c)) (one (ltb-true 0 (w .count) q))
         first false q = ended _ _ (omega (arith, top)) (begun l h)
 
         second : (b : Bool) → ltb 1 (w .count) ≡ b
-            → Held s (suc i) (cond b (inserted (entryOf (plus (hereOf s i) 2) (w .b)) (inserted (entryOf (hereOf s i) (w .a)) l)) (cond (ltb 0 (w .count)) (inserted (entryOf (hereOf s i) (w .a)) l) l))
+            → Held s (suc i) (cond b (inserted (sectionEntry (plus (hereOf s i) 2) (w .b)) (inserted (sectionEntry (hereOf s i) (w .a)) l)) (cond (ltb 0 (w .count)) (inserted (sectionEntry (hereOf s i) (w .a)) l) l))
         second true q = ended _ _ (let c = ltb-true 1 (w .count) q in omega (arith, top, c)) (two (ltb-true 1 (w .count) q))
         second false q = first (ltb 0 (w .count)) refl
 
         third : (b : Bool) → ltb 2 (w .count) ≡ b
-            → Held s (suc i) (cond b (inserted (entryOf (plus (hereOf s i) 4) (w .c)) (inserted (entryOf (plus (hereOf s i) 2) (w .b)) (inserted (entryOf (hereOf s i) (w .a)) l))) (cond (ltb 1 (w .count)) (inserted (entryOf (plus (hereOf s i) 2) (w .b)) (inserted (entryOf (hereOf s i) (w .a)) l)) (cond (ltb 0 (w .count)) (inserted (entryOf (hereOf s i) (w .a)) l) l)))
+            → Held s (suc i) (cond b (inserted (sectionEntry (plus (hereOf s i) 4) (w .c)) (inserted (sectionEntry (plus (hereOf s i) 2) (w .b)) (inserted (sectionEntry (hereOf s i) (w .a)) l))) (cond (ltb 1 (w .count)) (inserted (sectionEntry (plus (hereOf s i) 2) (w .b)) (inserted (sectionEntry (hereOf s i) (w .a)) l)) (cond (ltb 0 (w .count)) (inserted (sectionEntry (hereOf s i) (w .a)) l) l)))
         third true q = ended _ _ (let c = ltb-true 2 (w .count) q in omega (arith, top, c)) (three (ltb-true 2 (w .count) q))
         third false q = second (ltb 1 (w .count)) refl
 
 -- ---- all lines
 
-held : (s : List ℕ) (i : ℕ) → InPlace s i → Held s i (placed s i)
-unfolding placed
+held : (s : List ℕ) (i : ℕ) → InPlace s i → Held s i (wordsPlaced s i)
+unfolding wordsPlaced
 held s zero p = record { rises = tt; lies = tt }
 held s (suc i) p =
     let q : InPlace s i = λ k l. p k (omega arith) in
-    line-more s i (p i (omega arith)) (even s i q) (wordsIn s (hereOf s i) (textAt s i)) (placed s i) (words-count s i) (held s i q)
+    line-more s i (p i (omega arith)) (even s i q) (lineOp s (hereOf s i) (textAt s i)) (wordsPlaced s i) (words-count s i) (held s i q)
 
 pub placed-rises : PlacedRises
-placed-rises s p = held s (countOf s) p .rises
+placed-rises s p = held s (lineCount s) p .rises

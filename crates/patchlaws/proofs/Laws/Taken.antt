@@ -15,10 +15,10 @@ use Rattle.refusal.specs.Numbers.{addressUnfitted}
 use Rattle.refusal.specs.Page.{first}
 use Rattle.refusal.proofs.Laws.Page.{first-some}
 use Rattle.job.specs.declared.Section.the-variants as section
-use Rattle.job.specs.Job.{whyAddress, whyEntry, whyEntries, whyCount, next}
+use Rattle.job.specs.Job.{whyAddress, whyEntry, whyEntries, whyCount, afterSection}
 use Rattle.optext.specs.declared.Op.{Op}
-use Rattle.assembler.specs.Source.{countOf, textAt, hereOf, wordsIn}
-use Rattle.assembler.specs.Section.{inserted, entryOf, entered, placed, bytesOf, flat, sectionOf}
+use Rattle.assembler.specs.Source.{lineCount, textAt, hereOf, lineOp}
+use Rattle.assembler.specs.Section.{inserted, sectionEntry, entered, wordsPlaced, entryBytes, sectionBytes, sectionOf}
 use Rattle.assembler.proofs.Laws.Section.{flat-length}
 use Rattle.assembler.specs.Answer.{assembled}
 use Rattle.assembler.proofs.Laws.Good.{good}
@@ -60,22 +60,22 @@ address-taken map low a h k = rw (eq-eqb (a % 2) 0 h, le-leb low a k) (go (eqb (
     go true = inl refl
     go false = inr refl
 
-entry-taken : (input map l : List ℕ) (at low e : ℕ) → drop at input ≡ bytesOf e ++ l → low ≤ addressIn e → addressIn e % 2 ≡ 0 → addressIn e < 65536
+entry-taken : (input map l : List ℕ) (at low e : ℕ) → drop at input ≡ entryBytes e ++ l → low ≤ addressIn e → addressIn e % 2 ≡ 0 → addressIn e < 65536
     → AtMostUnfitted (whyEntry section.Words input at low map)
 unfolding whyEntry
 entry-taken input map l at low e q a b c =
-    let z : at + 4 ≤ length input = long input at (bytesOf e ++ l) 4 q (omega arith) (omega arith) in
+    let z : at + 4 ≤ length input = long input at (entryBytes e ++ l) 4 q (omega arith) (omega arith) in
     let k : wordAt input at ≡ addressIn e = word-is input at _ _ _ q ∙ omega arith in
     rw (le-leb (at + 4) (length input) z, k) (address-taken map low (addressIn e) b a)
 
-entries-taken : (input map rest l : List ℕ) (at low : ℕ) → drop at input ≡ flat l ++ rest → Rises low l
+entries-taken : (input map rest l : List ℕ) (at low : ℕ) → drop at input ≡ sectionBytes l ++ rest → Rises low l
     → AtMostUnfitted (whyEntries section.Words input (length l) at low map)
-unfolding whyEntries flat
+unfolding whyEntries sectionBytes
 entries-taken input map rest [] at low q r = inl refl
 entries-taken input map rest (e ∷ l) at low q r =
     let k : wordAt input at ≡ addressIn e = word-is input at _ _ _ q ∙ (let b = r .2 in omega arith) in
-    let d : drop (at + 4) input ≡ flat l ++ rest = sym (drop-drop 4 at input) ∙ ap (λ (z : List ℕ). drop 4 z) q in
-    first-unfitted _ _ (entry-taken input map (flat l ++ rest) at low e q (r .0) (r .1) (r .2))
+    let d : drop (at + 4) input ≡ sectionBytes l ++ rest = sym (drop-drop 4 at input) ∙ ap (λ (z : List ℕ). drop 4 z) q in
+    first-unfitted _ _ (entry-taken input map (sectionBytes l ++ rest) at low e q (r .0) (r .1) (r .2))
     (rw k (entries-taken input map rest l (at + 4) (addressIn e + 1) d (r .3)))
 
 -- ---- its count
@@ -88,9 +88,9 @@ inserted-length x (y ∷ ys) = ap suc (inserted-length _ ys)
 entered-few : (o : Op) (h : ℕ) (l : List ℕ) → length (entered o h l) ≤ length l + 3
 unfolding entered
 entered-few o h l =
-    pick (ltb 2 (o .count)) _ _ (three (entryOf h (o .a)) (entryOf (plus h 2) (o .b)) (entryOf (plus h 4) (o .c)))
-    (pick (ltb 1 (o .count)) _ _ (two (entryOf h (o .a)) (entryOf (plus h 2) (o .b)))
-    (pick (ltb 0 (o .count)) _ _ (one (entryOf h (o .a))) (omega arith)))
+    pick (ltb 2 (o .count)) _ _ (three (sectionEntry h (o .a)) (sectionEntry (plus h 2) (o .b)) (sectionEntry (plus h 4) (o .c)))
+    (pick (ltb 1 (o .count)) _ _ (two (sectionEntry h (o .a)) (sectionEntry (plus h 2) (o .b)))
+    (pick (ltb 0 (o .count)) _ _ (one (sectionEntry h (o .a))) (omega arith)))
   where
     pick : (b : Bool) (u v : List ℕ) → length u ≤ length l + 3 → length v ≤ length l + 3 → length (cond b u v) ≤ length l + 3
     pick true u v p q = p
@@ -105,23 +105,23 @@ entered-few o h l =
     three : (x y z : ℕ) → length (inserted z (inserted y (inserted x l))) ≤ length l + 3
     three x y z = rw (inserted-length z (inserted y (inserted x l)), inserted-length y (inserted x l), inserted-length x l) (omega arith)
 
-pub placed-few : (s : List ℕ) (i : ℕ) → length (placed s i) ≤ 3 * i
-unfolding placed
+pub placed-few : (s : List ℕ) (i : ℕ) → length (wordsPlaced s i) ≤ 3 * i
+unfolding wordsPlaced
 placed-few s zero = omega arith
 placed-few s (suc i) =
     let h = placed-few s i in
-    let k = entered-few (wordsIn s (hereOf s i) (textAt s i)) (hereOf s i) (placed s i) in
+    let k = entered-few (lineOp s (hereOf s i) (textAt s i)) (hereOf s i) (wordsPlaced s i) in
     omega arith
 
 module _ (input rest l : List ℕ) (at : ℕ) (few : length l ≤ 4096) (q : drop at input ≡ sectionOf l ++ rest) where
-  bytes : drop at input ≡ length l % 256 ∷ length l / 256 % 256 ∷ (flat l ++ rest)
+  bytes : drop at input ≡ length l % 256 ∷ length l / 256 % 256 ∷ (sectionBytes l ++ rest)
   unfolding sectionOf
   bytes = q
 
   pub count-is : wordAt input at ≡ length l
   count-is = word-is input at _ _ _ bytes ∙ omega arith
 
-  pub behind : drop (at + 2) input ≡ flat l ++ rest
+  pub behind : drop (at + 2) input ≡ sectionBytes l ++ rest
   behind = sym (drop-drop 2 at input) ∙ ap (λ (z : List ℕ). drop 2 z) bytes
 
   count-taken : whyCount section.Words input at ≡ 0
@@ -130,7 +130,7 @@ module _ (input rest l : List ℕ) (at : ℕ) (few : length l ≤ 4096) (q : dro
       let z : at + 2 ≤ length input = long input at _ 2 bytes (omega arith) (omega arith) in
       rw (le-leb (at + 2) (length input) z, count-is, le-leb (length l) 4096 few) refl
 
-  goes-on : next section.Words input at ≡ at + length (sectionOf l)
+  goes-on : afterSection section.Words input at ≡ at + length (sectionOf l)
   unfolding sectionOf
   goes-on = rw (count-is, flat-length l) (omega arith)
 
@@ -141,6 +141,6 @@ pub section-taken : SectionTaken
 unfolding assembled
 section-taken s out n e input map rest at q =
     let g = good s out n e in
-    let l : List ℕ = placed s (countOf s) in
-    let few : length l ≤ 4096 = let h = placed-few s (countOf s) in let k = g .few in omega arith in
+    let l : List ℕ = wordsPlaced s (lineCount s) in
+    let few : length l ≤ 4096 = let h = placed-few s (lineCount s) in let k = g .few in omega arith in
     (count-taken input rest l at few q, words-taken input rest l at few q map (placed-rises s (g .in-place)), goes-on input rest l at few q ∙ ap (λ (k : ℕ). at + k) (sym (g .size)))

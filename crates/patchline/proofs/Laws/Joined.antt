@@ -5,10 +5,10 @@ use Prim.Native.Nat.{ℕ, _+_, _≤_}
 use native.Mathlib.Omega.{arith}
 use lib.ListN.{length, take, drop, length-append, take-append-drop}
 use lib.Seq.{take-at, drop-at, drop-drop, length-take-le}
-use Rattle.hexdigits.specs.Over.{over, WroteAt}
+use Rattle.hexdigits.specs.Over.{inFrontOf, WroteAt}
 
 pub then-at : (at n m : ℕ) (p s b b1 e : List ℕ) → at ≤ length b → WroteAt at p b b1 n → WroteAt n s b1 e m → WroteAt at (p ++ s) b e m
-unfolding over
+unfolding inFrontOf
 then-at at n m p s b b1 e h w v = record {
   bytes = v .bytes ∙ rw (take-is, drop-is) (rw (append-assoc, append-assoc, length-append, ← drop-drop) refl);
   count = v .count ∙ rw (w .count, length-append) (omega arith);
@@ -27,5 +27,5 @@ then-at at n m p s b b1 e h w v = record {
     drop-is = ap (λ (l : List ℕ). drop n l) shape ∙ drop-at (take at b ++ p) (drop (length p) (drop at b)) n front
 
 pub none-at : (at : ℕ) (b : List ℕ) → WroteAt at [] b b at
-unfolding over
+unfolding inFrontOf
 none-at at b = record { bytes = sym (take-append-drop at b); count = omega arith }

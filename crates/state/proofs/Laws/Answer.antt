@@ -10,7 +10,7 @@ use Rattle.state.specs.declared.Went.{Went}
 use Rattle.state.specs.declared.Went.the-variants.{Done, Blank}
 use Rattle.state.specs.declared.Took.{Took}
 use Rattle.state.specs.declared.Took.the-variants as Took
-use Rattle.state.specs.Answer.{wentAs, taken, tookAs, unwritten, untaken}
+use Rattle.state.specs.Answer.{wentAs, takenWord, tookAs, unwritten, untaken}
 
 pub went-is : {r : Went} {s : State} {st : Store} → r ≡ Done s → wentAs r st ≡ good s st
 went-is {st = st} e = ap (λ z. wentAs z st) e
@@ -22,7 +22,7 @@ pub went-store : (r : Went) {st : Store} → stateOf (wentAs r st) ≡ st
 went-store (Done s) = refl
 went-store (Blank a) = refl
 
-pub took-is : {r : Took} {s : State} {v : ℕ} {st : Store} → r ≡ Took.Word s v → tookAs r st ≡ good (taken s v) st
+pub took-is : {r : Took} {s : State} {v : ℕ} {st : Store} → r ≡ Took.Word s v → tookAs r st ≡ good (takenWord s v) st
 took-is {st = st} e = ap (λ z. tookAs z st) e
 
 pub took-none : {r : Took} {a : ℕ} {st : Store} → r ≡ Took.Blank a → tookAs r st ≡ gone a st

@@ -11,7 +11,7 @@ use Rattle.state.specs.declared.Outside.{Outside}
 use Rattle.state.specs.declared.Settings.{Settings}
 use Rattle.state.specs.State.{cleared, heard}
 use Rattle.step.specs.declared.Cause.{Cause}
-use Rattle.step.specs.Step.{After, stepOf, errorOf, orElse, Up, orLocked, powerUpOption, powerUpOf, kindOf, workOf, busError, causeOf, errorCauseOf}
+use Rattle.step.specs.Step.{After, stepOf, errorOf, orAt, Up, orLocked, powerUpOption, powerUpOf, kindOf, workOf, busError, causeOf, errorCauseOf}
 
 -- ---- two images that agree on fitted bytes
 
@@ -21,7 +21,7 @@ pub record Same (map : List ℕ) (a b : After) : Type 0 where
   pub size : length (a .image) ≡ length (b .image)
   pub agree : Agree map (a .image) (b .image)
 
-or-same : (map : List ℕ) {x y : Came State} (k : Cause) {p q : ℕ → After} → Alike map x y → ((a : ℕ) → Same map (p a) (q a)) → Same map (orElse x k p) (orElse y k q)
+or-same : (map : List ℕ) {x y : Came State} (k : Cause) {p q : ℕ → After} → Alike map x y → ((a : ℕ) → Same map (p a) (q a)) → Same map (orAt x k p) (orAt y k q)
 or-same map k (both l g) h = record { state = refl; cause = refl; size = l; agree = g }
 or-same map k (neither {a}) h = h a
 
@@ -49,10 +49,10 @@ power-alike settings map m n l g = or-locked map m n l g (alike map (workOf (pow
 
 -- ---- bytes of unfitted and of read-only pages come back as lent
 
-or-untouched : (map m : List ℕ) (w : Work State) (k : Cause) (other : ℕ → After) → ((x : ℕ) → Untouched map m (other x .image)) → Untouched map m (orElse (run map w m) k other .image)
+or-untouched : (map m : List ℕ) (w : Work State) (k : Cause) (other : ℕ → After) → ((x : ℕ) → Untouched map m (other x .image)) → Untouched map m (orAt (run map w m) k other .image)
 or-untouched map m w k other h a e = came (run map w m) refl
   where
-    came : (c : Came State) → run map w m ≡ c → getD (orElse c k other .image) a 0 ≡ getD m a 0
+    came : (c : Came State) → run map w m ≡ c → getD (orAt c k other .image) a 0 ≡ getD m a 0
     came (value s n) r = kept map w m s n r a e
     came (blank x) r = h x a e
 

@@ -16,12 +16,12 @@ use Rattle.state.specs.declared.State.{State}
 use Rattle.state.specs.declared.Outside.{Outside}
 use Rattle.state.specs.State.{reg, withReg, withMark, withPc}
 use Rattle.state.specs.Registers.{regOf, setReg}
-use Rattle.state.specs.Answer.{taken}
+use Rattle.state.specs.Answer.{takenWord}
 use Rattle.state.specs.Stack.{fetch}
 use Rattle.format8.specs.declared.Row.{Row}
-use Rattle.format8.specs.Format8.{rowOf, sizeOf, transfer, onward, counted, again, element, format8}
+use Rattle.format8.specs.Format8.{moveRow, moveSize, transfer, onward, counted, again, element, format8}
 use Rattle.opcodes.specs.Fields.{blockSource, blockDestination}
-use Rattle.format8.specs.Page.{Plain, countOf, along, carried, imageAfter, stateAfter}
+use Rattle.format8.specs.Page.{Plain, elementCount, along, blockMoved, imageMoved, stateMoved}
 use Rattle.format8.proofs.Laws.Moved.{onceMore, once-after, once-pc, once-count, once-source, once-destination, last-after, counted-count, past-source, past-destination}
 use Rattle.step.specs.declared.Kind.the-variants.{OpCode}
 use Rattle.step.specs.Execute.{further, byFormat, execute, reserved}
@@ -38,9 +38,9 @@ unfolding run transfer _>>=_
 transfer-well map z a b m e h = rw (e, h)
 
 element-well : (map : List ℕ) (r : Row) (s : State) (i j : ℕ) (m : List ℕ) → fitted map (reg s i) ≡ true → writable map (reg s j) ≡ true
-    → run map (element r s i j) m ≡ value (again s (counted r s i j)) (put (sizeOf (r .bytes)) m (reg s j) (get (sizeOf (r .bytes)) m (reg s i)))
+    → run map (element r s i j) m ≡ value (again s (counted r s i j)) (put (moveSize (r .bytes)) m (reg s j) (get (moveSize (r .bytes)) m (reg s i)))
 unfolding run element
-element-well map r s i j m e h = run-then map (transfer (sizeOf (r .bytes)) (reg s i) (reg s j)) _ m (transfer-well map (sizeOf (r .bytes)) (reg s i) (reg s j) m e h)
+element-well map r s i j m e h = run-then map (transfer (moveSize (r .bytes)) (reg s i) (reg s j)) _ m (transfer-well map (moveSize (r .bytes)) (reg s i) (reg s j) m e h)
 
 -- 0E00 to 0FFF is format 8
 format-eight : (op : ℕ) → op / 512 ≡ 7 → formatOf (op / 256) ≡ 8
@@ -59,7 +59,7 @@ pub unfitted : (out : Outside) (s : State) (op : ℕ) → out .settings .blocks 
 unfolding byFormat further
 unfitted out s op e h = rw (format-eight op h, e)
 
-fetched : (map : List ℕ) (s : State) (m : List ℕ) (op : ℕ) → fitted map (s .regs .pc) ≡ true → wordAt m (s .regs .pc) ≡ op → run map (fetch s) m ≡ value (taken (withPc s (plus (s .regs .pc) 2)) op) m
+fetched : (map : List ℕ) (s : State) (m : List ℕ) (op : ℕ) → fitted map (s .regs .pc) ≡ true → wordAt m (s .regs .pc) ≡ op → run map (fetch s) m ≡ value (takenWord (withPc s (plus (s .regs .pc) 2)) op) m
 unfolding run fetch _>>=_
 fetched map s m op e h = rw (e, h)
 
@@ -71,7 +71,7 @@ begun-well map out s op m h = rw (ne-eqb op 5 (λ e. omega arith))
 
 -- the image with an element moved
 abbrev pub elementIn : ℕ → State → List ℕ → List ℕ
-elementIn op s m = put (sizeOf (rowOf op .bytes)) m (reg s (blockDestination op)) (get (sizeOf (rowOf op .bytes)) m (reg s (blockSource op)))
+elementIn op s m = put (moveSize (moveRow op .bytes)) m (reg s (blockDestination op)) (get (moveSize (moveRow op .bytes)) m (reg s (blockSource op)))
 
 -- R0 says that n elements are left
 pub record Left (n : ℕ) (s : State) : Type 0 where
@@ -79,7 +79,7 @@ pub record Left (n : ℕ) (s : State) : Type 0 where
   pub some : 1 ≤ n
   pub most : n ≤ 65536
 
-pub all-left : (s : State) → reg s 0 < 65536 → Left (countOf (reg s 0)) s
+pub all-left : (s : State) → reg s 0 < 65536 → Left (elementCount (reg s 0)) s
 all-left s h = counting (reg s 0) (eqb (reg s 0) 0) refl h refl
   where
     counting : (c : ℕ) (b : Bool) → eqb c 0 ≡ b → c < 65536 → reg s 0 ≡ c → Left (cond b 65536 c) s
@@ -129,16 +129,16 @@ cleared-twice s v = refl
 module _ {map : List ℕ} {op : ℕ} (p : Plain (blockSource op) (blockDestination op)) (eight : op / 512 ≡ 7) (out : Outside) (fit : out .settings .blocks ≡ true) (s : State) {m : List ℕ} where
   work-well : {n : ℕ} → 1 ≤ n → Ready map op n (withMark s false) m
       → (let u = withMark s false in let t = withPc u (plus (u .regs .pc) 2) in
-      run map (opWork out s) m ≡ value (again t (counted (rowOf op) t (blockSource op) (blockDestination op))) (elementIn op u m))
+      run map (opWork out s) m ≡ value (again t (counted (moveRow op) t (blockSource op) (blockDestination op))) (elementIn op u m))
   unfolding opWork carry traced run along withMark
   work-well some a =
       let u = withMark s false in
       let t = withPc u (plus (u .regs .pc) 2) in
-      let from : reg t (blockSource op) ≡ reg u (blockSource op) = past-source (rowOf op) p u in
-      let to : reg t (blockDestination op) ≡ reg u (blockDestination op) = past-destination (rowOf op) p u in
-      let moved : run map (execute out t op) m ≡ value (again t (counted (rowOf op) t (blockSource op) (blockDestination op))) (elementIn op t m) =
+      let from : reg t (blockSource op) ≡ reg u (blockSource op) = past-source (moveRow op) p u in
+      let to : reg t (blockDestination op) ≡ reg u (blockDestination op) = past-destination (moveRow op) p u in
+      let moved : run map (execute out t op) m ≡ value (again t (counted (moveRow op) t (blockSource op) (blockDestination op))) (elementIn op t m) =
       rw (executes out t op fit eight)
-      (element-well map (rowOf op) t (blockSource op) (blockDestination op) m (rw from (a .reads 0 (omega arith))) (rw to (a .writes 0 (omega arith)))) in
+      (element-well map (moveRow op) t (blockSource op) (blockDestination op) m (rw from (a .reads 0 (omega arith))) (rw to (a .writes 0 (omega arith)))) in
       let past = withPc s (plus (s .regs .pc) 2) in
       let off : withMark past false ≡ t = cleared-twice s (plus (s .regs .pc) 2) in
       run-then map (fetch s) _ m (fetched map s m op (a .here) (a .code))
@@ -179,7 +179,7 @@ once-kept r i j s pc v = (refl, refl, refl)
 
 -- the state after an element that is not the last
 abbrev pub afterOne : ℕ → State → State
-afterOne op s = onceMore (rowOf op) (blockSource op) (blockDestination op) s
+afterOne op s = onceMore (moveRow op) (blockSource op) (blockDestination op) s
 
 -- the first step of any state, marked or not: its element is the unmarked one's
 module _ {map : List ℕ} {op : ℕ} (p : Plain (blockSource op) (blockDestination op)) (eight : op / 512 ≡ 7) (out : Outside) (fit : out .settings .blocks ≡ true)
@@ -195,24 +195,24 @@ module _ {map : List ℕ} {op : ℕ} (p : Plain (blockSource op) (blockDestinati
   step-once {k} l a =
       let u = withMark s false in
       let t = withPc u (plus (u .regs .pc) 2) in
-      let c = counted (rowOf op) t (blockSource op) (blockDestination op) in
+      let c = counted (moveRow op) t (blockSource op) (blockDestination op) in
       let more : reg c 0 ≡ 0 → ⊥ = λ z. some-left (reg u 0) (suc (suc k)) (l .togo) (omega arith) (l .most)
-      (sym (counted-count (rowOf op) p u) ∙ z) in
+      (sym (counted-count (moveRow op) p u) ∙ z) in
       let there : again t c ≡ afterOne op u = again-more t c more ∙ ap (λ x. withPc c x) (ap (λ x. minus x 2) (pc-past u) ∙ back (u .regs .pc) (a .address)) in
       sym (step-well map out s m {k = OpCode} (kind-is a) (rw there at (work-well p eight out fit s (omega arith) a)) refl)
 
   -- the last
   pub step-last : Left 1 (withMark s false) → Ready map op 1 (withMark s false) m
-      → stepOf map out s m ≡ after (stateAfter (rowOf op) (blockSource op) (blockDestination op) 1 (withMark s false)) (elementIn op (withMark s false) m) Cause.OpCode
+      → stepOf map out s m ≡ after (stateMoved (moveRow op) (blockSource op) (blockDestination op) 1 (withMark s false)) (elementIn op (withMark s false) m) Cause.OpCode
   unfolding workOf
   step-last l a =
       let u = withMark s false in
       let t = withPc u (plus (u .regs .pc) 2) in
-      let c = counted (rowOf op) t (blockSource op) (blockDestination op) in
+      let c = counted (moveRow op) t (blockSource op) (blockDestination op) in
       let none : plus (reg u 0) 65535 ≡ 0 = zero-left (reg u 0) 1 (l .togo) refl in
-      let there : again t c ≡ stateAfter (rowOf op) (blockSource op) (blockDestination op) 1 u =
-      again-last t c (counted-count (rowOf op) p u ∙ none)
-      ∙ last-after (rowOf op) p u none in
+      let there : again t c ≡ stateMoved (moveRow op) (blockSource op) (blockDestination op) 1 u =
+      again-last t c (counted-count (moveRow op) p u ∙ none)
+      ∙ last-after (moveRow op) p u none in
       sym (step-well map out s m {k = OpCode} (kind-is a) (rw there at (work-well p eight out fit s (omega arith) a)) refl)
 
 -- ---- what is left after an element comes to what the whole comes to
@@ -221,36 +221,36 @@ module _ {map : List ℕ} {op : ℕ} (p : Plain (blockSource op) (blockDestinati
   pub ready-on : {k : ℕ} → Ready map op (suc (suc k)) s m → Ready map op (suc k) (afterOne op s) (elementIn op s m)
   unfolding along
   ready-on a =
-      let pc : afterOne op s .regs .pc ≡ s .regs .pc = once-pc (rowOf op) p s in
+      let pc : afterOne op s .regs .pc ≡ s .regs .pc = once-pc (moveRow op) p s in
       record {
-        running = once-kept (rowOf op) (blockSource op) (blockDestination op) s (s .regs .pc) (plus (s .regs .pc) 2) .0 ∙ a .running;
+        running = once-kept (moveRow op) (blockSource op) (blockDestination op) s (s .regs .pc) (plus (s .regs .pc) 2) .0 ∙ a .running;
         address = rw pc (a .address);
         here = rw pc (a .here);
-        code = rw pc (put-apart (sizeOf (rowOf op .bytes)) m (reg s (blockDestination op)) _ (s .regs .pc) (a .apart 0 (omega arith)) ∙ a .code);
-        reads = λ i l. rw (once-source (rowOf op) p s) (a .reads (suc i) (omega arith));
-        writes = λ i l. rw (once-destination (rowOf op) p s) (a .writes (suc i) (omega arith));
-        apart = λ i l. rw (once-destination (rowOf op) p s, pc) (a .apart (suc i) (omega arith));
+        code = rw pc (put-apart (moveSize (moveRow op .bytes)) m (reg s (blockDestination op)) _ (s .regs .pc) (a .apart 0 (omega arith)) ∙ a .code);
+        reads = λ i l. rw (once-source (moveRow op) p s) (a .reads (suc i) (omega arith));
+        writes = λ i l. rw (once-destination (moveRow op) p s) (a .writes (suc i) (omega arith));
+        apart = λ i l. rw (once-destination (moveRow op) p s, pc) (a .apart (suc i) (omega arith));
       }
 
 module _ (op : ℕ) (p : Plain (blockSource op) (blockDestination op)) (s : State) where
   pub left-on : (k : ℕ) → Left (suc (suc k)) s → Left (suc k) (afterOne op s)
-  left-on k l = record { togo = once-count (rowOf op) p s ∙ one-less (reg s 0) k (l .togo); some = omega arith; most = omega (arith, l .most) }
+  left-on k l = record { togo = once-count (moveRow op) p s ∙ one-less (reg s 0) k (l .togo); some = omega arith; most = omega (arith, l .most) }
 
-  pub image-on : (k : ℕ) (m : List ℕ) → imageAfter (rowOf op) (blockSource op) (blockDestination op) (suc k) (afterOne op s) (elementIn op s m) ≡ imageAfter (rowOf op) (blockSource op) (blockDestination op) (suc (suc k)) s m
-  unfolding carried
-  image-on k m = rw (once-source (rowOf op) p s, once-destination (rowOf op) p s)
+  pub image-on : (k : ℕ) (m : List ℕ) → imageMoved (moveRow op) (blockSource op) (blockDestination op) (suc k) (afterOne op s) (elementIn op s m) ≡ imageMoved (moveRow op) (blockSource op) (blockDestination op) (suc (suc k)) s m
+  unfolding blockMoved
+  image-on k m = rw (once-source (moveRow op) p s, once-destination (moveRow op) p s)
 
-  pub state-on : (k : ℕ) → stateAfter (rowOf op) (blockSource op) (blockDestination op) (suc k) (afterOne op s) ≡ stateAfter (rowOf op) (blockSource op) (blockDestination op) (suc (suc k)) s
-  state-on k = once-after (rowOf op) p s k
+  pub state-on : (k : ℕ) → stateMoved (moveRow op) (blockSource op) (blockDestination op) (suc k) (afterOne op s) ≡ stateMoved (moveRow op) (blockSource op) (blockDestination op) (suc (suc k)) s
+  state-on k = once-after (moveRow op) p s k
 
   -- an element leaves no mark
   pub unmarked-on : withMark (afterOne op (withMark s false)) false ≡ afterOne op (withMark s false)
   unfolding withMark
-  unmarked-on = once-kept (rowOf op) (blockSource op) (blockDestination op) (withMark s false) (s .regs .pc) (plus (s .regs .pc) 2) .1
+  unmarked-on = once-kept (moveRow op) (blockSource op) (blockDestination op) (withMark s false) (s .regs .pc) (plus (s .regs .pc) 2) .1
 
   pub hearing-on : hears (afterOne op s) ≡ hears s
-  hearing-on = once-kept (rowOf op) (blockSource op) (blockDestination op) s (s .regs .pc) (plus (s .regs .pc) 2) .2
+  hearing-on = once-kept (moveRow op) (blockSource op) (blockDestination op) s (s .regs .pc) (plus (s .regs .pc) 2) .2
 
-  pub image-last : (m : List ℕ) → imageAfter (rowOf op) (blockSource op) (blockDestination op) 1 s m ≡ elementIn op s m
-  unfolding carried
+  pub image-last : (m : List ℕ) → imageMoved (moveRow op) (blockSource op) (blockDestination op) 1 s m ≡ elementIn op s m
+  unfolding blockMoved
   image-last m = refl

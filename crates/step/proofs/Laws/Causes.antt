@@ -18,7 +18,7 @@ use Rattle.step.specs.declared.Kind.the-variants.{OpCode, HaltEnd, Boots
 use Rattle.step.specs.declared.Cause.{Cause}
 use Rattle.step.specs.declared.Cause.the-variants as Cause
 use Rattle.step.specs.declared.Cause.the-variants.{OpCodeBlank, InterruptBlank, SaveBlank, LockedAt}
-use Rattle.step.specs.Step.{after, causeNumber, isBlank, hears, kindIn, kindOf, workOf, busError, causeOf, errorCauseOf, errorOf, stepOf, orElse, past}
+use Rattle.step.specs.Step.{after, causeNumber, isBlank, hears, kindIn, kindOf, workOf, busError, causeOf, errorCauseOf, errorOf, stepOf, orAt, past}
 use Rattle.step.proofs.Laws.Ends.{step-well, step-ill}
 use Rattle.step.proofs.Laws.Restart.{restart-low, restore-low, never-trapped}
 
@@ -102,8 +102,8 @@ unfolding errorOf
 blank-counted map out s m {a} h =
     let k = kindOf s out in
     let e : stepOf map out s m ≡ errorOf map k out s m a = blank-error map out s m h in (
-      (λ t n g. ap (λ r. isBlank (r .cause)) (e ∙ ap (λ c. orElse c (errorCauseOf k a) (λ _. after (withMode s Locked) m (LockedAt a))) g) ∙ counted k out s map m h g),
-      (λ g. e ∙ ap (λ c. orElse c (errorCauseOf k a) (λ _. after (withMode s Locked) m (LockedAt a))) g),
+      (λ t n g. ap (λ r. isBlank (r .cause)) (e ∙ ap (λ c. orAt c (errorCauseOf k a) (λ _. after (withMode s Locked) m (LockedAt a))) g) ∙ counted k out s map m h g),
+      (λ g. e ∙ ap (λ c. orAt c (errorCauseOf k a) (λ _. after (withMode s Locked) m (LockedAt a))) g),
     )
 
 -- ---- the image after a trap differs from the one before only where it pushed: at SP - 2 and SP - 4
@@ -127,5 +127,5 @@ unfolding errorOf busError
 blank-image map out s m {a} t n h g =
     let k = kindOf s out in
     let e : stepOf map out s m ≡ errorOf map k out s m a = blank-error map out s m h in
-    ap (λ r. r .image) (e ∙ ap (λ c. orElse c (errorCauseOf k a) (λ _. after (withMode s Locked) m (LockedAt a))) g)
+    ap (λ r. r .image) (e ∙ ap (λ c. orAt c (errorCauseOf k a) (λ _. after (withMode s Locked) m (LockedAt a))) g)
     ∙ trap-image map (past k s) (psOf out true (past k s)) 0x12 m t n g

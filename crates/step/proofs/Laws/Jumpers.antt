@@ -13,7 +13,7 @@ use Rattle.state.specs.declared.Mode.the-variants.{Running, Waiting, PowerHalt,
 use Rattle.state.specs.State.{modeNumber, withPc, withMode, psOf, cleared}
 use Rattle.state.specs.Stack.{fromLoc}
 use Rattle.step.specs.declared.Kind.the-variants.{Restarts}
-use Rattle.step.specs.Step.{up, orElse, orLocked, haltOption, powerUpOption, hears, kindIn, workOf, causeOf, errorOf, stepOf, powerUpOf}
+use Rattle.step.specs.Step.{up, orAt, orLocked, haltOption, powerUpOption, hears, kindIn, workOf, causeOf, errorOf, stepOf, powerUpOf}
 use Rattle.step.specs.Jumpers.{Eleven, plainPs, plainKindIn, plainStepOf, plainUp}
 
 -- ---- PS
@@ -39,7 +39,7 @@ same-kind Saved hearing out e h = absurd (omega arith)
 
 pub same-step : (map : List ℕ) (out : Outside) (s : State) (m : List ℕ) → Eleven (out .settings) → modeNumber (s .mode) ≤ 4 → stepOf map out s m ≡ plainStepOf map out s m
 unfolding stepOf
-same-step map out s m e h = ap (λ k. orElse (run map (workOf k out s) m) (causeOf k) (errorOf map k out s m)) (same-kind (s .mode) (hears s) out e h)
+same-step map out s m e h = ap (λ k. orAt (run map (workOf k out s) m) (causeOf k) (errorOf map k out s m)) (same-kind (s .mode) (hears s) out e h)
 
 -- ---- the power-up
 

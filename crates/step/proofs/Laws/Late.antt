@@ -23,7 +23,7 @@ use Rattle.step.specs.Execute.{execute, byFormat, further}
 use Rattle.step.specs.Xct.{begun, trace, carry, traced, opWork}
 use Rattle.step.specs.Step.{after, haltOption, raised, asked, hears, kindIn, kindOf, workOf, stepOf}
 use Rattle.step.proofs.Laws.Ends.{step-well}
-use Rattle.step.specs.Late.{Comes, Asks, heard}
+use Rattle.step.specs.Late.{Comes, Asks, interruptHeard}
 
 -- ---- which kind of step it is
 
@@ -45,7 +45,7 @@ held s out runs mark quiet =
     ∙ ap (λ z. cond z (haltOption (out .settings)) OpCode) quiet
 
 -- An unmarked state with I2 set hears them.
-pub unmarked-hears : (s : State) (out : Outside) → s .mode ≡ Running → s .i2 ≡ true → s .mark ≡ false → Asks out → kindOf s out ≡ heard out
+pub unmarked-hears : (s : State) (out : Outside) → s .mode ≡ Running → s .i2 ≡ true → s .mark ≡ false → Asks out → kindOf s out ≡ interruptHeard out
 unfolding kindIn
 unmarked-hears s out runs i2 mark a =
     ap (λ z. kindIn z (hears s) out) runs
@@ -97,7 +97,7 @@ module _ {map : List ℕ} {out : Outside} {s : State} {m : List ℕ} (c : Comes 
   ien-marks = ap (λ a. a .state .mark) (ien-step c)
 
   -- It found I2 set: no op code more, the interrupt is heard.
-  pub not-late : (next : Outside) → s .i2 ≡ true → Asks next → kindOf (stepOf map out s m .state) next ≡ heard next
+  pub not-late : (next : Outside) → s .i2 ≡ true → Asks next → kindOf (stepOf map out s m .state) next ≡ interruptHeard next
   not-late next was a = unmarked-hears ended next ien-runs ien-sets (ien-marks ∙ ap not was) a
 
   -- It found I2 clear: one more op code, whatever asks but I3.
@@ -108,14 +108,14 @@ module _ {map : List ℕ} {out : Outside} {s : State} {m : List ℕ} (c : Comes 
   pub late-once : (next last : Outside) → s .i2 ≡ false → next .i3 ≡ false → Asks last
       → (let a = stepOf map out s m in
       let b = stepOf map next (a .state) (a .image) .state in
-      (kindOf (a .state) next ≡ OpCode) × (b .mode ≡ Running → b .i2 ≡ true → b .mark ≡ false → kindOf b last ≡ heard last))
+      (kindOf (a .state) next ≡ OpCode) × (b .mode ≡ Running → b .i2 ≡ true → b .mark ≡ false → kindOf b last ≡ interruptHeard last))
   late-once next last was quiet a =
       let first = stepOf map out s m in
       (late next was quiet, λ runs i2 mark. unmarked-hears (stepOf map next (first .state) (first .image) .state) last runs i2 mark a)
 
   -- Such an op code is NOP: IEN, NOP, interrupt.
   pub late-nop : (next last : Outside) → s .i2 ≡ false → next .i3 ≡ false → fitted map (plus (s .regs .pc) 2) ≡ true → wordAt m (plus (s .regs .pc) 2) ≡ 0 → Asks last
-      → (let a = stepOf map out s m in kindOf (stepOf map next (a .state) (a .image) .state) last ≡ heard last)
+      → (let a = stepOf map out s m in kindOf (stepOf map next (a .state) (a .image) .state) last ≡ interruptHeard last)
   unfolding withMark withI2 withReg setReg
   late-nop next last was quiet there code a =
       let e : stepOf map out s m ≡ after (ien (begins s)) m Cause.OpCode = ien-step c in

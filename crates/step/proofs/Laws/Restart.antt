@@ -14,8 +14,8 @@ use Rattle.state.specs.Stack.{push, pushBoth, fromLoc, trap}
 use Rattle.step.specs.declared.Kind.{Kind}
 use Rattle.step.specs.declared.Cause.{Cause}
 use Rattle.step.specs.declared.Cause.the-variants.{LockedAt}
-use Rattle.step.specs.Places.{placeOf, pickUp, pickUpRegisters, restore}
-use Rattle.step.specs.Step.{After, after, orElse, restart, past, kindOf, workOf, busError, errorCauseOf, errorOf, stepOf}
+use Rattle.step.specs.Places.{savePlace, pickUp, pickUpRegisters, restore}
+use Rattle.step.specs.Step.{After, after, orAt, restart, past, kindOf, workOf, busError, errorCauseOf, errorOf, stepOf}
 use Rattle.step.proofs.Laws.Ends.{step-ill}
 use Rattle.step.specs.Told.{Low, gives, reads}
 
@@ -29,9 +29,9 @@ unfolding _>>=_
 low-then (gives x) g = g x
 low-then (reads z a e h) g = reads z a e (λ v. low-then (h v) g)
 
-pick-up-low : (s : State) (k : ℕ) → placeOf k / 256 ≡ 0 → Low (pickUp s k)
+pick-up-low : (s : State) (k : ℕ) → savePlace k / 256 ≡ 0 → Low (pickUp s k)
 unfolding pickUp _>>=_
-pick-up-low s k e = reads _ (placeOf k) e (λ v. gives _)
+pick-up-low s k e = reads _ (savePlace k) e (λ v. gives _)
 
 -- the places, picked up at the end of a save and by an option of the power-up
 pub restore-low : (s : State) → Low (restore s)
@@ -46,7 +46,7 @@ restore-low s =
     low-then (pick-up-low s 6 refl) λ s.
     pick-up-low s 7 refl)
     λ s.
-    low-then (reads _ (placeOf 8) refl (λ v. gives v)) λ ps.
+    low-then (reads _ (savePlace 8) refl (λ v. gives v)) λ ps.
     gives _
 
 -- 12 lies on page 0
@@ -93,7 +93,7 @@ module _ (map : List ℕ) (k : Kind) (out : Outside) (s : State) (m : List ℕ) 
   pub never-trapped : {t : State} {n : List ℕ} → Low w → run map w m ≡ blank a → run map (busError k out s) m ≡ value t n → true ≡ false
   never-trapped l h g = sym (ap done g) ∙ error-fails l h
 
-else-not : (c : Came State) (k : Cause) (r : After) → done c ≡ false → orElse c k (λ _. r) ≡ r
+else-not : (c : Came State) (k : Cause) (r : After) → done c ≡ false → orAt c k (λ _. r) ≡ r
 else-not (value s m) k r e = let z : _≡_ {A = ℕ} 0 1 = cc in absurd (omega arith)
 else-not (blank a) k r e = refl
 

@@ -22,7 +22,7 @@ use Rattle.state.specs.State.{reg, withReg, withMode, withMark, withStatus, psO
 use Rattle.state.specs.Registers.{regOf, setReg}
 use Rattle.step.specs.declared.Kind.the-variants.{Saves, Restores, Waits}
 use Rattle.step.specs.declared.Cause.the-variants as Cause
-use Rattle.step.specs.Places.{placeOf, keep, pickUp, keepRegisters, pickUpRegisters, save, restore}
+use Rattle.step.specs.Places.{savePlace, keep, pickUp, keepRegisters, pickUpRegisters, save, restore}
 use Rattle.step.specs.Step.{after, kindIn, kindOf, workOf, stepOf}
 use Rattle.step.proofs.Laws.Ends.{step-well}
 use Rattle.step.specs.Saved.{keptIn, savedIn, Words}
@@ -32,7 +32,7 @@ use Rattle.step.specs.Saved.{keptIn, savedIn, Words}
 kept-size : (n : ℕ) (s : State) (m : List ℕ) → length (keptIn n s m) ≡ length m
 unfolding keptIn
 kept-size zero s m = refl
-kept-size (suc n) s m = size-put word (keptIn n s m) (placeOf n) (reg s n) ∙ kept-size n s m
+kept-size (suc n) s m = size-put word (keptIn n s m) (savePlace n) (reg s n) ∙ kept-size n s m
 
 -- a word that was written is read
 word-back : (v : ℕ) → v < 65536 → v % 256 + v / 256 % 256 * 256 ≡ v
@@ -48,28 +48,28 @@ put-there m a v h l =
     )
     (word-back v l)
 
-place-in : (k n : ℕ) → k ≤ 8 → 18 ≤ n → even (placeOf k) + 1 < n
+place-in : (k n : ℕ) → k ≤ 8 → 18 ≤ n → even (savePlace k) + 1 < n
 unfolding even
 place-in k n h l = omega arith
 
-places-apart : (k n : ℕ) → k < n → n ≤ 8 → placeOf n / 2 ≡ placeOf k / 2 → ⊥
+places-apart : (k n : ℕ) → k < n → n ≤ 8 → savePlace n / 2 ≡ savePlace k / 2 → ⊥
 places-apart k n h l e = omega arith
 
 -- each register stands at its place
-kept-there : {s : State} {m : List ℕ} → Words s m → (n k : ℕ) → k < n → n ≤ 8 → wordAt (keptIn n s m) (placeOf k) ≡ reg s k
+kept-there : {s : State} {m : List ℕ} → Words s m → (n k : ℕ) → k < n → n ≤ 8 → wordAt (keptIn n s m) (savePlace k) ≡ reg s k
 unfolding keptIn
 kept-there w zero k h l = absurd (omega arith)
 kept-there {s} {m} w (suc n) k h l = elim (ℕ-discrete k n) [ yes e ↦ here e | no d ↦ earlier (omega arith) (kept-there w n k (omega arith) (omega arith)) ]
   where
-    here : k ≡ n → wordAt (withWord (keptIn n s m) (placeOf n) (reg s n)) (placeOf k) ≡ reg s k
-    here e = rw e (put-there (keptIn n s m) (placeOf n) (reg s n) (place-in n (length (keptIn n s m)) (omega arith) (rw (kept-size n s m) (w .size))) (w .registers n (omega arith)))
+    here : k ≡ n → wordAt (withWord (keptIn n s m) (savePlace n) (reg s n)) (savePlace k) ≡ reg s k
+    here e = rw e (put-there (keptIn n s m) (savePlace n) (reg s n) (place-in n (length (keptIn n s m)) (omega arith) (rw (kept-size n s m) (w .size))) (w .registers n (omega arith)))
 
-    earlier : k < n → wordAt (keptIn n s m) (placeOf k) ≡ reg s k → wordAt (withWord (keptIn n s m) (placeOf n) (reg s n)) (placeOf k) ≡ reg s k
-    earlier b e = put-apart word (keptIn n s m) (placeOf n) (reg s n) (placeOf k) (places-apart k n b (omega arith)) ∙ e
+    earlier : k < n → wordAt (keptIn n s m) (savePlace k) ≡ reg s k → wordAt (withWord (keptIn n s m) (savePlace n) (reg s n)) (savePlace k) ≡ reg s k
+    earlier b e = put-apart word (keptIn n s m) (savePlace n) (reg s n) (savePlace k) (places-apart k n b (omega arith)) ∙ e
 
 module _ (out : Outside) {s : State} {m : List ℕ} (w : Words s m) where
-  saved-there : (k : ℕ) → k < 8 → wordAt (savedIn out s m) (placeOf k) ≡ reg s k
-  saved-there k h = put-apart word (keptIn 8 s m) (placeOf 8) (psOf out false s) (placeOf k) (places-apart k 8 h (omega arith)) ∙ kept-there w 8 k h (omega arith)
+  saved-there : (k : ℕ) → k < 8 → wordAt (savedIn out s m) (savePlace k) ≡ reg s k
+  saved-there k h = put-apart word (keptIn 8 s m) (savePlace 8) (psOf out false s) (savePlace k) (places-apart k 8 h (omega arith)) ∙ kept-there w 8 k h (omega arith)
 
 -- ---- PS, formed and picked up again
 
@@ -122,11 +122,11 @@ can-be-read map e = rw (eqb-true (getD map 0 0) 1 e)
 -- the words that are picked up
 abbrev picked : State → List ℕ → State
 picked t n =
-    let at : ℕ → ℕ = λ k. wordAt n (placeOf k) in
+    let at : ℕ → ℕ = λ k. wordAt n (savePlace k) in
     let low = withReg (withReg (withReg (withReg t 0 (at 0)) 1 (at 1)) 2 (at 2)) 3 (at 3) in
     withReg (withReg (withReg (withReg low 4 (at 4)) 5 (at 5)) 6 (at 6)) 7 (at 7)
 
-restore-well : (map : List ℕ) (t : State) (n : List ℕ) → fitted map 0 ≡ true → run map (restore t) n ≡ value (withMode (withStatus (picked t n) (wordAt n (placeOf 8))) Running) n
+restore-well : (map : List ℕ) (t : State) (n : List ℕ) → fitted map 0 ≡ true → run map (restore t) n ≡ value (withMode (withStatus (picked t n) (wordAt n (savePlace 8))) Running) n
 unfolding run restore pickUpRegisters pickUp _>>=_ fitted
 restore-well map t n e = rw e
 
@@ -142,7 +142,7 @@ module _ (map : List ℕ) (fit : writable map 0 ≡ true) (out : Outside) {s : S
   pub restore-saved : (t : State) → run map (restore t) (savedIn out s m) ≡ value (withMark (withMode s Running) (t .mark)) (savedIn out s m)
   restore-saved t =
       let n = savedIn out s m in
-      let status : wordAt n (placeOf 8) ≡ psOf out false s = put-there (keptIn 8 s m) (placeOf 8) (psOf out false s) (place-in 8 (length (keptIn 8 s m)) (omega arith) (rw (kept-size 8 s m) (w .size))) (ps-word out s) in
+      let status : wordAt n (savePlace 8) ≡ psOf out false s = put-there (keptIn 8 s m) (savePlace 8) (psOf out false s) (place-in 8 (length (keptIn 8 s m)) (omega arith) (rw (kept-size 8 s m) (w .size))) (ps-word out s) in
       restore-well map t n (can-be-read map fit)
       ∙ ap (λ u. value u n)
       (rw (

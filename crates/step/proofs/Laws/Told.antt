@@ -13,7 +13,7 @@ use Rattle.step.specs.declared.Kind.{Kind}
 use Rattle.step.specs.declared.Kind.the-variants.{OpCode, HaltEnd, Boots, Saves, LocksUp, Restarts, Restores, NonVectored, Vectored, Waits, Stuck}
 use Rattle.step.specs.declared.Cause.the-variants.{LockedAt}
 use Rattle.step.specs.declared.Told.the-variants.{Nowhere, At}
-use Rattle.step.specs.Step.{After, after, addressOf, isBlank, causeOf, errorCauseOf, kindOf, workOf, busError, orElse, errorOf, stepOf}
+use Rattle.step.specs.Step.{After, after, causeAddress, isBlank, causeOf, errorCauseOf, kindOf, workOf, busError, orAt, errorOf, stepOf}
 use Rattle.step.proofs.Laws.Ends.{unlike, step-well}
 use Rattle.step.proofs.Laws.Causes.{blank-error, blank-counted, value-no-blank}
 use Rattle.step.specs.Told.{Access, reads, writes, reached, answered, accesses, allAnswered, StopsAt, here, later, workAnswered, trapAnswered, isBlankStep}
@@ -52,7 +52,7 @@ reaches map (writeAt z a v w) m = found-answered map (writes a) (writable map a)
 
 -- ---- what a step tells
 
-pub told-in-none : (k : Kind) → addressOf (causeOf k) ≡ Nowhere
+pub told-in-none : (k : Kind) → causeAddress (causeOf k) ≡ Nowhere
 told-in-none OpCode = refl
 told-in-none HaltEnd = refl
 told-in-none Boots = refl
@@ -65,7 +65,7 @@ told-in-none Vectored = refl
 told-in-none Waits = refl
 told-in-none Stuck = refl
 
-pub told-in-error : (k : Kind) (a : ℕ) → addressOf (errorCauseOf k a) ≡ At a
+pub told-in-error : (k : Kind) (a : ℕ) → causeAddress (errorCauseOf k a) ≡ At a
 told-in-error OpCode a = refl
 told-in-error HaltEnd a = refl
 told-in-error Boots a = refl
@@ -79,24 +79,24 @@ told-in-error Waits a = refl
 told-in-error Stuck a = refl
 
 -- whatever the trap comes to
-trap-tells : (c : Came State) (k : Kind) (a : ℕ) (other : After) → addressOf (other .cause) ≡ At a → addressOf (orElse c (errorCauseOf k a) (λ _. other) .cause) ≡ At a
+trap-tells : (c : Came State) (k : Kind) (a : ℕ) (other : After) → causeAddress (other .cause) ≡ At a → causeAddress (orAt c (errorCauseOf k a) (λ _. other) .cause) ≡ At a
 trap-tells (value t n) k a other h = told-in-error k a
 trap-tells (blank b) k a other h = h
 
 module _ (map : List ℕ) (out : Outside) (s : State) (m : List ℕ) where
   -- Work that is done tells none.
-  pub tells-none : {t : State} {n : List ℕ} → run map (workOf (kindOf s out) out s) m ≡ value t n → addressOf (stepOf map out s m .cause) ≡ Nowhere
-  tells-none h = ap (λ a. addressOf (a .cause)) (sym (step-well map out s m refl h refl)) ∙ told-in-none (kindOf s out)
+  pub tells-none : {t : State} {n : List ℕ} → run map (workOf (kindOf s out) out s) m ≡ value t n → causeAddress (stepOf map out s m .cause) ≡ Nowhere
+  tells-none h = ap (λ a. causeAddress (a .cause)) (sym (step-well map out s m refl h refl)) ∙ told-in-none (kindOf s out)
 
   -- Work that is dropped tells where it stopped, whether the trap succeeds or the step locks.
-  pub tells : {a : ℕ} → run map (workOf (kindOf s out) out s) m ≡ blank a → addressOf (stepOf map out s m .cause) ≡ At a
+  pub tells : {a : ℕ} → run map (workOf (kindOf s out) out s) m ≡ blank a → causeAddress (stepOf map out s m .cause) ≡ At a
   unfolding errorOf
   tells {a} h =
       let k = kindOf s out in
-      ap (λ r. addressOf (r .cause)) (blank-error map out s m h) ∙ trap-tells (run map (busError k out s) m) k a (after (withMode s Locked) m (LockedAt a)) refl
+      ap (λ r. causeAddress (r .cause)) (blank-error map out s m h) ∙ trap-tells (run map (busError k out s) m) k a (after (withMode s Locked) m (LockedAt a)) refl
 
   -- THE ADDRESS TOLD: the step's work reached it and it was not answered, and every access before it was.
-  pub told : {a : ℕ} → addressOf (stepOf map out s m .cause) ≡ At a → StopsAt map a (accesses map (workOf (kindOf s out) out s) m)
+  pub told : {a : ℕ} → causeAddress (stepOf map out s m .cause) ≡ At a → StopsAt map a (accesses map (workOf (kindOf s out) out s) m)
   told {a} h = came (run map (workOf (kindOf s out) out s) m) refl
     where
       came : (c : Came State) → run map (workOf (kindOf s out) out s) m ≡ c → StopsAt map a (accesses map (workOf (kindOf s out) out s) m)
@@ -131,7 +131,7 @@ module _ (map : List ℕ) (out : Outside) (s : State) (m : List ℕ) where
       came (value t n) r d q = absurd (unlike (sym (ap isValue r) ∙ sym (reaches map (workOf (kindOf s out) out s) m) ∙ h))
       came (blank a) r (value t n) q =
           let e : stepOf map out s m ≡ after t n (errorCauseOf (kindOf s out) a) =
-          blank-error map out s m r ∙ ap (λ c. orElse c (errorCauseOf (kindOf s out) a) (λ _. after (withMode s Locked) m (LockedAt a))) q in
+          blank-error map out s m r ∙ ap (λ c. orAt c (errorCauseOf (kindOf s out) a) (λ _. after (withMode s Locked) m (LockedAt a))) q in
           subst (λ (x : After). Dropped x) (sym e) (trapped a (stops map _ m r) t n q (ap (λ (x : After). isBlank (x .cause)) (sym e) ∙ blank-counted map out s m {b = 0} r .0 t n q))
       came (blank a) r (blank b) q =
           subst (λ (x : After). Dropped x) (sym (blank-counted map out s m r .1 q)) (locked a (stops map _ m r) (reaches map (busError (kindOf s out) out s) m ∙ ap isValue q))

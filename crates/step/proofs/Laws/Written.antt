@@ -8,7 +8,7 @@ use mathlib.Core.Path.{_≡_, refl, sym, ap, _∙_}
 use lib.ListN.{getD, set, length}
 use lib.Seq.{getD-set-same, getD-set-other}
 use Rattle.board.specs.Work.{Work, give, readAt, writeAt, fitted, writable, get, put, wordAt, run, value, blank}
-use Rattle.board.specs.Exec.{Store, beside, Now, good, count, room, note, noted, allowed, exec, Board, Got}
+use Rattle.board.specs.Exec.{Store, beside, Now, good, logCount, logRoom, note, withNote, allowed, exec, Board, Got}
 use Rattle.board.proofs.Laws.{board-noted, count-note, room-few}
 use Rattle.board.proofs.Laws.Exec.{stateOf}
 use Rattle.board.proofs.Laws.Ended.{Fresh}
@@ -27,27 +27,27 @@ unfolding entries
 entries-same zero l k h = refl
 entries-same (suc n) l k h = rw (h (n * 2 + 1) (omega arith) (omega arith), entries-same n l k (λ i p q. h i p (omega arith))) refl
 
-module _ (l : List ℕ) (a v : ℕ) (whole : length l ≡ 32) (few : count l < 15) where
-  note-address : getD (note l a v) (count l * 2 + 1) 0 ≡ a
+module _ (l : List ℕ) (a v : ℕ) (whole : length l ≡ 32) (few : logCount l < 15) where
+  note-address : getD (note l a v) (logCount l * 2 + 1) 0 ≡ a
   unfolding note
   note-address =
-      getD-set-other (set (set l (count l * 2 + 1) a) (count l * 2 + 2) v) 0 (count l * 2 + 1) (count l + 1) 0 (λ e. omega arith)
-      ∙ getD-set-other (set l (count l * 2 + 1) a) (count l * 2 + 2) (count l * 2 + 1) v 0 (λ e. omega arith)
-      ∙ getD-set-same l (count l * 2 + 1) a 0 (omega arith)
+      getD-set-other (set (set l (logCount l * 2 + 1) a) (logCount l * 2 + 2) v) 0 (logCount l * 2 + 1) (logCount l + 1) 0 (λ e. omega arith)
+      ∙ getD-set-other (set l (logCount l * 2 + 1) a) (logCount l * 2 + 2) (logCount l * 2 + 1) v 0 (λ e. omega arith)
+      ∙ getD-set-same l (logCount l * 2 + 1) a 0 (omega arith)
 
-  note-below : (i : ℕ) → 0 < i → i ≤ count l * 2 → getD (note l a v) i 0 ≡ getD l i 0
+  note-below : (i : ℕ) → 0 < i → i ≤ logCount l * 2 → getD (note l a v) i 0 ≡ getD l i 0
   unfolding note
   note-below i p q =
-      getD-set-other (set (set l (count l * 2 + 1) a) (count l * 2 + 2) v) 0 i (count l + 1) 0 (λ e. omega arith)
-      ∙ getD-set-other (set l (count l * 2 + 1) a) (count l * 2 + 2) i v 0 (λ e. omega arith)
-      ∙ getD-set-other l (count l * 2 + 1) i a 0 (λ e. omega arith)
+      getD-set-other (set (set l (logCount l * 2 + 1) a) (logCount l * 2 + 2) v) 0 i (logCount l + 1) 0 (λ e. omega arith)
+      ∙ getD-set-other (set l (logCount l * 2 + 1) a) (logCount l * 2 + 2) i v 0 (λ e. omega arith)
+      ∙ getD-set-other l (logCount l * 2 + 1) i a 0 (λ e. omega arith)
 
-  entry-more : entries (suc (count l)) (note l a v) ≡ entries (count l) l ++ (a ∷ [])
+  entry-more : entries (suc (logCount l)) (note l a v) ≡ entries (logCount l) l ++ (a ∷ [])
   unfolding entries
-  entry-more = rw (note-address, entries-same (count l) l (note l a v) note-below) refl
+  entry-more = rw (note-address, entries-same (logCount l) l (note l a v) note-below) refl
 
   noted-more : addresses (note l a v) ≡ addresses l ++ (a ∷ [])
-  noted-more = ap (λ n. entries n (note l a v)) (count-note l a v whole ∙ add-one (count l)) ∙ entry-more
+  noted-more = ap (λ n. entries n (note l a v)) (count-note l a v whole ∙ add-one (logCount l)) ∙ entry-more
 
 -- ---- by induction over work
 
@@ -73,13 +73,13 @@ wrote map (give x) st b h = ap (λ z. addresses (stateOf z .log)) (sym h) ∙ sy
 wrote map (readAt z a k) st b h =
     read-more (fitted map a) a st _ (accesses map (k (get z (st .image) a)) (st .image)) h (λ e. wrote map (k (get z (st .image) a)) st b e)
 wrote map (writeAt z a v w) st b h =
-    write-more (writable map a) (room (st .log)) a st _ (accesses map w (put z (st .image) a v)) h (λ r e.
-    wrote map w (noted z a v st) (board-noted z a v st r b) e
+    write-more (writable map a) (logRoom (st .log)) a st _ (accesses map w (put z (st .image) a v)) h (λ r e.
+    wrote map w (withNote z a v st) (board-noted z a v st r b) e
     ∙ ap (λ ws. ws ++ writesOf (accesses map w (put z (st .image) a v))) (noted-more (st .log) a (wordAt (st .image) a) (b .whole) (room-few (st .log) r)))
 
 -- ---- from an empty log
 
-none-told : (l : List ℕ) → count l ≡ 0 → addresses l ≡ []
+none-told : (l : List ℕ) → logCount l ≡ 0 → addresses l ≡ []
 unfolding entries
 none-told l e = rw e refl
 
@@ -89,7 +89,7 @@ wrote-fresh {map = map} {w = w} {st = st} f g e =
     wrote map w st (f .board) (sym (g .came) ∙ e) ∙ ap (λ ws. ws ++ writtenBy map w (st .image)) (none-told (st .log) (f .empty))
 
 pub emptied : {map m l l′ : List ℕ} → Board map (beside m l) → l′ ≡ set l 0 0 → addresses l′ ≡ []
-emptied {l = l} {l′ = l′} b e = none-told l′ (ap count e ∙ none-left l (b .whole))
+emptied {l = l} {l′ = l′} b e = none-told l′ (ap logCount e ∙ none-left l (b .whole))
 
 -- ---- a step's ends
 

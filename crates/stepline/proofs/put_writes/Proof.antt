@@ -4,7 +4,7 @@ use native.Mathlib.Omega.{arith}
 use lib.ListN.{length, getD}
 use Rattle.hexdigits.specs.Over.{Wrote}
 use Rattle.hexdigits.proofs.Laws.Laid.{then}
-use Rattle.board.specs.Exec.{count}
+use Rattle.board.specs.Exec.{logCount}
 use Rattle.step.specs.Written.{entries}
 use Rattle.stepline.specs.Shown.{writesText}
 use Rattle.stepline.proofs.Laws.{pair-length, writes-none, writes-more}
@@ -14,7 +14,7 @@ use Rattle.stepline.proofs.put_writes.Tie as tie
 
 abbrev Inv-loop : tie.InvT-loop
 Inv-loop text₀ image log n i₀ at₀ text i at =
-    (i ≤ n) × (length text ≡ length text₀) × (at ≡ i * 10) × (n ≡ count log) × Wrote (writesText image (entries i log)) text₀ text at
+    (i ≤ n) × (length text ≡ length text₀) × (at ≡ i * 10) × (n ≡ logCount log) × Wrote (writesText image (entries i log)) text₀ text at
 
 abbrev μ-loop : tie.MeasureT-loop
 μ-loop text₀ image log n i₀ at₀ text i at = n - i
@@ -60,7 +60,7 @@ same-length c = c .before .loop .inv .1
 
 returns : tie.Need-returns Inv-loop μ-loop
 returns c =
-    let e : c .before .loop .i ≡ count (c .before .before .before .before .before .args .log .now) = omega (arith, c .loop-test .left, c .before .loop .inv .0, c .before .loop .inv .3) in
+    let e : c .before .loop .i ≡ logCount (c .before .before .before .before .before .args .log .now) = omega (arith, c .loop-test .left, c .before .loop .inv .0, c .before .loop .inv .3) in
     rw (← e) (c .before .loop .inv .4)
 
 pub put-writes-spec : {M : Type 1} → statement M

@@ -1,6 +1,6 @@
 use native.Mathlib.Omega.{arith}
 use Rattle.hexdigits.proofs.Laws.Laid.{at-part}
-use Rattle.board.specs.Exec.{count}
+use Rattle.board.specs.Exec.{logCount}
 use Rattle.stepline.proofs.Laws.{writes-length}
 use borrow.Author.Needs.{needs}
 use Rattle.stepline.proofs.writes_at.Statement.{statement}
@@ -9,7 +9,7 @@ use Rattle.stepline.proofs.writes_at.Tie as tie
 add-result : tie.Need-add-result
 add-result c =
     let a = c .before .before .before .before .before .before .args in
-    omega (arith, c .before .before .put-writes .ensures .count, writes-length (a .image .now) (a .log .now) (count (a .log .now)), c .before .before .before .before .before .before .pre .0, c .before .before .before .before .before .before .pre .2)
+    omega (arith, c .before .before .put-writes .ensures .count, writes-length (a .image .now) (a .log .now) (logCount (a .log .now)), c .before .before .before .before .before .before .pre .0, c .before .before .before .before .before .before .pre .2)
 
 returns : tie.Need-returns
 returns c = at-part _ _ _ _ _ (omega (arith, c .before .before .before .before .before .before .pre .0)) (c .before .before .put-writes .ensures)

@@ -11,7 +11,7 @@ use borrow.Author.Tests.{eqb-true, eqb-false}
 use Rattle.step.specs.Step.{After}
 use Rattle.trace.specs.declared.Verdict.{Verdict}
 use Rattle.trace.specs.declared.Verdict.the-variants.{Accepted, Wrong, Missing, Extra}
-use Rattle.trace.specs.Trace.{entryOf, entriesOf, stepsOf, rightTrace, wordsFrom, entriesFrom, toldIn, orElse, differ, compared, verdictOf}
+use Rattle.trace.specs.Trace.{entryOf, entriesOf, stepsOf, rightTrace, wordsFrom, entriesFrom, toldIn, orElse, firstWrong, compared, verdictOf}
 use Rattle.trace.proofs.Laws.Bytes.{right-ten, words-length}
 use Rattle.trace.proofs.Laws.Right.{differ-same}
 use Rattle.trace.specs.First.{AtField, AtStep, EndsAt, Says}
@@ -21,14 +21,14 @@ use Rattle.trace.specs.First.{AtField, AtStep, EndsAt, Says}
 field-later : (a b : ℕ) (xs ys : List ℕ) (j x : ℕ) → a ≡ b → AtField xs ys j x → AtField (a ∷ xs) (b ∷ ys) (suc j) x
 field-later a b xs ys j x e h = let d = h .before in record { before = cc; is = h .is; not = h .not }
 
-differ-wrong : (step k : ℕ) (xs ys : List ℕ) (a f x : ℕ) → differ step k xs ys ≡ Wrong a f x → (a ≡ step) × (k ≤ f) × AtField xs ys (f - k) x
-unfolding differ
+differ-wrong : (step k : ℕ) (xs ys : List ℕ) (a f x : ℕ) → firstWrong step k xs ys ≡ Wrong a f x → (a ≡ step) × (k ≤ f) × AtField xs ys (f - k) x
+unfolding firstWrong
 differ-wrong step k [] ys a f x e = let z : _≡_ {A = ℕ} 0 1 = cc in absurd (omega arith)
 differ-wrong step k (v ∷ xs) [] a f x e = let z : _≡_ {A = ℕ} 0 1 = cc in absurd (omega arith)
 differ-wrong step k (v ∷ xs) (w ∷ ys) a f x e = split (eqb v w) refl (λ d. differ-wrong step (k + 1) xs ys a f x d) e
   where
-    split : (b : Bool) → eqb v w ≡ b → (differ step (k + 1) xs ys ≡ Wrong a f x → (a ≡ step) × (k + 1 ≤ f) × AtField xs ys (f - (k + 1)) x)
-        → cond b (differ step (k + 1) xs ys) (Wrong step k v) ≡ Wrong a f x → (a ≡ step) × (k ≤ f) × AtField (v ∷ xs) (w ∷ ys) (f - k) x
+    split : (b : Bool) → eqb v w ≡ b → (firstWrong step (k + 1) xs ys ≡ Wrong a f x → (a ≡ step) × (k + 1 ≤ f) × AtField xs ys (f - (k + 1)) x)
+        → cond b (firstWrong step (k + 1) xs ys) (Wrong step k v) ≡ Wrong a f x → (a ≡ step) × (k ≤ f) × AtField (v ∷ xs) (w ∷ ys) (f - k) x
     split true h later e =
         let r = later e in
         let least : k + 1 ≤ f = r .1 in
@@ -48,13 +48,13 @@ Fieldwise (Missing step) = ⊥
 Fieldwise (Extra step) = ⊥
 
 -- fields alone are neither missing nor extra
-differ-field : (step k : ℕ) (xs ys : List ℕ) → Fieldwise (differ step k xs ys)
-unfolding differ
+differ-field : (step k : ℕ) (xs ys : List ℕ) → Fieldwise (firstWrong step k xs ys)
+unfolding firstWrong
 differ-field step k [] ys = tt
 differ-field step k (v ∷ xs) [] = tt
 differ-field step k (v ∷ xs) (w ∷ ys) = split (eqb v w) (differ-field step (k + 1) xs ys)
   where
-    split : (b : Bool) → Fieldwise (differ step (k + 1) xs ys) → Fieldwise (cond b (differ step (k + 1) xs ys) (Wrong step k v))
+    split : (b : Bool) → Fieldwise (firstWrong step (k + 1) xs ys) → Fieldwise (cond b (firstWrong step (k + 1) xs ys) (Wrong step k v))
     split true h = h
     split false h = tt
 
@@ -82,7 +82,7 @@ says-later step r e rs ts (Extra k) d h =
     (omega arith, rw next (ends-later r e rs ts (k - (step + 1)) d (h .1)))
 
 -- a step whose entry is told: right, or wrong at a field
-says-here : (step : ℕ) (r e : List ℕ) (rs ts : List (List ℕ)) (v later : Verdict) → length r ≡ length e → differ step 0 r e ≡ v → Says (step + 1) rs ts later → Says step (r ∷ rs) (e ∷ ts) (orElse v later)
+says-here : (step : ℕ) (r e : List ℕ) (rs ts : List (List ℕ)) (v later : Verdict) → length r ≡ length e → firstWrong step 0 r e ≡ v → Says (step + 1) rs ts later → Says step (r ∷ rs) (e ∷ ts) (orElse v later)
 says-here step r e rs ts Accepted later l d h = says-later step r e rs ts later (differ-same step 0 r e l d) h
 says-here step r e rs ts (Wrong k f x) later l d h =
     let w = differ-wrong step 0 r e k f x d in
@@ -99,7 +99,7 @@ compared-says step [] t at zero = refl
 compared-says step [] t at (suc n) = let none : step - step ≡ 0 = omega arith in (omega arith, rw none (record { all = refl; more = omega arith }))
 compared-says step (a ∷ rs) t at zero = let none : step - step ≡ 0 = omega arith in (omega arith, rw none (record { all = refl; more = omega arith }))
 compared-says step (a ∷ rs) t at (suc n) =
-    says-here step (entryOf (a .state)) (wordsFrom t at 10) (entriesOf rs) (entriesFrom t (at + 20) n) (differ step 0 (entryOf (a .state)) (wordsFrom t at 10)) (compared (step + 1) (entriesOf rs) (entriesFrom t (at + 20) n))
+    says-here step (entryOf (a .state)) (wordsFrom t at 10) (entriesOf rs) (entriesFrom t (at + 20) n) (firstWrong step 0 (entryOf (a .state)) (wordsFrom t at 10)) (compared (step + 1) (entriesOf rs) (entriesFrom t (at + 20) n))
     (right-ten (a .state) ∙ sym (words-length t at 10)) refl (compared-says (step + 1) rs t (at + 20) n)
 
 -- THE VERDICT SAYS WHAT IS SO: the entries are the same; or the told step and field are the first that differ; or the told step is the first missing or extra one

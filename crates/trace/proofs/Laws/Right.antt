@@ -9,7 +9,7 @@ use lib.ListN.{length, take}
 use lib.Seq.{take-append-seam}
 use borrow.Author.Tests.{eqb-true, eq-eqb}
 use Rattle.wordbytes.specs.Words.{byteAt}
-use Rattle.hexdigits.specs.Over.{over}
+use Rattle.hexdigits.specs.Over.{inFrontOf}
 use Rattle.step.specs.Step.{After}
 use Rattle.refusal.specs.Page.{Page, refused, refusedAt, answered, left}
 use Rattle.refusal.proofs.Laws.Page.{apart, answered-one, first-both, call-right, one, one-call}
@@ -20,13 +20,13 @@ use Rattle.trace.specs.declared.Checked.{Checked}
 use Rattle.trace.specs.declared.Checked.the-variants as Checked
 use Rattle.trace.specs.declared.Made.{Made}
 use Rattle.trace.specs.declared.Made.the-variants as Made
-use Rattle.trace.specs.Trace.{entryOf, entriesOf, stepsOf, rightTrace, traceBytes, wordsFrom, entriesFrom, toldIn, whyTrace, orElse, differ, compared, verdictOf, VerdictPage, accepted, wrong, missing, extra, verdictPage, checkedPage, whyCheck, buffersAfter, checkOf, madePage, whyMake, madeOf, makeOf}
+use Rattle.trace.specs.Trace.{entryOf, entriesOf, stepsOf, rightTrace, traceBytes, wordsFrom, entriesFrom, toldIn, whyTrace, orElse, firstWrong, compared, verdictOf, VerdictPage, accepted, wrong, missing, extra, verdictPage, checkedPage, whyCheck, buffersAfter, checkOf, madePage, whyMake, madeOf, makeOf}
 use Rattle.trace.proofs.Laws.Bytes.{right-ten, words-length, told-again, taken-again, bytes-back}
 
 -- ---- entries that are the same, and only those, are accepted
 
-differ-self : (step k : ℕ) (xs : List ℕ) → differ step k xs xs ≡ Accepted
-unfolding differ
+differ-self : (step k : ℕ) (xs : List ℕ) → firstWrong step k xs xs ≡ Accepted
+unfolding firstWrong
 differ-self step k [] = refl
 differ-self step k (x ∷ xs) = rw (eq-eqb x x refl) (differ-self step (k + 1) xs)
 
@@ -35,14 +35,14 @@ unfolding compared
 compared-self step [] = refl
 compared-self step (e ∷ es) = rw (differ-self step 0 e) (compared-self (step + 1) es)
 
-pub differ-same : (step k : ℕ) (xs ys : List ℕ) → length xs ≡ length ys → differ step k xs ys ≡ Accepted → xs ≡ ys
-unfolding differ
+pub differ-same : (step k : ℕ) (xs ys : List ℕ) → length xs ≡ length ys → firstWrong step k xs ys ≡ Accepted → xs ≡ ys
+unfolding firstWrong
 differ-same step k [] [] l e = refl
 differ-same step k [] (y ∷ ys) l e = absurd (omega arith)
 differ-same step k (x ∷ xs) [] l e = absurd (omega arith)
 differ-same step k (x ∷ xs) (y ∷ ys) l e = split (eqb x y) refl (λ h. differ-same step (k + 1) xs ys (omega arith) h) e
   where
-    split : (b : Bool) → eqb x y ≡ b → (differ step (k + 1) xs ys ≡ Accepted → xs ≡ ys) → cond b (differ step (k + 1) xs ys) (Wrong step k x) ≡ Accepted → x ∷ xs ≡ y ∷ ys
+    split : (b : Bool) → eqb x y ≡ b → (firstWrong step (k + 1) xs ys ≡ Accepted → xs ≡ ys) → cond b (firstWrong step (k + 1) xs ys) (Wrong step k x) ≡ Accepted → x ∷ xs ≡ y ∷ ys
     split true h later e = let i = eqb-true x y h in let j = later e in cc
     split false h later e = let z : _≡_ {A = ℕ} 0 1 = cc in absurd (omega arith)
 
@@ -58,7 +58,7 @@ compared-same step [] t at zero e = refl
 compared-same step [] t at (suc n) e = let z : _≡_ {A = ℕ} 0 1 = cc in absurd (omega arith)
 compared-same step (a ∷ rs) t at zero e = let z : _≡_ {A = ℕ} 0 1 = cc in absurd (omega arith)
 compared-same step (a ∷ rs) t at (suc n) e =
-    let both = both-accepted (differ step 0 (entryOf (a .state)) (wordsFrom t at 10)) _ e in
+    let both = both-accepted (firstWrong step 0 (entryOf (a .state)) (wordsFrom t at 10)) _ e in
     let here : entryOf (a .state) ≡ wordsFrom t at 10 = differ-same step 0 _ _ (right-ten (a .state) ∙ sym (words-length t at 10)) (both .0) in
     let later = compared-same (step + 1) rs t (at + 20) n (both .1) in
     cc
@@ -115,12 +115,12 @@ pub made-accepted : (input out image map lines : List ℕ) (n : ℕ) (out′ ima
     → left (madePage (Made.Bytes n)) (out′, image′, map′, lines′) ≡ makeOf input out image map lines
     → (i m l : List ℕ) → length i ≡ length image → length m ≡ length map → length l ≡ length lines
     → checkOf input (take n out′) i m l .page ≡ answered accepted
-unfolding makeOf checkOf over
+unfolding makeOf checkOf inFrontOf
 made-accepted input out image map lines n out′ image′ map′ lines′ e i m l hi hm hl =
     let t = traceBytes (rightTrace input) in
     let made = call-right (whyMake input (length out) (length image) (length map) (length lines)) (madeOf input out) (out, image, map, lines) e in
     let size : n ≡ length t = answered-one (ap (λ z. z .page) (made .1)) in
-    let bytes : out′ ≡ over t out = ap (λ z. z .lent .0) (made .1) in
+    let bytes : out′ ≡ inFrontOf t out = ap (λ z. z .lent .0) (made .1) in
     let same : take n out′ ≡ t = rw (size, bytes) (take-append-seam t _) in
     let h = right-accepted input (take n out′) same in
     rw (hi, hm, hl, first-both (whyRead (length image) (length map) (length lines) input) _ (made .0) .0, h .0, h .1)

@@ -2,7 +2,7 @@ use Prim.Native.Nat.{_≤_, _-_}
 use mathlib.Core.Path.{_≡_, refl, sym, _∙_}
 use native.Mathlib.Omega.{arith}
 use lib.ListN.{drop}
-use Rattle.trace.specs.Trace.{wordsFrom, differ}
+use Rattle.trace.specs.Trace.{wordsFrom, firstWrong}
 use Rattle.trace.proofs.Laws.Bytes.{words-length}
 use Rattle.trace.proofs.Laws.{words-at, differ-more, differ-here, differ-end}
 use borrow.Author.Needs.{needs}
@@ -11,7 +11,7 @@ use Rattle.trace.proofs.entry_verdict.Tie as tie
 
 abbrev Inv-loop : tie.InvT-loop
 Inv-loop step trace at entry field₀ field =
-    (field ≤ 10) × (differ step field (drop field entry) (drop field (wordsFrom trace at 10)) ≡ differ step 0 entry (wordsFrom trace at 10))
+    (field ≤ 10) × (firstWrong step field (drop field entry) (drop field (wordsFrom trace at 10)) ≡ firstWrong step 0 entry (wordsFrom trace at 10))
 
 abbrev μ-loop : tie.MeasureT-loop
 μ-loop step trace at entry field₀ field = 10 - field

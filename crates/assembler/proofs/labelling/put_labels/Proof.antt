@@ -5,7 +5,7 @@ use borrow.Author.Needs.{needs}
 use lib.ListN.{length}
 use Rattle.hexdigits.specs.Over.{WroteAt}
 use Rattle.patchline.specs.Text.{labelOf}
-use Rattle.assembler.specs.Source.{countOf}
+use Rattle.assembler.specs.Source.{lineCount}
 use Rattle.assembler.specs.Labels.{labelsTo}
 use Rattle.assembler.proofs.Laws.Labels.{labels-length, labels-none, labels-more, labels-all}
 use Rattle.assembler.proofs.labelling.put_labels.Statement.{statement}
@@ -19,7 +19,7 @@ use Rattle.assembler.proofs.source.line_at.Reads as line-at-reads
 use Rattle.patchline.proofs.text.label.Reads as label-reads
 
 abbrev Inv-loop : tie.InvT-loop
-Inv-loop source starts out₀ lines at₀ i₀ out at i = (i ≤ lines) × (lines ≡ countOf source) × (length out ≡ length out₀) × WroteAt 0 (labelsTo source i) out₀ out at
+Inv-loop source starts out₀ lines at₀ i₀ out at i = (i ≤ lines) × (lines ≡ lineCount source) × (length out ≡ length out₀) × WroteAt 0 (labelsTo source i) out₀ out at
 
 abbrev μ-loop : tie.MeasureT-loop
 μ-loop source starts out₀ lines at₀ i₀ out at i = lines - i
@@ -63,7 +63,7 @@ returns : tie.Need-returns Inv-loop μ-loop
 returns c =
     let l = c .before .loop in
     let s = c .before .before .before .before .before .args .source .now in
-    let all : l .i ≡ countOf s = omega (arith, l .inv .0, l .inv .1, c .loop-test .left) in
+    let all : l .i ≡ lineCount s = omega (arith, l .inv .0, l .inv .1, c .loop-test .left) in
     (labels-all s _ _ (l .i) _ all (l .inv .3), omega (arith, l .inv .3 .count, labels-length s (l .i), all, c .before .before .before .before .before .pre .0 .few))
 
 pub put-labels-spec : {M : Type 1} → statement M

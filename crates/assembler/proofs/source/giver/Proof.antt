@@ -4,20 +4,20 @@ use native.Mathlib.Omega.{arith}
 use borrow.Author.Needs.{needs}
 use Rattle.optext.proofs.Laws.Choose.{first-found, first-next, first-end}
 use Rattle.patchline.proofs.Laws.Search.{first-start}
-use Rattle.assembler.specs.Source.{countOf, givesAt, giverOf}
+use Rattle.assembler.specs.Source.{lineCount, givesAt, giverOf}
 use Rattle.optext.specs.First.{firstFrom}
 use Rattle.assembler.proofs.source.giver.Statement.{statement}
 use Rattle.assembler.proofs.source.giver.Tie as tie
 
 abbrev Inv-loop : tie.InvT-loop
-Inv-loop source u n i₀ i = (i ≤ n) × (n ≡ countOf source) × (giverOf source u ≡ firstFrom (givesAt source u) (n - i) i)
+Inv-loop source u n i₀ i = (i ≤ n) × (n ≡ lineCount source) × (giverOf source u ≡ firstFrom (givesAt source u) (n - i) i)
 
 abbrev μ-loop : tie.MeasureT-loop
 μ-loop source u n i₀ i = n - i
 
 loop-holds : tie.Need-loop-holds Inv-loop μ-loop
 unfolding giverOf
-loop-holds c = (omega arith, c .count .ensures, rw (c .count .ensures) (first-start (givesAt (c .before .before .before .args .source .now) (c .before .before .before .args .u .now)) (countOf (c .before .before .before .args .source .now)) _ refl))
+loop-holds c = (omega arith, c .count .ensures, rw (c .count .ensures) (first-start (givesAt (c .before .before .before .args .source .now) (c .before .before .before .args .u .now)) (lineCount (c .before .before .before .args .source .now)) _ refl))
 
 gives-at-requires : tie.Need-gives-at-requires Inv-loop μ-loop
 gives-at-requires c κs = omega (arith, c .before .loop .inv .1)

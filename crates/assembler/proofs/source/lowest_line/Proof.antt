@@ -4,20 +4,20 @@ use native.Mathlib.Omega.{arith}
 use borrow.Author.Needs.{needs}
 use Rattle.optext.proofs.Laws.Choose.{first-found, first-next, first-end}
 use Rattle.patchline.proofs.Laws.Search.{first-start}
-use Rattle.assembler.specs.Source.{countOf, fails, lowest}
+use Rattle.assembler.specs.Source.{lineCount, fails, lowest}
 use Rattle.optext.specs.First.{firstFrom}
 use Rattle.assembler.proofs.source.lowest_line.Statement.{statement}
 use Rattle.assembler.proofs.source.lowest_line.Tie as tie
 
 abbrev Inv-loop : tie.InvT-loop
-Inv-loop f source starts ends n i₀ i = (i ≤ n) × (n ≡ countOf source) × (lowest f source ≡ firstFrom (fails f source) (n - i) i)
+Inv-loop f source starts ends n i₀ i = (i ≤ n) × (n ≡ lineCount source) × (lowest f source ≡ firstFrom (fails f source) (n - i) i)
 
 abbrev μ-loop : tie.MeasureT-loop
 μ-loop f source starts ends n i₀ i = n - i
 
 loop-holds : tie.Need-loop-holds Inv-loop μ-loop
 unfolding lowest
-loop-holds c = (omega arith, c .count .ensures, rw (c .count .ensures) (first-start (fails (c .before .before .args .f) (c .before .before .args .source .now)) (countOf (c .before .before .args .source .now)) _ refl))
+loop-holds c = (omega arith, c .count .ensures, rw (c .count .ensures) (first-start (fails (c .before .before .args .f) (c .before .before .args .source .now)) (lineCount (c .before .before .args .source .now)) _ refl))
 
 fail-requires : tie.Need-fail-requires Inv-loop μ-loop
 fail-requires c κs = (c .before .before .before .before .pre .0, c .before .before .before .before .pre .1, omega (arith, c .before .loop .inv .1))

@@ -3,13 +3,13 @@ use Prim.Native.Nat.{ℕ, _+_, _-_, _*_, _≤_, _<_}
 use native.Mathlib.Omega.{arith}
 use borrow.Author.Needs.{needs}
 use lib.ListN.{length, getD, length-set}
-use Rattle.assembler.specs.Source.{countOf, originAt, endAt}
+use Rattle.assembler.specs.Source.{lineCount, originAt, endAt}
 use Rattle.assembler.proofs.Origins.{origin-next, end-is, table-more, table-none}
 use Rattle.assembler.proofs.source.survey.Statement.{statement}
 use Rattle.assembler.proofs.source.survey.Tie as tie
 
 abbrev Inv-loop : tie.InvT-loop
-Inv-loop source starts₀ ends₀ n o₀ i₀ starts ends o i = (i ≤ n) × (n ≡ countOf source) × (o ≡ originAt source i) × (o ≤ 65535 + 6 * i) × (length starts ≡ 1025) × (length ends ≡ 1024) × ((k : ℕ) → k < i → getD starts k 0 ≡ originAt source k) × ((k : ℕ) → k < i → getD ends k 0 ≡ endAt source k)
+Inv-loop source starts₀ ends₀ n o₀ i₀ starts ends o i = (i ≤ n) × (n ≡ lineCount source) × (o ≡ originAt source i) × (o ≤ 65535 + 6 * i) × (length starts ≡ 1025) × (length ends ≡ 1024) × ((k : ℕ) → k < i → getD starts k 0 ≡ originAt source k) × ((k : ℕ) → k < i → getD ends k 0 ≡ endAt source k)
 
 abbrev μ-loop : tie.MeasureT-loop
 μ-loop source starts₀ ends₀ n o₀ i₀ starts ends o i = n - i
@@ -50,8 +50,8 @@ returns c =
     let l = c .before .loop in
     let n = c .before .before .count .result in
     let s = c .before .before .before .before .args .source .now in
-    let few : countOf s ≤ 1024 = c .before .before .before .before .pre .0 in
-    let e : n ≡ countOf s = c .before .before .count .ensures in
+    let few : lineCount s ≤ 1024 = c .before .before .before .before .pre .0 in
+    let e : n ≡ lineCount s = c .before .before .count .ensures in
     let z : l .i ≡ n = omega arith in
     (record { few = few; at = λ k h. table-more (originAt s) (l .starts) n _ (omega (arith, e, few, l .inv .4)) (rw z at (l .inv .6)) (rw z at (l .inv .2)) k (omega (arith, e, h)) }, record { at = λ k h. l .inv .7 k (omega (arith, e, z, h)) })
 

@@ -8,7 +8,7 @@ use Rattle.board.specs.Exec.{beside, Board}
 use Rattle.state.specs.State.{heard}
 use Rattle.step.specs.declared.Cause.the-variants as Cause
 use Rattle.step.specs.Step.{after, calm, stepOf, Stepped, isCode}
-use Rattle.machine.specs.Run.{rest, runOf, lastCause}
+use Rattle.machine.specs.Run.{restOfRun, runOf, lastCause}
 use Rattle.machine.proofs.Laws.Run.{rest-more, rest-none, cause-more, cause-none, Hearing, hearing-new, hearing-old}
 use Rattle.machine.proofs.Laws.Turn.{turned-code, turned-blank, turned-other}
 use Rattle.machine.proofs.runs.run_from.Statement.{statement}
@@ -16,7 +16,7 @@ use Rattle.machine.proofs.runs.run_from.Tie as tie
 
 abbrev Inv-loop : tie.InvT-loop
 Inv-loop image₀ map log₀ settings lines state₀ tally₀ cause₀ n i₀ line₀ out₀ quiet₀ image log state tally cause i line out quiet =
-    (i ≤ length lines) × (tally .blanks ≤ i) × (rest settings map i (drop i lines) state image tally ≡ runOf settings map lines state₀ image₀) × (lastCause settings map (drop i lines) state image cause ≡ lastCause settings map lines state₀ image₀ Cause.Nothing) × Board map (beside image log) × (out ≡ heard settings line) × (quiet ≡ calm out)
+    (i ≤ length lines) × (tally .blanks ≤ i) × (restOfRun settings map i (drop i lines) state image tally ≡ runOf settings map lines state₀ image₀) × (lastCause settings map (drop i lines) state image cause ≡ lastCause settings map lines state₀ image₀ Cause.Nothing) × Board map (beside image log) × (out ≡ heard settings line) × (quiet ≡ calm out)
 
 abbrev μ-loop : tie.MeasureT-loop
 μ-loop image₀ map log₀ settings lines state₀ tally₀ cause₀ n i₀ line₀ out₀ quiet₀ image log state tally cause i line out quiet = length lines - i

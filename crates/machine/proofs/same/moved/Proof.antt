@@ -1,6 +1,6 @@
 use native.Mathlib.Omega.{arith}
 use borrow.Author.Needs.{needs}
-use Rattle.machine.specs.Same.{Among}
+use Rattle.machine.specs.Same.{BlankAmong}
 use Rattle.machine.proofs.same.moved.Statement.{statement}
 use Rattle.machine.proofs.same.moved.Tie as tie
 use Rattle.machine.proofs.same.moved.Reads as reads

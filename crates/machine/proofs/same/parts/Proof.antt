@@ -5,7 +5,7 @@ use lib.ListN.{length, replicate}
 use lib.Seq.{length-take-le}
 use borrow.Author.Needs.{needs}
 use Rattle.board.specs.Exec.{Lent}
-use Rattle.machine.specs.Run.{rest, runOf}
+use Rattle.machine.specs.Run.{restOfRun, runOf}
 use Rattle.machine.specs.Same.{Tallied}
 use Rattle.machine.proofs.Laws.Same.{same-more, same-none, part-take, part-length}
 use Rattle.machine.proofs.same.parts.Statement.{statement}
@@ -17,7 +17,7 @@ use Rattle.machine.proofs.same.part.Reads as part-reads
 
 abbrev Inv-loop : tie.InvT-loop
 Inv-loop image₀ map settings line lines steps ran₀ done₀ image ran done =
-    (done ≤ steps) × Lent map image × Tallied done (ran .tally) × (rest settings map done (replicate (steps - done) line) (ran .state) image (ran .tally) ≡ runOf settings map (replicate steps line) (ran₀ .state) image₀)
+    (done ≤ steps) × Lent map image × Tallied done (ran .tally) × (restOfRun settings map done (replicate (steps - done) line) (ran .state) image (ran .tally) ≡ runOf settings map (replicate steps line) (ran₀ .state) image₀)
 
 abbrev μ-loop : tie.MeasureT-loop
 μ-loop image₀ map settings line lines steps ran₀ done₀ image ran done = steps - done

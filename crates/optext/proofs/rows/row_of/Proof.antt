@@ -5,14 +5,14 @@ use lib.ListN.{length}
 use Rattle.optext.specs.Line.{fitsRow, rowOf, taken}
 use Rattle.optext.proofs.Laws.Choose.{first-found, first-next, first-end}
 use Rattle.optext.specs.First.{firstFrom}
-use Rattle.optext.specs.Rows.{wordRow, rows, flat}
+use Rattle.optext.specs.Rows.{wordRow, rows, tableBytes}
 use Rattle.hexdigits.specs.Digits.{digits, hexOf, hex4}
 use Rattle.optext.proofs.Laws.Table.{flat-length}
 use Rattle.optext.proofs.rows.row_of.Statement.{statement}
 use Rattle.optext.proofs.rows.row_of.Tie as tie
 
 abbrev Inv-loop : tie.InvT-loop
-Inv-loop w table i₀ i = (table ≡ flat rows) × (i ≤ wordRow) × (rowOf w ≡ firstFrom (fitsRow w) (wordRow - i) i)
+Inv-loop w table i₀ i = (table ≡ tableBytes rows) × (i ≤ wordRow) × (rowOf w ≡ firstFrom (fitsRow w) (wordRow - i) i)
 
 abbrev μ-loop : tie.MeasureT-loop
 μ-loop w table i₀ i = wordRow - i

@@ -4,7 +4,7 @@ use Prim.Native.Nat.{_≤_, _<_, _-_}
 use native.Mathlib.Omega.{arith}
 use lib.ListN.{length, take, length-set}
 use Rattle.hexdigits.proofs.Laws.Laid.{copy-none, copy-more}
-use Rattle.hexdigits.specs.Over.{over}
+use Rattle.hexdigits.specs.Over.{inFrontOf}
 use Rattle.optext.specs.Rows.{nameOf}
 use Rattle.optext.proofs.Laws.Table.{name-letter}
 use lib.Seq.{take-length}
@@ -12,7 +12,7 @@ use Rattle.optext.proofs.writing.put_name.Statement.{statement}
 use Rattle.optext.proofs.writing.put_name.Tie as tie
 
 abbrev Inv-loop : tie.InvT-loop
-Inv-loop out₀ k n i₀ out i = (i ≤ n) × (length out ≡ length out₀) × (out ≡ over (take i (nameOf k)) out₀)
+Inv-loop out₀ k n i₀ out i = (i ≤ n) × (length out ≡ length out₀) × (out ≡ inFrontOf (take i (nameOf k)) out₀)
 
 abbrev μ-loop : tie.MeasureT-loop
 μ-loop out₀ k n i₀ out i = n - i

@@ -1,11 +1,11 @@
 use mathlib.Core.Path.{refl, _∙_}
 use borrow.Author.Needs.{needs}
-use Rattle.patchline.specs.Line.{bare}
+use Rattle.patchline.specs.Line.{bareOperand}
 use Rattle.patchline.proofs.oneline.bare.Statement.{statement}
 use Rattle.patchline.proofs.oneline.bare.Tie as tie
 
 returns : tie.Need-returns
-unfolding bare
+unfolding bareOperand
 returns c = c .after .ensures ∙ rw (c .before .at .ensures .0) refl
 
 pub bare-spec : {M : Type 1} → statement M

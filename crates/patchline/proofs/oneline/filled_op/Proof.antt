@@ -8,7 +8,7 @@ use Rattle.patchline.proofs.Long.{long-none}
 use lib.ListN.{length}
 use lib.Seq.{length-take-le}
 use Rattle.patchline.specs.Line.{opIn}
-use Rattle.optext.specs.Read.{readOf, opOf}
+use Rattle.optext.specs.Read.{wordsOfText, opOf}
 use Rattle.hexdigits.proofs.Laws.Laid.{wrote-take}
 use Rattle.patchline.proofs.oneline.filled_op.Statement.{statement}
 use Rattle.patchline.proofs.oneline.filled_op.Tie as tie
@@ -29,7 +29,7 @@ slice-aggregate-op-of c = let a = c .before .before .before .before .before .bef
 
 returns-2 : tie.Need-returns-2
 unfolding opIn
-returns-2 c = (c .op-of .ensures .0 ∙ ap (λ (l : List ℕ). opOf (readOf l)) (wrote-take _ _ _ _ (c .before .before .before .put-filled .ensures)), c .op-of .ensures .1)
+returns-2 c = (c .op-of .ensures .0 ∙ ap (λ (l : List ℕ). opOf (wordsOfText l)) (wrote-take _ _ _ _ (c .before .before .before .put-filled .ensures)), c .op-of .ensures .1)
 
 pub filled-op-spec : {M : Type 1} → statement M
 filled-op-spec =

@@ -1,7 +1,7 @@
 use mathlib.Core.Path.{refl}
 use borrow.Author.Needs.{needs}
 use Rattle.patchline.specs.Line.{isDirective}
-use Rattle.optext.specs.Read.{same}
+use Rattle.optext.specs.Read.{sameText}
 use Rattle.patchline.proofs.oneline.is_directive.Statement.{statement}
 use Rattle.patchline.proofs.oneline.is_directive.Tie as tie
 

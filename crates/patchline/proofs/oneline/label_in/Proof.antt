@@ -1,7 +1,7 @@
 use mathlib.Core.Path.{sym, _∙_}
 use borrow.Author.Needs.{needs}
 use Rattle.patchline.proofs.Laws.{label-in-yes, label-in-no}
-use Rattle.patchline.specs.Line.{bare}
+use Rattle.patchline.specs.Line.{bareOperand}
 use Rattle.patchline.proofs.oneline.label_in.Statement.{statement}
 use Rattle.patchline.proofs.oneline.label_in.Tie as tie
 

@@ -3,13 +3,13 @@ use Prim.Native.Nat.{_-_, _≤_, _<_}
 use native.Mathlib.Omega.{arith}
 use lib.ListN.{length, take, length-set}
 use lib.Seq.{take-length}
-use Rattle.hexdigits.specs.Over.{over}
+use Rattle.hexdigits.specs.Over.{inFrontOf}
 use Rattle.hexdigits.proofs.Laws.Laid.{copy-none, copy-more}
 use Rattle.patchline.proofs.oneline.put.Statement.{statement}
 use Rattle.patchline.proofs.oneline.put.Tie as tie
 
 abbrev Inv-loop : tie.InvT-loop
-Inv-loop out₀ s i₀ out i = (i ≤ length s) × (length out ≡ length out₀) × (out ≡ over (take i s) out₀)
+Inv-loop out₀ s i₀ out i = (i ≤ length s) × (length out ≡ length out₀) × (out ≡ inFrontOf (take i s) out₀)
 
 abbrev μ-loop : tie.MeasureT-loop
 μ-loop out₀ s i₀ out i = length s - i

@@ -1,7 +1,7 @@
 use mathlib.Core.Path.{sym, _∙_}
 use borrow.Author.Needs.{needs}
 use Rattle.patchline.proofs.Laws.{alias-1, alias-2, alias-3, alias-4, alias-5}
-use Rattle.optext.specs.Read.{same}
+use Rattle.optext.specs.Read.{sameText}
 use Rattle.patchline.proofs.oneline.put_alias.Statement.{statement}
 use Rattle.patchline.proofs.oneline.put_alias.Tie as tie
 

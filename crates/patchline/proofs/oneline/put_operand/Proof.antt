@@ -4,7 +4,7 @@ use borrow.Author.Needs.{needs}
 use Rattle.patchline.proofs.Laws.{part-few, filled-label, filled-plain}
 use Rattle.patchline.specs.Text.{isName}
 use lib.ListN.{length}
-use Rattle.patchline.specs.Line.{bare}
+use Rattle.patchline.specs.Line.{bareOperand}
 use Rattle.hexdigits.proofs.Laws.Laid.{then}
 use Rattle.patchline.proofs.oneline.put_operand.Statement.{statement}
 use Rattle.patchline.proofs.oneline.put_operand.Tie as tie

@@ -3,20 +3,20 @@ use Prim.Native.Nat.{_-_}
 use native.Mathlib.Omega.{arith}
 use borrow.Author.Needs.{needs}
 use Rattle.optext.proofs.Laws.Choose.{first-found, first-next, first-end}
-use Rattle.patchline.specs.Text.{isAt, placeOf}
+use Rattle.patchline.specs.Text.{isAt, findFrom}
 use Rattle.optext.specs.First.{firstFrom}
 use lib.ListN.{length}
 use Rattle.patchline.proofs.text.place.Statement.{statement}
 use Rattle.patchline.proofs.text.place.Tie as tie
 
 abbrev Inv-loop : tie.InvT-loop
-Inv-loop c t from i₀ i = placeOf c t from ≡ firstFrom (isAt c t) (length t - i) i
+Inv-loop c t from i₀ i = findFrom c t from ≡ firstFrom (isAt c t) (length t - i) i
 
 abbrev μ-loop : tie.MeasureT-loop
 μ-loop c t from i₀ i = length t - i
 
 loop-holds : tie.Need-loop-holds Inv-loop μ-loop
-unfolding placeOf
+unfolding findFrom
 loop-holds c = refl
 
 returns : tie.Need-returns Inv-loop μ-loop
