@@ -16,7 +16,7 @@ import os
 import re
 import sys
 
-from tree import PROOFS, README, THEOREMS, Tree, read, reading_order
+from tree import ARCHITECTURE, PROOFS, THEOREMS, Tree, read, reading_order
 
 # What leads to a definition, the first that does.
 LEVELS = ["a contract for users", "a statement of " + ", ".join(THEOREMS), f"a theorem that {PROOFS} names", "an inner function's contract"]
@@ -72,7 +72,7 @@ def listed(tree):
     crates = reading_order()
     lost = {crate for crate, _ in lines} - set(crates)
     if lost:
-        sys.exit(f"{README}'s table of crates lacks {', '.join(sorted(lost))}")
+        sys.exit(f"{ARCHITECTURE}'s table of crates lacks {', '.join(sorted(lost))}")
     out = ""
     for crate in crates:
         files = [f"{title} {lines[crate, title]}" for title in order_of(tree, crate) if lines[crate, title]]
@@ -89,7 +89,7 @@ def items(tree):
 
 
 def quoted_names():
-    papers = [README] + sorted("docs/" + n for n in os.listdir("docs") if n.endswith(".md"))
+    papers = ["README.md"] + sorted("docs/" + n for n in os.listdir("docs") if n.endswith(".md"))
     return {name for paper in papers for name in re.findall(r"`([^`\n]+)`", read(paper))}
 
 

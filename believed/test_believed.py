@@ -63,7 +63,7 @@ $ believed/believed.py --list
 """
 TREE = {
     "crates.txt": "low:\nmachine: low\n",
-    "README.md": "## The parts\n\n| Crate | What it is |\n|---|---|\n| `low` | ground |\n| `machine` | top |\n\n## Read on\n",
+    "docs/ARCHITECTURE.md": "## The crates\n\n| Crate | What it is |\n|---|---|\n| `low` | ground |\n| `machine` | top |\n\nIn each crate\n",
     "docs/CONTRACTS.md": "Users call `machine`.\n",
     "docs/PROOFS.md": PROOFS,
     "docs/BELIEVE.md": "```\n$ believed/believed.py --sums\n```\n",

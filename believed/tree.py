@@ -8,7 +8,7 @@ from source import Source
 
 # Crates of theorems alone.
 THEOREMS = "demands laws patchlaws examples".split()
-PROOFS, CONTRACTS, README = "docs/PROOFS.md", "docs/CONTRACTS.md", "README.md"
+PROOFS, CONTRACTS, ARCHITECTURE = "docs/PROOFS.md", "docs/CONTRACTS.md", "docs/ARCHITECTURE.md"
 # The part of docs/PROOFS.md that tells how proofs go: what it names is no statement.
 HOW = "## How code and definition meet"
 RESTS_ON = re.compile(r"^\|.*\| Rests on \|$")
@@ -29,8 +29,8 @@ def users():
 
 
 def reading_order():
-    """The crates from the ground up, as README.md's table of the parts has them."""
-    parts = read(README).split("## The parts\n")[1].split("\n## ")[0]
+    """The crates from the ground up, as docs/ARCHITECTURE.md's table has them."""
+    parts = read(ARCHITECTURE).split("## The crates\n")[1].split("\n\nIn each crate")[0]
     cells = re.findall(r"^\| (`\w+`(?:, `\w+`)*) \|", parts, re.M)
     return [name for cell in cells for name in re.findall(r"`(\w+)`", cell)]
 
