@@ -118,7 +118,7 @@ enum {
     WD16_TELLS = 21,   /* 1 where the step tells an address, else 0; 0 after power-up and after a run. Read for its range
                           alone */
     WD16_ADDRESS = 22, /* that address, two bytes, low byte first: the first that the dropped work found unfitted, or
-                          read-only for a write, before bit 0 is dropped; 0 where none is told. Not read */
+                          read-only for a write, as it was given, bit 0 included; 0 where none is told. Not read */
 };
 
 /* The bits of a PS, as it is pushed and saved. */

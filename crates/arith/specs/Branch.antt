@@ -23,7 +23,7 @@ conditions f
     ∷ not (f .c)  -- 86 BCC   87 BCS
     ∷ []
 
--- by the pair's number; past the table there is none
+-- by the pair's number; past the table no condition holds
 abbrev pub condition : ℕ → Flags → Bool
 condition pair f = getD (conditions f) pair false
 

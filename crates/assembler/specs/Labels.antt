@@ -1,5 +1,5 @@
 -- The labels of a source: for each line the length of its label, 0 where it has none, and the address that the line begins at, which is
--- the label's value. A line that is no text, and a label that is given again, make them doubtful and are refused; a label that is
+-- the label's value. A line whose text is unknown, and a label that is given again, make them doubtful and are refused; a label that is
 -- missing, and words out of place or out of reach, are not.
 use mathlib.Core.List.{List, [], _∷_, _++_}
 use Prim.Native.Nat.{ℕ, zero, suc}

@@ -17,7 +17,7 @@ pub data Work (A : Type 0) : Type 0 where
   readAt : Size → ℕ → (ℕ → Work A) → Work A
   writeAt : Size → ℕ → ℕ → Work A → Work A
 
--- What it comes to: an A with the image as it then is, or a blank with the address that was reached, before bit 0 is dropped.
+-- What it comes to: an A with the image as it then is, or a blank with the address that was reached, as it was given, bit 0 included.
 pub data Came (A : Type 0) : Type 0 where
   value : A → List ℕ → Came A
   blank : ℕ → Came A

@@ -1,5 +1,5 @@
 -- WHAT THE PROGRAMS READ SUFFICES. `bench`, `list`, `make_trace` and `check_trace` read one byte more than the longest job has, 25,096, or the longest trace,
--- 1,310,702. Here: what they print of so many bytes is what they print of all that stands on their input.
+-- 1,310,702. Here: what they print for so many bytes is what they would print for all of their input.
 use Prim.Native.Nat.{ℕ}
 use mathlib.Core.List.{List}
 use mathlib.Core.Path.{_≡_}

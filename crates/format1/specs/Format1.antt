@@ -25,7 +25,7 @@ ien s = withMark (withI2 s true) (not (s .i2))
 abbrev pub ids : State → State
 ids s = withI2 s false
 
--- HALT: I2 is reset; the mode tells whether the end of power fail or the halt switch ends it
+-- HALT: I2 is reset; the mode says what ends the halt: the end of power fail, or the halt switch
 abbrev pub halt : Outside → State → State
 halt out s = withMode (withI2 s false) (cond (out .fail) PowerHalt SwitchHalt)
 

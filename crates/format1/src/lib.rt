@@ -24,7 +24,7 @@ fn halted(out: Outside) -> Mode
     }
 }
 
-// HALT: I2 is reset; the mode tells whether the end of power fail or the halt switch ends it.
+// HALT: I2 is reset; the mode says what ends the halt: the end of power fail, or the halt switch.
 fn halt(s: State, out: Outside) -> State
     ensures { λ r. ⌜ r ≡ Spec.halt out s ⌝ }
 {
@@ -235,7 +235,7 @@ fn by_number(
     }
 }
 
-// SAVE, REST and RTT are told first. The rest is called from two places, which keeps it out of line.
+// SAVE, REST and RTT are tried first. The rest is called from two places, which keeps it out of line.
 pub fn format1(
     s: State,
     image: &mut [u8],

@@ -37,7 +37,7 @@ stores Cmp = false
 stores Bit = false
 stores Mov = true
 
--- the indicators set, and the result left to be settled
+-- the indicators set; `settle` decides whether and how the result is written
 abbrev pub settled : (State → ℕ → Place → ℕ → Work State) → State → ℕ → Place → Done → Work State
 settled settle s k p d = settle (withFlags s (d .flags)) k p (d .value)
 
@@ -54,7 +54,7 @@ settleByte Cmpb s k p v = give s
 settleByte Movb s k p v = moveByte s k p v
 settleByte Bisb s k p v = writeTo byte s k p v
 
--- (DST) ← the result of (SRC) and (DST); the indicators. `settle` says whether and how the result is written
+-- (DST) ← the result of (SRC) and (DST); the indicators
 unfoldable pub onOperands : Size → (ℕ → ℕ → Flags → Done) → (State → ℕ → Place → ℕ → Work State) → State → ℕ → Work State
 onOperands z result settle s op = do
   from ← operandOf z s (sourceMode op) (sourceRegister op)

@@ -70,7 +70,7 @@ fn settle(
     Went::Done(s)
 }
 
-// The op code on words, with the source x: MOV, which does not read its destination, is told first.
+// The op code on words, with the source x: MOV, which does not read its destination, is tried first.
 fn onto_words(s: State, image: &mut [u8], map: &[u8], log: &mut [u16; 32], op: u16, x: u16) -> Went
     requires { ⌜ Board (now map) (beside (now image) (now log)) ⌝ }
     ensures { λ r. ⌜ Works (now (map .entry)) (Spec.ontoWords (Spec.binaryCode op) s op x) (now (image .entry)) (now (log .entry)) r (now (image .exit)) (now (log .exit)) ⌝ }
@@ -158,7 +158,7 @@ fn settle_byte(
     }
 }
 
-// The op code on bytes, with the source x: MOVB, which does not read its destination, is told first.
+// The op code on bytes, with the source x: MOVB, which does not read its destination, is tried first.
 fn onto_bytes(s: State, image: &mut [u8], map: &[u8], log: &mut [u16; 32], op: u16, x: u8) -> Went
     requires { ⌜ Board (now map) (beside (now image) (now log)) ⌝ }
     ensures { λ r. ⌜ Works (now (map .entry)) (Spec.ontoBytes (Spec.byteCode op) s op x) (now (image .entry)) (now (log .entry)) r (now (image .exit)) (now (log .exit)) ⌝ }

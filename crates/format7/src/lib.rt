@@ -274,7 +274,7 @@ fn no_result(
     tjmp(s, image, map, op)
 }
 
-// What modifies its operand is told first. The rest is called from two places, which keeps it out of line.
+// What modifies its operand is tried first. The rest is called from two places, which keeps it out of line.
 pub fn format7(
     s: State,
     image: &mut [u8],

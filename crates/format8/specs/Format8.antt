@@ -58,7 +58,7 @@ onward s k n = withReg s k (plus (reg s k) n)
 unfoldable pub counted : Row → State → ℕ → ℕ → State
 counted r s i j = onward (onward (onward s i (r .source)) j (r .destination)) 0 (down 1)
 
--- IF R0 is not 0, PC ← the op code's address: t with the PC of s, which stands past the op code, less 2
+-- IF R0 is not 0, PC ← the op code's address. s is the state after the fetch, so the address is its PC less 2; t is the state after the element
 unfoldable pub again : State → State → State
 again s t = cond (eqb (t .regs .r0) 0) t (withPc t (minus (s .regs .pc) 2))
 

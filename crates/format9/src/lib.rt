@@ -183,7 +183,7 @@ fn div(s: State, image: &[u8], map: &[u8], op: u16) -> Went
     Went::Done(t.with_pair(k, pair))
 }
 
-// All but SOB and JSR, which are told before: with the indicators preset.
+// All but SOB and JSR, which are tried before: with the indicators preset.
 fn preset_code(
     s: State,
     image: &mut [u8],
@@ -207,7 +207,7 @@ fn preset_code(
     }
 }
 
-// SOB and JSR are told first. The rest is called from two places, which keeps it out of line.
+// SOB and JSR are tried first. The rest is called from two places, which keeps it out of line.
 pub fn format9(
     s: State,
     image: &mut [u8],

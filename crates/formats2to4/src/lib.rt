@@ -30,7 +30,7 @@ fn formats_2_to_4(
     format4::format4(s, image, map, log, out, op)
 }
 
-// Format 1, then RTN, are told first. The rest is called from two places, which keeps it out of line.
+// Format 1, then RTN, are tried first. The rest is called from two places, which keeps it out of line.
 pub fn low_codes(
     s: State,
     image: &mut [u8],

@@ -34,7 +34,7 @@ fn nth(i: usize) -> Section
     }
 }
 
-// Whether a section that may be missing is: the job ends where its count would stand.
+// Is a section missing that may be? Then the job ends where its count would stand.
 fn absent(s: Section, input: &[u8], at: usize) -> bool
     ensures { λ r. ⌜ r ≡ Spec.absent s (now (input .entry)) at ⌝ }
 {

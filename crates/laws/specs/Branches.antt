@@ -52,7 +52,7 @@ lines
     ∷ branchLine "BCS" 0x87 (λ f. f .c)  -- also BLO
     ∷ []
 
--- the line of a high byte; there is none of another
+-- when the line of a high byte branches; any other high byte has no line
 abbrev pub whenIn : List Line → ℕ → Flags → Bool
 whenIn [] h f = false
 whenIn (l ∷ ls) h f = cond (eqb h (l .high)) (l .when f) (whenIn ls h f)

@@ -55,7 +55,7 @@ abbrev pub quiet : ℕ → Bool
 quiet line = not ((bit 0 line || bit 1 line) || bit 3 line)
 
 -- What is asked: the microm is fitted; a block move, 0E00 to 0FFF, with neither register R0 or PC; it stands at PC of a running processor,
--- and no element meets a blank or writes over it (`Ready`); a quiet line word for each element, so many as R0 says, 65,536 where it is 0.
+-- and no element meets a blank or writes over it (`Ready`); a quiet line word for each element, as many as R0 says, 65,536 where it is 0.
 pub record Moves (settings : Settings) (map : List ℕ) (op : ℕ) (lines : List ℕ) (s : State) (m : List ℕ) : Type 0 where
   pub microm : settings .blocks ≡ true
   pub eight : op / 512 ≡ 7

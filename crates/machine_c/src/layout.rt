@@ -57,14 +57,14 @@ fn over(b: &[u8]) -> bool
         | (1 < byte_at(b, 21))
 }
 
-// Whether these are no state's bytes.
+// Are these bytes not a state's?
 fn refused_state(b: &[u8]) -> bool
     ensures { λ r. ⌜ r ≡ Spec.refusedState (now (b .entry)) ⌝ }
 {
     (b.len() != 24) | over(b)
 }
 
-// Whether these are no settings' bytes.
+// Are these bytes not the settings'?
 fn refused_settings(w: &[u8]) -> bool
     ensures { λ r. ⌜ r ≡ Spec.refusedSettings (now (w .entry)) ⌝ }
 {

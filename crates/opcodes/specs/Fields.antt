@@ -1,7 +1,7 @@
 -- The fields of an op code, as the manual draws them at the head of each format.
 use Prim.Native.Nat.{ℕ, _+_, _/_, _%_}
 
--- bits 15 to 8, by which the plate tells the format
+-- bits 15 to 8, by which the plate gives the format
 abbrev pub highByte : ℕ → ℕ
 highByte op = op / 256
 

@@ -27,7 +27,7 @@ incrementOf byte k = cond (ltb k 6) 1 2
 abbrev pub indexBase : ℕ → ℕ → ℕ → ℕ
 indexBase k r pc = cond (eqb k 7) (plus pc 2) r
 
--- at an address stands the operand's; the register `which` moves to v
+-- the word at this address is the address of the operand; the register `which` moves to v
 unfoldable pub deferred : ℕ → ℕ → ℕ → Work Place
 deferred at which v = do
   a ← load at

@@ -68,7 +68,7 @@ fn base(k: u16, r: u16, pc: u16) -> u16
     if k == 7 { plus(pc, 2) } else { r }
 }
 
-// At an address stands the operand's; a register moves.
+// The word at an address is the address of the operand; a register moves.
 fn deferred(image: &[u8], map: &[u8], at: u16, which: u16, v: u16) -> Found
     requires { ⌜ Lent (now map) (now image) ⌝ }
     ensures { λ f. ⌜ Saw (now (map .entry)) (Spec.deferred at which v) (now (image .entry)) (foundAs f) ⌝ }
@@ -121,7 +121,7 @@ fn pointed(image: &[u8], map: &[u8], step: u16, k: u16, r: u16, mode: u16) -> Fo
     Found::At(Place::Mem(at, k, next))
 }
 
-// Where the operand of a mode and a register stands; a register operand, the commonest, is told at once.
+// Where the operand of a mode and a register stands; a register operand, the commonest, is tried first.
 pub fn locate(image: &[u8], map: &[u8], step: u16, k: u16, r: u16, pc: u16, mode: u16) -> Found
     requires { ⌜ Lent (now map) (now image) ⌝ }
     ensures { λ f. ⌜ Saw (now (map .entry)) (Spec.locate step k r pc mode) (now (image .entry)) (foundAs f) ⌝ }

@@ -1,5 +1,5 @@
 -- A LINE THAT 01'S READER TAKES GIVES EXACTLY THAT READER'S WORDS, in the bytes that `assemble` and `wd16_assemble` leave. The reader's words
--- are told by the text's own definition: words that are one op code (`Whole`), whose text the line is.
+-- are given by the text's own definition: the words of the one op code (`Whole`) whose text the line is.
 use mathlib.Core.Path.{_≡_}
 use mathlib.Core.List.{List, []}
 use Prim.Native.Nat.{ℕ, suc, _+_, _*_, _<_}
@@ -43,7 +43,7 @@ abbrev pub Wd16ReaderGives : Type 0
 Wd16ReaderGives = (s out b out′ b′ : List ℕ) → told {B = List ℕ × List ℕ} 0 (out′, b′) ≡ assembleCall s out b
     → (i : ℕ) (ws : List ℕ) → i < lineCount s → Whole ws → textOf ws ≡ textAt s i → Gives s i out′ ws
 
--- ---- what the assembler takes a text for is the text's own meaning: the op code whose text it is, and none where it is none's
+-- ---- what the assembler takes a text for is the text's own meaning: the op code whose text it is, or none
 
 abbrev pub OpIsText : Type 0
 OpIsText = (t : List ℕ) → ((ws : List ℕ) → Whole ws → textOf ws ≡ t → opIn t ≡ opOf ws) × ((IsText t → ⊥) → opIn t ≡ opOf [])

@@ -1,5 +1,5 @@
 -- A LINE WITH A LABEL GIVES THE WORDS THAT 01'S READER GIVES OF THE SAME LINE WITH THE LABEL'S DIGITS IN ITS PLACE: `BR X` as `BR dd`,
--- `SOB R1,X` as `SOB R1,dd`, `MOV X,R0` as `MOV oooo(PC),R0`. The reader's words are told by the text's own definition: words that are one op code, whose text it is.
+-- `SOB R1,X` as `SOB R1,dd`, `MOV X,R0` as `MOV oooo(PC),R0`. The reader's words are given by the text's own definition: the words of the one op code whose text it is.
 use mathlib.Core.Bool.{Bool, true, not, _&&_, _||_, cond}
 use mathlib.Core.Path.{_≡_}
 use mathlib.Core.List.{List, [], _++_}
@@ -50,13 +50,13 @@ SobRead = (s t : List ℕ) (h : ℕ) → saidOf t .how ≡ Sob → labelIn (firs
 abbrev pub offsetDigits : ℕ → ℕ → ℕ → List ℕ
 offsetDigits n v h = hex4 (minus v (plus h n)) ++ letters "(PC)"
 
--- the first operand is a label, and the second is none
+-- the first operand is a label, and the second is not
 abbrev pub FirstRead : Type 0
 FirstRead = (s t : List ℕ) (h : ℕ) → saidOf t .how ≡ Relative → formatOf (highByte (saidOf t .op .a)) ≡ 10 → commaAt t < length t
     → 0 < length (labelIn (firstIn t)) → labelIn (secondIn t) ≡ []
     → (ws : List ℕ) × ReadsLine t (offsetDigits 4 (valueOf s (labelIn (firstIn t))) h) ws × (lineOp s h t ≡ opOf ws)
 
--- the second operand is a label, and the first is none
+-- the second operand is a label, and the first is not
 abbrev pub SecondRead : Type 0
 SecondRead = (s t : List ℕ) (h : ℕ) → saidOf t .how ≡ Relative → formatOf (highByte (saidOf t .op .a)) ≡ 10
     → labelIn (firstIn t) ≡ [] → 0 < length (labelIn (secondIn t))

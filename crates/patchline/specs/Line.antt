@@ -77,7 +77,7 @@ says how op = record { how = how; op = op }
 abbrev pub op : ℕ → ℕ → Op
 op n a = record { count = n; a = a; b = 0; c = 0 }
 
--- the op code whose text this is, of no words where it is none's
+-- the op code whose text this is; without words if there is none
 unfoldable pub opIn : List ℕ → Op
 opIn t = opOf (wordsOfText t)
 

@@ -24,7 +24,7 @@ formatOf h =
     (cond (within 0x90 0xef h) 10
     11)))))))))))
 
--- ---- as the code tells it, by the halves of the high byte: the rows 00 to 0F and 80 to 8F, by the lower
+-- ---- as the code finds it, by the halves of the high byte: the rows 00 to 0F and 80 to 8F, by the lower
 
 abbrev pub row0 : ℕ → ℕ
 row0 k = cond (eqb k 0) 1 (cond (ltb k 8) 5 (cond (ltb k 10) 6 (cond (ltb k 14) 7 8)))

@@ -74,7 +74,7 @@ bytesLeft = 20
 abbrev pub readOnlyPage : ℕ
 readOnlyPage = 22
 
--- ---- the functions for C: the bytes lent for a state, a tally or the settings are none
+-- ---- the functions for C: a buffer has a wrong length, or a byte over its range
 abbrev pub noState : ℕ
 noState = 21
 
@@ -92,7 +92,7 @@ wordsOdd = 38
 abbrev pub sourceLines : ℕ
 sourceLines = 36
 
--- a line is no text; its label was given already; a label that it names is given nowhere
+-- a line's text is unknown; its label was given already; a label that it names is given nowhere
 abbrev pub unknownText : ℕ
 unknownText = 24
 

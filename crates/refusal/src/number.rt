@@ -47,7 +47,7 @@ pub const BYTES_LEFT: u8 = 20;
 // Its read-only pages: not rising, or not fitted.
 pub const READ_ONLY_PAGE: u8 = 22;
 
-// The functions for C: the bytes lent for a state, a tally or the settings are none.
+// The functions for C: a buffer has a wrong length, or a byte over its range.
 pub const NO_STATE: u8 = 21;
 
 // A listing: an address is odd, or the last is below the first.
@@ -59,7 +59,7 @@ pub const WORDS_ODD: u8 = 38;
 // The assembler: its source is not whole lines, or over 1,024 of them.
 pub const SOURCE_LINES: u8 = 36;
 
-// A line is no text; its label was given already; a label that it names is given nowhere.
+// A line's text is unknown; its label was given already; a label that it names is given nowhere.
 pub const UNKNOWN_TEXT: u8 = 24;
 
 pub const LABEL_AGAIN: u8 = 25;

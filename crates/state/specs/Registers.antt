@@ -1,4 +1,4 @@
--- The registers by number: R0 to R5 are 0 to 5, SP is 6, PC is 7. A number that is none of 0 to 6 stands for PC.
+-- The registers by number: R0 to R5 are 0 to 5, SP is 6, PC is 7. Any number over 6 stands for PC.
 use Prim.Native.Nat.{ℕ}
 use mathlib.Core.Bool.{cond}
 use mathlib.Core.List.{[], _∷_}

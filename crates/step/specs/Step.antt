@@ -197,7 +197,7 @@ orAt (value s m) cause other = after s m cause
 orAt (blank a) cause other = other a
 
 -- All work is dropped; the bus error's trap; if that too is not answered, all is as before but the mode, which is locked.
--- The address told is the one that the dropped work reached, before bit 0 is dropped, and never the trap's.
+-- The address told is the one that the dropped work reached, as it was given, bit 0 included; never the trap's.
 unfoldable pub errorOf : List ℕ → Kind → Outside → State → List ℕ → ℕ → After
 errorOf map k out s m a = orAt (run map (busError k out s) m) (errorCauseOf k a) (λ _. after (withMode s Locked) m (LockedAt a))
 

@@ -14,7 +14,7 @@ pub data Access : Type 0 where
   reads : ℕ → Access
   writes : ℕ → Access
 
--- the address that it reaches, before bit 0 is dropped
+-- the address that it reaches, as it was given, bit 0 included
 abbrev pub reached : Access → ℕ
 reached (reads a) = a
 reached (writes a) = a

@@ -26,7 +26,7 @@ pub record EndsAt (shorter longer : List (List ℕ)) (n : ℕ) : Type 0 where
   pub all : shorter ≡ take n longer
   pub more : n < length longer
 
--- what a verdict from a step on says of the entries that are right and of those that are told
+-- what a verdict from a step on says of the right entries and of those that the trace gives
 abbrev pub Says : ℕ → List (List ℕ) → List (List ℕ) → Verdict → Type 0
 Says step rs ts Accepted = rs ≡ ts
 Says step rs ts (Wrong k f x) = (step ≤ k) × AtStep rs ts (k - step) f x

@@ -69,7 +69,7 @@ unfoldable pub entriesFrom : List ℕ → ℕ → ℕ → List (List ℕ)
 entriesFrom t at zero = []
 entriesFrom t at (suc n) = wordsFrom t at 10 ∷ entriesFrom t (at + 20) n
 
--- the entries that it tells, after its count
+-- the entries that it gives, after its count
 unfoldable pub toldIn : List ℕ → List (List ℕ)
 toldIn t = entriesFrom t 2 (wordAt t 0)
 
@@ -94,7 +94,7 @@ firstWrong step k [] told = Accepted
 firstWrong step k (x ∷ right) [] = Accepted
 firstWrong step k (x ∷ right) (y ∷ told) = cond (eqb x y) (firstWrong step (k + 1) right told) (Wrong step k x)
 
--- from a step on, the entries that are right and those that are told: the first wrong step, with its first wrong field; where one list
+-- from a step on, the right entries and those that the trace gives: the first wrong step, with its first wrong field; where one list
 -- is shorter, the first missing or extra step
 unfoldable pub compared : ℕ → List (List ℕ) → List (List ℕ) → Verdict
 compared step [] [] = Accepted

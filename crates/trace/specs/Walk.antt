@@ -12,7 +12,7 @@ use Rattle.trace.specs.declared.Verdict.{Verdict}
 use Rattle.trace.specs.declared.Verdict.the-variants.{Missing}
 use Rattle.trace.specs.Trace.{entriesFrom, firstWrong}
 
--- what a trace tells from a step on
+-- what a trace gives from a step on
 unfoldable pub toldFrom : List ℕ → ℕ → List (List ℕ)
 toldFrom t step = entriesFrom t (2 + step * 20) (wordAt t 0 - step)
 

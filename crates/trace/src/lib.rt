@@ -91,7 +91,7 @@ fn or_else(found: Verdict, later: Verdict) -> Verdict
     }
 }
 
-// The first wrong field of the entry that is told at a place.
+// The first wrong field of the entry at a place of the trace.
 fn entry_verdict(step: u16, entry: [u16; 10], trace: &[u8], at: usize) -> Verdict
     requires { ⌜ (at < 4294967296) × (length entry ≡ 10) ⌝ }
     ensures { λ r. ⌜ r ≡ Spec.firstWrong step 0 entry (Spec.wordsFrom (now (trace .entry)) at 10) ⌝ }
@@ -117,7 +117,7 @@ fn step_verdict(step: u16, s: State, trace: &[u8]) -> Verdict
     entry_verdict(step, entry_of(s), trace, 2 + step as usize * 20)
 }
 
-// After the last step none may be told.
+// After the last step the trace may have no further entry.
 fn end_verdict(steps: u16, trace: &[u8]) -> Verdict
     ensures { λ r. ⌜ r ≡ Spec.compared steps [] (Walk.toldFrom (now (trace .entry)) steps) ⌝ }
 {

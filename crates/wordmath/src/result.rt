@@ -1,4 +1,4 @@
-// A result, its N and Z told by the result itself.
+// A result with its indicators: N and Z are the result's.
 ghost use mathlib.Core.Path.{_≡_};
 ghost use Rattle.wordmath.specs.Number.{done, movOf};
 use super::Done;

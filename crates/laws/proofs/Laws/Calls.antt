@@ -164,7 +164,7 @@ pub mode-byte : (s : State) (cause : ℕ) (at : Address) → byteAt (stateBytes 
 unfolding stateBytes statePage
 mode-byte s cause at = refl
 
--- a cause that is none of 5, 6 and 9 is no blank
+-- a cause other than 5, 6 and 9 is no blank
 pub number-no-blank : (c : Cause) → (causeNumber c ≡ 5 → ⊥) → (causeNumber c ≡ 6 → ⊥) → (causeNumber c ≡ 9 → ⊥) → isBlank c ≡ false
 number-no-blank Cause.OpCode f s n = refl
 number-no-blank Cause.Switch f s n = refl

@@ -39,7 +39,7 @@ locate-pointed step k r pc (suc (suc (suc (suc (suc zero))))) l h = refl
 locate-pointed step k r pc (suc (suc (suc (suc (suc (suc m)))))) l h =
     absurd (not-suc-le-zero (le-of-suc-le-suc (le-of-suc-le-suc (le-of-suc-le-suc (le-of-suc-le-suc (le-of-suc-le-suc (le-of-suc-le-suc h)))))))
 
--- a mode that is none of 0 to 6
+-- a mode other than 0 to 6
 pub locate-last : (step k r pc mode : ℕ) → 7 ≤ mode → locate step k r pc mode ≡ indexedDeferred step k r pc
 unfolding locate
 locate-last step k r pc mode h =

@@ -112,7 +112,7 @@ each-more P x (y ∷ ys) p q = go (ltb x y) (λ z. each-more P z ys)
     go true r = (p, r y (q .0) (q .1))
     go false r = (q .0, r x p (q .1))
 
--- its address is none of the others'
+-- its address is not among the others
 abbrev Not : ℕ → ℕ → Type 0
 Not a b = a ≡ b → ⊥
 
