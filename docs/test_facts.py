@@ -65,7 +65,7 @@ def refusals():
     meaning = re.findall(r"^(\w+) = (\d+)$", read("crates/refusal/specs/Numbers.antt"), re.M)
     yield from same("refusal number.rt", [f"{camel(name)} {number}" for name, number in code], "refusal Numbers", [f"{name} {number}" for name, number in meaning])
     yield from same("c/numbers.tsv", numbers, "refusal number.rt with the text's own", [int(number) for _, number in code] + sorted(OF_TEXT))
-    paper = section(read("docs/PROOFS.md"), "### Refusal numbers")
+    paper = section(read("docs/PROOFS.md"), "## Refusal numbers")
     told = {int(number) for cell in first_cells(paper) for number in re.findall(r"\d+", re.sub(r"\([^)]*\)", "", cell))}
     yield from same("c/numbers.tsv", numbers, "the refusal numbers of docs/PROOFS.md", sorted(told))
 
