@@ -4,6 +4,7 @@
 - the crates: crates.txt, the folders of crates/ and the table of docs/ARCHITECTURE.md;
 - the refusal numbers: c/numbers.tsv, crates/refusal (Numbers.antt and number.rt), the text's own, and the table of docs/PROOFS.md;
 - the public functions: crates/*/src and docs/CONTRACTS.md;
+- the worked change: what the diffs of docs/CHANGE.md add stands in the tree, beside the lines that they show;
 - no paragraph of README.md is longer than a reader's breath.
 """
 import pathlib
@@ -82,6 +83,15 @@ def functions():
                 yield f"docs/CONTRACTS.md has no {crate} `{name}`"
 
 
+def changes():
+    """The hunks of docs/CHANGE.md that the tree has not: their added and unchanged lines are lines of the file, one after the other."""
+    for block in re.findall(r"^```diff\n(.*?)^```$", read("docs/CHANGE.md"), re.M | re.S):
+        for path, hunk in re.findall(r"^\+\+\+ (\S+)\n((?:[ +-](?!\+\+ ).*\n)+)", block, re.M):
+            lines = [line[1:] for line in hunk.splitlines() if not line.startswith("-")]
+            if "\n" + "\n".join(lines) + "\n" not in "\n" + read(path):
+                yield f"docs/CHANGE.md: {path} has not what the diff adds: {lines[0].strip()}"
+
+
 def paragraphs():
     text = re.sub(r"^```.*?^```$", "", read("README.md"), flags=re.M | re.S)
     for paragraph in re.split(r"\n\n|\n(?=[|\-0-9])", text):
@@ -90,7 +100,7 @@ def paragraphs():
 
 
 def main():
-    wrong = [*crates(), *refusals(), *functions(), *paragraphs()]
+    wrong = [*crates(), *refusals(), *functions(), *changes(), *paragraphs()]
     for line in wrong:
         print(line)
     print(f"what stands twice: {len(wrong)} differences")
