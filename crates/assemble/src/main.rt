@@ -1,5 +1,7 @@
-// Reads the source of a patch on standard input, a line of up to 32 bytes each, and writes the word section of a job on standard output;
-// with a word after its name, each line's label and value, four bytes a line as the library tells them. A source that is refused writes nothing there; standard error has the line, the reason in words and its number, and says so where the section could not be written.
+// Reads the source of a patch on standard input, a line of up to 32 bytes each, and writes the word section of a job on standard
+// output; with a word after its name, each line's label and value instead, four bytes a line as the library has them. A source
+// that is refused writes nothing there: standard error has the line, the reason in words and the number. It also says where the
+// section could not be written.
 ghost use mathlib.Core.Path.{_≡_};
 ghost use Prim.Native.Nat.{_≤_, _<_};
 ghost use lib.ListN.{length};

@@ -1,4 +1,7 @@
-// Reads the text of an op code, a line of standard input, and prints its words; a line of the op code's words in hex is written as text. A line that is refused is printed with a mark under its column and the reason in words. An input of over 65,536 bytes is not answered: standard error says so, and where the answer could not be written. Each function that prints answers whether all was written.
+// Reads lines of standard input. The text of an op code is answered by its words, a line of one to three words in hex by its text;
+// a line that is refused is printed with a mark under its column and the reason in words. An input of over 65,536 bytes is not
+// answered, and standard error says so; it also says where an answer could not be written. Each function that prints answers
+// whether all was written.
 ghost use Prim.Native.Nat.{_≤_, _<_};
 ghost use lib.ListN.{length};
 use hexdigits::put_hex4;
