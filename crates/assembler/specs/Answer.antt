@@ -25,7 +25,7 @@ faultNumber Missing = labelMissing
 faultNumber Place = outOfPlace
 faultNumber Far = outOfReach
 
--- an answer in the page's numbers: the section's length, a refusal's number alone, or with its line
+-- an answer in 02's numbers: the section's length, a refusal's number alone, or with its line
 abbrev pub assembledPage : Assembled → Page ℕ
 assembledPage (Section n) = answered n
 assembledPage (Refused why) = refused why

@@ -1,4 +1,4 @@
--- The page's example line, and others, computed from the definition.
+-- 01's example line, and others, computed from the definition.
 use mathlib.Core.Path.{_≡_, refl}
 use mathlib.Core.List.{List, [], _∷_}
 use Prim.Native.Nat.{ℕ}

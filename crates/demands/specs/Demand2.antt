@@ -33,7 +33,7 @@ use Rattle.demands.specs.Terms.{AllWords, AllBytes, beforeAt}
 
 -- ---- "Each step does what the WD16 Programmer's Reference Manual says, odd corners included, with the board's rules of document 01."
 -- `stepOf` (step Step) is one step: its kind, its work op code by op code, the bus error; `powerUpOf` is the power-up. Here: a call is what the
--- definition says, in the page's numbers
+-- definition says, in 01's numbers
 
 -- POWER-UP: the state and the image after it
 abbrev pub PowerUpIs : Type 0

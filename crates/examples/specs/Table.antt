@@ -1,4 +1,4 @@
--- THE STARRED EXAMPLES OF THE PAGE, one table under one proved statement: what the definitions give, beside what the page says.
+-- THE STARRED EXAMPLES OF DOCUMENT 01, one table under one proved statement: what the definitions give, beside what 01 says.
 use Prim.Native.Nat.{ℕ, _+_, _*_, _/_, _<_}
 use mathlib.Core.Bool.{Bool, true, false, not, cond}
 use mathlib.Core.List.{List, [], _∷_, _++_, map}
@@ -18,7 +18,7 @@ use Rattle.plate.specs.Plate.{formatOf}
 use Rattle.state.specs.declared.Outside.{Outside}
 use Rattle.step.specs.Xct.{trapsAlone}
 
--- a row: what is got, and what the page says
+-- a row: what the definitions give, and what 01 says
 pub record Example : Type 0 where
   pub got : List ℕ
   pub says : List ℕ

@@ -1,1 +1,1 @@
-// The starred examples of the page: one table under one proved statement, in specs/Table.antt.
+// The starred examples of document 01: one table under one proved statement, in specs/Table.antt.

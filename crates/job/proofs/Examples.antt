@@ -33,7 +33,7 @@ expected : List Case → List ℕ
 expected [] = []
 expected (c ∷ cs) = c .why ∷ expected cs
 
--- in the order of the page's numbers
+-- in the order of 01's numbers
 cases : List Case
 cases =
     gives (pages ++ (words ++ lines)) 0

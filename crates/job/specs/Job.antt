@@ -181,7 +181,7 @@ pub record Filled (input image map lines : List ℕ) (count : ℕ) : Type 0 wher
   pub lines-is : lines ≡ linesOf input
   pub count-is : count ≡ wordAt input (linesAt input)
 
--- an answer in the page's numbers: the number of line words, or the refusal's number alone
+-- an answer in 01's numbers: the number of line words, or the refusal's number alone
 abbrev pub jobPage : Answer → Page ℕ
 jobPage (Lines n) = answered n
 jobPage (Refused why) = refused why

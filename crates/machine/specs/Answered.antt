@@ -1,4 +1,4 @@
--- An answer that meets its contract and is no refusal is the definition's, in the page's numbers.
+-- An answer that meets its contract and is no refusal is the definition's, in 01's numbers.
 use Prim.Native.Nat.{ℕ}
 use mathlib.Core.List.{List}
 use Rattle.state.specs.declared.State.{State}

@@ -1,4 +1,4 @@
--- What the public calls answer: a refusal's number alone, or what was asked for in the page's numbers; and the image that they leave.
+-- What the public calls answer: a refusal's number alone, or what was asked for in 01's numbers; and the image that they leave.
 use Prim.Native.Nat.{ℕ}
 use mathlib.Core.List.{List}
 use lib.ListN.{length}

@@ -1,4 +1,4 @@
--- The answers of the public calls in the page's numbers.
+-- The answers of the public calls in 01's numbers.
 use Prim.Native.Nat.{ℕ, _+_, _*_}
 use mathlib.Core.List.{List, [], _∷_}
 use Rattle.wordmath.specs.declared.Flags.{Flags}

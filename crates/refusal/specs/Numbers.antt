@@ -1,4 +1,4 @@
--- The refusal numbers of the page and of document 02, by what they refuse. 6, 7, 9 and 30 to 32 are the text's alone: optext Answer has them, beside 8 and 10.
+-- The refusal numbers of documents 01 and 02, by what they refuse. 6, 7, 9 and 30 to 32 are the text's alone: optext Answer has them, beside 8 and 10.
 use Prim.Native.Nat.{ℕ}
 
 -- ---- what the processor is lent

@@ -1,4 +1,4 @@
-// The refusal numbers of the page and of document 02, by what they refuse. 6, 7, 9 and 30 to 32 are the text's alone: optext has them, beside 8 and 10, as the cases of its answers.
+// The refusal numbers of documents 01 and 02, by what they refuse. 6, 7, 9 and 30 to 32 are the text's alone: optext has them, beside 8 and 10, as the cases of its answers.
 
 // What the processor is lent: the image is not 65,536 bytes, the map not 256, a map byte is over 2; a jumper number is over 3 or
 // the address register over 63; there are over 4,096 line words (for the job reader: the line buffer is not 4,096 words), an

@@ -14,7 +14,7 @@ use Rattle.state.specs.declared.Settings.{Settings}
 use Rattle.state.specs.declared.Mode.{Mode}
 use Rattle.state.specs.declared.Mode.the-variants.{Running, Waiting, PowerHalt, SwitchHalt, Locked, Saved}
 
--- the page's number of a mode
+-- 01's number of a mode
 abbrev pub modeNumber : Mode → ℕ
 modeNumber Running = 0
 modeNumber Waiting = 1

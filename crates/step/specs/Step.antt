@@ -99,7 +99,7 @@ workOf Stuck out s = give s
 
 -- ---- causes
 
--- of a cause: the page's number; the address that a step tells, which is that of a blank or of a lock-up newly met; and that of a blank alone, after which the bus error's trap succeeded
+-- of a cause: 01's number; the address that a step tells, which is that of a blank or of a lock-up newly met; and that of a blank alone, after which the bus error's trap succeeded
 pub record CauseRow : Type 0 where
   pub number : ℕ
   pub address : Told

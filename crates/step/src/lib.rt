@@ -67,7 +67,7 @@ pub struct Turn {
     pub cause: Cause,
 }
 
-// The page's number of a cause.
+// 01's number of a cause.
 pub fn cause_number(cause: Cause) -> u8
     ensures { λ r. ⌜ r ≡ Spec.causeNumber cause ⌝ }
 {

@@ -1,4 +1,4 @@
--- The end of a whole block move is the page's: the steps, one after the other.
+-- The end of a whole block move is that of the manual's page: the steps, one after the other.
 use Prim.Native.Nat.{ℕ, _/_, _<_}
 use native.Mathlib.Omega.{arith}
 use mathlib.Core.Bool.{true, false}

@@ -98,7 +98,7 @@ none-begins us vs s g h e =
     let w : agree (textOf vs) (textOf us) ≡ length (textOf us) = subst (λ (t : List ℕ). agree t (textOf us) ≡ length (textOf us)) (sym e) (agree-self (textOf us) s) in
     sym (near-text (textOf vs) us g .whole w) ∙ own-line (textOf vs) (record { words = vs; whole = h; text = refl })
 
--- the page's numbers tell the answers apart
+-- 01's numbers tell the answers apart
 abbrev writtenOf : Page LinePage → Written
 writtenOf (answered p) = Line (p .count) (p .words)
 writtenOf (refused r) = cond (eqb r 8) TextShort (cond (eqb r 7) WordMissing NoWords)

@@ -54,7 +54,7 @@ executes : (out : Outside) (s : State) (op : ℕ) → out .settings .blocks ≡ 
 unfolding byFormat further
 executes out s op e h = rw (format-eight op h, e)
 
--- without the microm the page's step stands: the trap through 1A
+-- without the microm 01's step stands: the trap through 1A
 pub unfitted : (out : Outside) (s : State) (op : ℕ) → out .settings .blocks ≡ false → op / 512 ≡ 7 → execute out s op ≡ reserved out s
 unfolding byFormat further
 unfitted out s op e h = rw (format-eight op h, e)
