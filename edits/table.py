@@ -61,20 +61,38 @@ def edits():
 
 
 def functions(crate):
-    """The functions of a crate, in the order of its files: name, whether it is public, its text."""
+    """The functions of a crate, in the order of its files: name, whether it is public, its text after its file's imports."""
     files = sorted((ROOT / "crates" / crate / "src").glob("*.rt"), key=lambda file: (file.stem not in ("lib", "main"), file.stem))
     for file in files:
         text = file.read_text(encoding="utf-8")
+        imports = "\n".join(re.findall(r"^use .*;$", text, re.M))
         starts = list(FUNCTION.finditer(text))
         for start, after in zip(starts, starts[1:] + [None]):
-            yield module(f"src/{file.name}") + start[3], bool(start[2]), text[start.start() : after.start() if after else len(text)]
+            body = text[start.start() : after.start() if after else len(text)]
+            yield module(f"src/{file.name}") + start[3], bool(start[2]), f"{imports}\n{body}"
+
+
+def parts(name):
+    """layout::put_state is put_state of the module layout; lib's own have none."""
+    *of, last = name.split("::")
+    return (of or [""])[0], last
 
 
 def called(name, texts):
-    """The functions of the crate that a function's text names."""
-    used = set(re.findall(r"\b(\w+)\(|\b([A-Z][A-Z_]+)\b", texts[name]))
-    used = {word for both in used for word in both}
-    return [other for other in texts if other != name and other.split("::")[-1] in used]
+    """The functions of the crate that a function's text calls: by module::name, or by a name of its own module, or imported."""
+    here, found = parts(name)[0], []
+    body = re.sub(r"^use .*;$|\bfn \w+", "", texts[name], flags=re.M)
+    for of, last in set(re.findall(r"(?:\b(\w+)::)?\b(\w+)\(", body)) | {("", word) for word in re.findall(r"\b[A-Z][A-Z_]+\b", body)}:
+        known = [other for other in texts if parts(other)[1] == last and other != name]
+        if of and any(parts(other)[0] == of for other in known):
+            known = [other for other in known if parts(other)[0] == of]
+        elif any(parts(other)[0] == here for other in known):
+            known = [other for other in known if parts(other)[0] == here]
+        elif re.search(rf"^use .*\b(\w+)::{last};$", texts[name], re.M):
+            brought = re.search(rf"^use .*\b(\w+)::{last};$", texts[name], re.M)[1]
+            known = [other for other in known if parts(other)[0] in (brought, "")]
+        found += known
+    return sorted(found, key=list(texts).index)
 
 
 def behind(name, texts, public):
