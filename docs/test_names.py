@@ -6,7 +6,7 @@ import re
 import sys
 
 ROOT = os.path.join(os.path.dirname(os.path.abspath(__file__)), "..")
-PAPERS = ["README.md"] + [f"docs/{name}.md" for name in "PROOFS CONTRACTS ARCHITECTURE DECISIONS LANDINGS SPEED CHIPS BELIEVE GLOSSARY CHANGE".split()]
+PAPERS = ["README.md"] + [f"docs/{name}.md" for name in "PROOFS CONTRACTS ARCHITECTURE DECISIONS LANDINGS SPEED CHIPS BELIEVE GLOSSARY CHANGE BENCH".split()]
 PROOFS = "docs/PROOFS.md"
 # Quoted words that are no names of ours: the language's, commands, the C library's, and texts and words of op codes.
 NO_NAMES = set("requires ensures match let  rt cargo python3 make  memset memcpy memmove __aeabi_memclr4 size_t uint16_t zeroext  ADD ADDX BRX NOPX B001".split())
