@@ -82,6 +82,8 @@ pub(crate) fn run_from(
             quiet = calm(out);
         }
         if goes_on(state, out, quiet) {
+            // For a blank: where the state itself is lent, it goes through memory in every step.
+            let before = state;
             match op_code(state, image, map, log, out) {
                 Went::Done(t) => {
                     state = t;
@@ -90,7 +92,7 @@ pub(crate) fn run_from(
                 Went::Blank(a) => {
                     let o = out;
                     let m = map;
-                    let turn = error(state, image, m, log, o, Kind::OpCode, a);
+                    let turn = error(before, image, m, log, o, Kind::OpCode, a);
                     state = turn.state;
                     cause = turn.cause;
                 }

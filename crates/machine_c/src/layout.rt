@@ -57,32 +57,47 @@ fn over(b: &[u8]) -> bool
         | (1 < byte_at(b, 21))
 }
 
-// Are these bytes not a state's?
+fn not_state(b: &[u8]) -> bool
+    ensures { λ r. ⌜ r ≡ Spec.notState (now (b .entry)) ⌝ }
+{
+    b.len() != 24
+}
+
+// Are these bytes not a state's? The length is looked at first, so that no byte is looked for past the end.
 fn refused_state(b: &[u8]) -> bool
     ensures { λ r. ⌜ r ≡ Spec.refusedState (now (b .entry)) ⌝ }
 {
-    (b.len() != 24) | over(b)
+    if not_state(b) {
+        return true;
+    }
+    over(b)
 }
 
 // Are these bytes not the settings'?
 fn refused_settings(w: &[u8]) -> bool
     ensures { λ r. ⌜ r ≡ Spec.refusedSettings (now (w .entry)) ⌝ }
 {
-    (w.len() != 4) | (1 < byte_at(w, 0))
+    if w.len() != 4 {
+        return true;
+    }
+    1 < byte_at(w, 0)
 }
 
 // What power-up refuses as 21: it only writes the state.
 pub fn refused_up(b: &[u8], w: &[u8]) -> bool
     ensures { λ r. ⌜ r ≡ Spec.refusedUp (now (b .entry)) (now (w .entry)) ⌝ }
 {
-    (b.len() != 24) | refused_settings(w)
+    not_state(b) | refused_settings(w)
 }
 
 // What a step refuses as 21.
 pub fn refused_step(b: &[u8], w: &[u8]) -> bool
     ensures { λ r. ⌜ r ≡ Spec.refusedStep (now (b .entry)) (now (w .entry)) ⌝ }
 {
-    refused_state(b) | refused_settings(w)
+    if refused_state(b) {
+        return true;
+    }
+    refused_settings(w)
 }
 
 // What a run refuses as 21.

@@ -1,3 +1,4 @@
 -- The laws of the crate's definitions.
 pub mod Page
+pub mod Four
 pub mod Refusal

@@ -1,14 +1,12 @@
 // The refusals 1 to 5 and 35 of what the processor is lent, and 0 for none.
 ghost use mathlib.Core.Path.{_≡_};
+ghost use mathlib.Core.Bool.{_&&_};
+ghost use Prim.Native.Nat.{_+_, _*_, _/_, _%_, _<_, _≤_};
+ghost use lib.Dec.{ltb};
+ghost use lib.ListN.{length, getD};
 ghost use Rattle.refusal.specs.Refusal as Spec;
 
 pub mod number;
-
-fn flat(b: u8) -> bool
-    ensures { λ r. ⌜ r ≡ Spec.flat b ⌝ }
-{
-    b < 3
-}
 
 // Bits 2, 4 to 6 and 12 to 15 of a line word are not used.
 pub fn plain(line: u16) -> bool
@@ -17,32 +15,63 @@ pub fn plain(line: u16) -> bool
     line / 4 % 2 + line / 16 % 8 + line / 4096 == 0
 }
 
-fn all_flat(map: &[u8]) -> bool
-    ensures { λ r. ⌜ r ≡ Spec.allOf Spec.flat (now (map .entry)) ⌝ }
+fn wide(b: u8) -> u32
+    ensures { λ r. ⌜ (r ≡ b) × (r < 256) ⌝ }
 {
-    let mut i: usize = 0;
-    while i < map.len() {
-        if flat(map[i]) {
-            i += 1;
-        } else {
-            return false;
-        }
-    }
-    true
+    b as u32
 }
 
+// Four bytes side by side.
+fn four(map: &[u8], k: usize) -> u32
+    requires { ⌜ k + 4 ≤ length (now map) ⌝ }
+    ensures { λ r. ⌜ (r ≡ getD (now (map .entry)) k 0 + (getD (now (map .entry)) (k + 1) 0 + (getD (now (map .entry)) (k + 2) 0 + getD (now (map .entry)) (k + 3) 0 * 256) * 256) * 256)
+        × (getD (now (map .entry)) k 0 < 256) × (getD (now (map .entry)) (k + 1) 0 < 256) × (getD (now (map .entry)) (k + 2) 0 < 256) × (getD (now (map .entry)) (k + 3) 0 < 256) ⌝ }
+{
+    let a = wide(map[k]);
+    let b = wide(map[k + 1]);
+    let c = wide(map[k + 2]);
+    let d = wide(map[k + 3]);
+    a + b * 256 + c * 65536 + d * 16777216
+}
+
+// Whether each of a number's four bytes is below 4.
+fn low(x: u32) -> bool
+    ensures { λ r. ⌜ r ≡ ltb (x % 256) 4 && (ltb (x / 256 % 256) 4 && (ltb (x / 256 / 256 % 256) 4 && ltb (x / 256 / 256 / 256 % 256) 4)) ⌝ }
+{
+    (x % 256 < 4)
+        & ((x / 256 % 256 < 4) & ((x / 256 / 256 % 256 < 4) & (x / 256 / 256 / 256 % 256 < 4)))
+}
+
+// Four bytes at a time, and no test in the loop: bytes are 0, 1 or 2 where none of them is above 3, nor one more than it.
+fn all_flat(map: &[u8]) -> bool
+    requires { ⌜ length (now map) ≡ 256 ⌝ }
+    ensures { λ r. ⌜ r ≡ Spec.allOf Spec.flat (now (map .entry)) ⌝ }
+{
+    let mut seen: u32 = 0;
+    let mut next: u32 = 0;
+    let mut i: u16 = 0;
+    while i < 256 {
+        let w = four(map, i as usize);
+        seen = seen | w;
+        next = next | std::num::wrapping_add_u32(w, 0x0101_0101);
+        i += 4;
+    }
+    low(seen) & low(next)
+}
+
+// Joined by |, the words are plain where each of them is: no test in the loop.
 fn all_plain(lines: &[u16]) -> bool
+    requires { ⌜ length (now lines) ≤ 4096 ⌝ }
     ensures { λ r. ⌜ r ≡ Spec.allOf Spec.plain (now (lines .entry)) ⌝ }
 {
-    let mut i: usize = 0;
-    while i < lines.len() {
-        if plain(lines[i]) {
-            i += 1;
-        } else {
-            return false;
-        }
+    let n = lines.len() as u16;
+    let mut seen: u16 = 0;
+    let mut i: u16 = 0;
+    while i < n {
+        seen = seen | lines[i as usize];
+        i += 1;
     }
-    true
+    plain(seen)
 }
 
 // 1, 2 or 3.

@@ -9,12 +9,15 @@ pub fn byte_at(b: &[u8], at: usize) -> u8
     if at < b.len() { b[at] } else { 0 }
 }
 
-// The word at a place; bytes past the end are 0.
+// The word at a place; bytes past the end are 0. Where both bytes stand before the end one test tells it.
 pub fn word_at(b: &[u8], at: usize) -> u16
     ensures { λ r. ⌜ r ≡ Spec.wordAt (now (b .entry)) at ⌝ }
 {
-    if b.len() <= at {
-        return 0;
+    if b.len() < 2 {
+        return byte_at(b, at) as u16;
+    }
+    if b.len() - 2 < at {
+        return byte_at(b, at) as u16;
     }
     let low = byte_at(b, at);
     let high = byte_at(b, at + 1);

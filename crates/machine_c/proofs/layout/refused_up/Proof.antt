@@ -5,7 +5,7 @@ use Rattle.machine_c.proofs.layout.refused_up.Tie as tie
 
 returns : tie.Need-returns
 unfolding refusedUp
-returns c = rw (c .refused-settings .ensures)
+returns c = rw (c .before .not-state .ensures, c .refused-settings .ensures)
 
 pub refused-up-spec : {M : Type 1} → statement M
-refused-up-spec = tie.close (tie.spec (λ c κs. search needs) returns)
+refused-up-spec = tie.close (tie.spec (λ c κs. search needs) (λ c κs. search needs) returns)
