@@ -14,10 +14,12 @@ use Rattle.optext.specs.declared.rows.Kind.{Kind}
 use Rattle.optext.specs.declared.rows.Kind.the-variants.{None, Mask, Disp, Reg, Arg4, Arg6, Count, High, Mid, Dst, Addr, Src, Word}
 use Rattle.hexdigits.specs.Digits.{digits, hexOf, hex4, hex2}
 use Rattle.optext.specs.Digits.{unHex, unHex4, unHex2}
-use Rattle.optext.specs.Line.{reservedFrom, registers, regA, regB, regText, upText, literalText, downText, offsetText, plainText, modeText, modeTakes, operandText, takes, fieldOf}
-use Rattle.optext.specs.Guess.{unCount, unReg, notPc, operandRead, atBit6, unPlain, unMode, unOp}
+use Rattle.optext.specs.Line.{registers, regA, regB, regText, upText, literalText, downText, offsetText, plainText, modeText, modeTakes, operandText, takes, fieldOf}
+use Rattle.optext.specs.Guess.{unCount, unReg, notPc, operandRead, atBit6, unPlain, unMode, addressed, reservedFrom, unOp}
 use Rattle.optext.proofs.Laws.Choose.{eq-cases, at}
 use Rattle.optext.proofs.Laws.Forms.{mode-plain, mode-at}
+use Rattle.optext.proofs.Laws.Reserved.{from-same}
+use Rattle.optext.proofs.Laws.Inside.{Allowed}
 
 -- the four forms, and the operand's own word: x where the form shows it
 unfoldable pub plainWord : ℕ → ℕ → ℕ → ℕ
@@ -140,24 +142,28 @@ mode-back f x t h l =
     (ap (λ (y : ℕ). operandRead y (plainWord (f / 16) (f % 8) x) (suc (length (plainText (f / 16) (f % 8) x)))) (omega arith)))
     (eq-cases (f / 8 % 2) 0)
 
-pub op-back : (k : Kind) (w x : ℕ) (t : List ℕ) → w < 65536 → x < 65536
+pub addressed-same : (f : ℕ) → 8 ≤ f → addressed f ≡ f
+unfolding addressed
+addressed-same f h = rw (le-ltb f 8 h) refl
+
+pub op-back : (k : Kind) (w x : ℕ) (t : List ℕ) → w < 65536 → x < 65536 → Allowed k w
     → unOp k (operandText k w x ++ t) ≡ operandRead (fieldOf k w) (wordOf k w x) (length (operandText k w x))
 unfolding hex4 hex2 regText
-op-back None w x t g l = refl
-op-back Mask w x t g l = ap (λ (y : ℕ). operandRead 0 y 4) (hex4-back x t l)
-op-back Disp w x t g l = ap (λ (y : ℕ). operandRead y 0 2) (hex2-back (w % 256) t (omega arith))
-op-back Reg w x t g l = ap (λ (y : ℕ). operandRead y 0 2) (reg-back (w % 8) (omega arith))
-op-back Arg4 w x t g l = ap (λ (y : ℕ). operandRead y 0 1) (hex-back (w % 16) (omega arith))
-op-back Arg6 w x t g l =
+op-back None w x t g l a = refl
+op-back Mask w x t g l a = ap (λ (y : ℕ). operandRead 0 y 4) (hex4-back x t l)
+op-back Disp w x t g l a = ap (λ (y : ℕ). operandRead y 0 2) (hex2-back (w % 256) t (omega arith))
+op-back Reg w x t g l a = ap (λ (y : ℕ). operandRead y 0 2) (reg-back (w % 8) (omega arith))
+op-back Arg4 w x t g l a = ap (λ (y : ℕ). operandRead y 0 1) (hex-back (w % 16) (omega arith))
+op-back Arg6 w x t g l a =
     let e = hex2-back (w % 64) t (omega arith) in
     ap (λ (y : ℕ). operandRead y 0 2) (ap (λ (y : ℕ). y % 64) e ∙ omega arith)
-op-back Count w x t g l = ap (λ (y : ℕ). operandRead y 0 2) (count-back (w % 16) t (omega arith))
-op-back High w x t g l = ap (λ (y : ℕ). operandRead (y * 64) 0 2) (reg-back (w / 64 % 8) (omega arith))
-op-back Mid w x t g l = ap (λ (y : ℕ). operandRead (y * 8) 0 2) (reg-back (w / 8 % 8) (omega arith))
-op-back Dst w x t g l = mode-back (w % 64) x t (omega arith) l
-op-back Addr w x t g l = rw (mode-back (w % 64) x t (omega arith) l) refl
-op-back Src w x t g l = ap atBit6 (mode-back (w / 64 % 64) x t (omega arith) l)
-op-back Word w x t g l = ap (λ (y : ℕ). operandRead (reservedFrom y) 0 4) (hex4-back w t g)
+op-back Count w x t g l a = ap (λ (y : ℕ). operandRead y 0 2) (count-back (w % 16) t (omega arith))
+op-back High w x t g l a = ap (λ (y : ℕ). operandRead (y * 64) 0 2) (reg-back (w / 64 % 8) (omega arith))
+op-back Mid w x t g l a = ap (λ (y : ℕ). operandRead (y * 8) 0 2) (reg-back (w / 8 % 8) (omega arith))
+op-back Dst w x t g l a = mode-back (w % 64) x t (omega arith) l
+op-back Addr w x t g l a = rw (mode-back (w % 64) x t (omega arith) l, addressed-same (w % 64) (a .0 tt)) refl
+op-back Src w x t g l a = ap atBit6 (mode-back (w / 64 % 64) x t (omega arith) l)
+op-back Word w x t g l a = ap (λ (y : ℕ). operandRead y 0 4) (ap reservedFrom (hex4-back w t g) ∙ from-same w (a .1 tt) ∙ omega arith)
 
 -- a word that the text does not show does not change it
 plain-same : (p r x : ℕ) → p < 4 → plainText p r (plainWord p r x) ≡ plainText p r x

@@ -5,7 +5,7 @@ use mathlib.Core.Logic.{⊎-elim}
 use mathlib.Core.List.{List, [], _∷_, _++_}
 use Prim.Native.Nat.{ℕ, zero, suc, _+_, _*_, _≤_, _<_}
 use native.Mathlib.Omega.{arith}
-use lib.Dec.{T, ltb, leb, eqb, leb→le, ltb→lt}
+use lib.Dec.{T, ltb, leb, eqb, eqb→eq, leb→le, ltb→lt}
 use borrow.Author.Tests.{eq-eqb}
 use lib.ListN.{length, getD, drop, List·getD-append, List·getD-eq-default}
 use lib.Seq.{getD-drop, drop-append-add}
@@ -71,6 +71,12 @@ kind-back Dst = refl
 kind-back Addr = refl
 kind-back Src = refl
 kind-back Word = refl
+
+abbrev pub isKind : Kind → Kind → Bool
+isKind z k = eqb (letterOf k) (letterOf z)
+
+pub is-kind : (z k : Kind) → T (isKind z k) → k ≡ z
+is-kind z k t = sym (kind-back k) ∙ ap kindAs (eqb→eq (letterOf k) (letterOf z) t) ∙ kind-back z
 
 -- a mnemonic has one to five letters, and none of them is a space
 short : ℕ → Bool

@@ -1,7 +1,14 @@
 use mathlib.Core.Path.{refl}
+use native.Mathlib.Omega.{arith}
 use borrow.Author.Needs.{needs}
 use Rattle.optext.proofs.rows.field.Statement.{statement}
 use Rattle.optext.proofs.rows.field.Tie as tie
+
+returns : tie.Need-returns
+returns c = rw (c .enum-told .given .1) refl
+
+returns-2 : tie.Need-returns-2
+returns-2 c = rw (c .enum-told2 .given .1) refl
 
 returns-3 : tie.Need-returns-3
 returns-3 c = rw (c .enum-told3 .given .1) refl
@@ -28,13 +35,13 @@ returns-10 : tie.Need-returns-10
 returns-10 c = rw (c .enum-told10 .given .1) refl
 
 returns-11 : tie.Need-returns-11
-returns-11 c = rw (c .before .enum-told11 .given .1) (c .address .ensures .0)
+returns-11 c = rw (c .enum-told11 .given .1) refl
 
 returns-12 : tie.Need-returns-12
 returns-12 c = rw (c .enum-told12 .given .1) refl
 
 returns-13 : tie.Need-returns-13
-returns-13 c = rw (c .before .enum-told13 .given .1) (c .reserved-from .ensures)
+returns-13 c = rw (c .enum-told13 .given .1) (omega arith)
 
 pub field-spec : {M : Type 1} → statement M
 field-spec =
@@ -53,13 +60,11 @@ field-spec =
     (λ c. search needs)
     (λ c. search needs)
     (λ c. search needs)
-    (λ c κs. search needs)
     (λ c. search needs)
     (λ c. search needs)
     (λ c. search needs)
-    (λ c κs. search needs)
-    (λ c. search needs)
-    (λ c. search needs)
+    returns
+    returns-2
     returns-3
     returns-4
     returns-5

@@ -1,9 +1,9 @@
 use mathlib.Core.Path.{refl}
 use borrow.Author.Tests.{eq-eqb, ne-eqb}
-use Rattle.optext.specs.Line.{reservedFrom}
+use Rattle.optext.specs.Guess.{reservedFrom}
 use borrow.Author.Needs.{needs}
-use Rattle.optext.proofs.rows.reserved_from.Statement.{statement}
-use Rattle.optext.proofs.rows.reserved_from.Tie as tie
+use Rattle.optext.proofs.reading.reserved_from.Statement.{statement}
+use Rattle.optext.proofs.reading.reserved_from.Tie as tie
 
 returns : tie.Need-returns
 unfolding reservedFrom

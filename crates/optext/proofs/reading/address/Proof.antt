@@ -1,9 +1,9 @@
 use mathlib.Core.Path.{refl}
 use native.Mathlib.Omega.{arith}
 use borrow.Author.Tests.{lt-ltb, le-ltb}
-use Rattle.optext.specs.Line.{addressed, taken}
-use Rattle.optext.proofs.rows.address.Statement.{statement}
-use Rattle.optext.proofs.rows.address.Tie as tie
+use Rattle.optext.specs.Guess.{addressed}
+use Rattle.optext.proofs.reading.address.Statement.{statement}
+use Rattle.optext.proofs.reading.address.Tie as tie
 
 returns : tie.Need-returns
 unfolding addressed
