@@ -1,7 +1,7 @@
 -- Laws of the bits that operands have in the first word, over their places: one stands low, from bit 0 on, and the other above it.
 use mathlib.Core.Path.{_≡_, refl, ap, sym, _∙_}
 use mathlib.Core.Bool.{Bool, true, false, cond}
-use Prim.Native.Nat.{ℕ, _+_, _-_, _*_, _/_, _%_, _≤_, _<_}
+use Prim.Native.Nat.{ℕ, _+_, _*_, _/_, _%_, _≤_, _<_, _-_}
 use native.Mathlib.Omega.{arith}
 use native.Mathlib.Nat.{zero-mul, mul-one, div-one, zero-div, mod-lt, mul-assoc, div-add-mod', div-div-eq-div-mul, mul-comm, add-mul-div-right, add-mul-mod-self-right, mul-le-mul-right, lt-of-mul-lt-mul-right}
 use lib.Arith.{digits-div, digits-mod, mod-mul}

@@ -8,50 +8,26 @@ use native.Mathlib.Omega.{arith}
 use lib.ListN.{length, drop}
 use lib.Seq.{drop-append-add}
 use Rattle.optext.specs.declared.rows.Kind.{Kind}
-use Rattle.optext.specs.declared.rows.Kind.the-variants.{None, Mask, Disp, Reg, Arg4, Arg6, Count, High, Mid, Dst, Addr, Src, Word}
 use Rattle.optext.specs.Rows.{nameOf, baseOf, firstOf, secondOf}
 use Rattle.optext.specs.Line.{fieldOf, rowOf, isShown, operandText, sepText, opText}
 use Rattle.optext.specs.Guess.{headOf, rowFor, operandRead, unOp, guess, guessA, guessB, guessOf}
 use Rattle.optext.proofs.Laws.Choose.{no, bool-cases}
-use Rattle.optext.proofs.Laws.Table.{none-both}
+use Rattle.optext.proofs.Laws.Table.{none-is, none-both}
 use Rattle.optext.proofs.Laws.Near.{agree-self}
 use Rattle.optext.proofs.Laws.Heads.{head-own}
 use Rattle.optext.proofs.Laws.Reserved.{row-lt, word-back}
 use Rattle.optext.proofs.Laws.Inside.{allowed-1, allowed-2}
 use Rattle.optext.proofs.Laws.Forms.{sep-none, sep-some}
-use Rattle.optext.proofs.Laws.Back.{wordOf}
+use Rattle.optext.proofs.Laws.Back.{ownOf, wordOf}
 use Rattle.optext.proofs.Laws.Back.{op-back}
 
 -- an operand that is not shown
 pub none-text : (k : Kind) (w x : ℕ) → isShown k ≡ false → operandText k w x ≡ []
-none-text None w x e = refl
-none-text Mask w x e = absurd (no e)
-none-text Disp w x e = absurd (no e)
-none-text Reg w x e = absurd (no e)
-none-text Arg4 w x e = absurd (no e)
-none-text Arg6 w x e = absurd (no e)
-none-text Count w x e = absurd (no e)
-none-text High w x e = absurd (no e)
-none-text Mid w x e = absurd (no e)
-none-text Dst w x e = absurd (no e)
-none-text Addr w x e = absurd (no e)
-none-text Src w x e = absurd (no e)
-none-text Word w x e = absurd (no e)
+none-text k w x e = rw (none-is k e) refl
 
 none-back : (k : Kind) (t : List ℕ) (w x : ℕ) → isShown k ≡ false → unOp k t ≡ operandRead (fieldOf k w) (wordOf k w x) (length (operandText k w x))
-none-back None t w x e = refl
-none-back Mask t w x e = absurd (no e)
-none-back Disp t w x e = absurd (no e)
-none-back Reg t w x e = absurd (no e)
-none-back Arg4 t w x e = absurd (no e)
-none-back Arg6 t w x e = absurd (no e)
-none-back Count t w x e = absurd (no e)
-none-back High t w x e = absurd (no e)
-none-back Mid t w x e = absurd (no e)
-none-back Dst t w x e = absurd (no e)
-none-back Addr t w x e = absurd (no e)
-none-back Src t w x e = absurd (no e)
-none-back Word t w x e = absurd (no e)
+unfolding ownOf
+none-back k t w x e = rw (none-is k e) refl
 
 module _ (w x y : ℕ) (lw : w < 65536) (lx : x < 65536) (ly : y < 65536) where
   line-none : isShown (firstOf (rowOf w)) ≡ false → opText w x y ≡ nameOf (rowOf w)

@@ -17,26 +17,10 @@ Inv-loop w table i₀ i = (table ≡ tableBytes rows) × (i ≤ wordRow) × (fir
 abbrev μ-loop : tie.MeasureT-loop
 μ-loop w table i₀ i = wordRow - i
 
-loop-holds : tie.Need-loop-holds Inv-loop μ-loop
-unfolding rows digits hexOf hex4
-loop-holds c = (refl, omega arith, refl)
-
-slice-aggregate-row-fits : tie.Need-slice-aggregate-row-fits Inv-loop μ-loop
-slice-aggregate-row-fits c = sym (ap length (c .before .before .loop .inv .0) ∙ flat-length)
-
-row-fits-requires : tie.Need-row-fits-requires Inv-loop μ-loop
-row-fits-requires c κs = (c .before .before .loop .inv .0, omega arith)
-
 returns : tie.Need-returns Inv-loop μ-loop
 returns c =
     let l = c .before .before .before .before .loop in
     (first-found (fitsRow (c .before .before .before .before .before .args .w)) wordRow (l .i) _ (l .inv .2) (omega arith) (sym (c .before .row-fits .ensures) ∙ c .if1 .taken), omega arith)
-
-add-i : tie.Need-add-i Inv-loop μ-loop
-add-i c = omega arith
-
-loop-less : tie.Need-loop-less Inv-loop μ-loop
-loop-less c = omega arith
 
 loop-again : tie.Need-loop-again Inv-loop μ-loop
 loop-again c =
@@ -49,16 +33,17 @@ returns-2 c =
     (first-end (fitsRow (c .before .before .args .w)) wordRow (l .i) _ (l .inv .2) (omega arith), omega arith)
 
 pub row-made-spec : {M : Type 1} → statement M
+unfolding digits hex4 hexOf rows
 row-made-spec =
     tie.close
     (tie.spec
     Inv-loop
     μ-loop
-    loop-holds
-    slice-aggregate-row-fits
-    row-fits-requires
+    (λ c. (refl, omega arith, refl))
+    (λ c. sym (ap length (c .before .before .loop .inv .0) ∙ flat-length))
+    (λ c κs. (c .before .before .loop .inv .0, omega arith))
     returns
-    add-i
-    loop-less
+    (λ c. omega arith)
+    (λ c. omega arith)
     loop-again
     returns-2)

@@ -7,15 +7,6 @@ use borrow.Author.Needs.{needs}
 use Rattle.optext.proofs.writing.put_literal.Statement.{statement}
 use Rattle.optext.proofs.writing.put_literal.Tie as tie
 
-slice-write-out-2 : tie.Need-slice-write-out-2
-slice-write-out-2 c = simp length-set (omega arith)
-
-slice-write-out-3 : tie.Need-slice-write-out-3
-slice-write-out-3 c = simp length-set (omega arith)
-
-slice-write-out-4 : tie.Need-slice-write-out-4
-slice-write-out-4 c = simp length-set (omega arith)
-
 returns : tie.Need-returns
 unfolding literalText hex4
 returns c =
@@ -28,11 +19,11 @@ put-literal-spec =
     (tie.spec
     (λ c. search needs)
     (λ c κs. search needs)
-    slice-write-out-2
+    (λ c. simp length-set (omega arith))
     (λ c κs. search needs)
-    slice-write-out-3
+    (λ c. simp length-set (omega arith))
     (λ c κs. search needs)
-    slice-write-out-4
+    (λ c. simp length-set (omega arith))
     (λ c κs. search needs)
     (λ c. search needs)
     (λ c. search needs)

@@ -7,27 +7,6 @@ use borrow.Author.Needs.{needs}
 use Rattle.optext.proofs.writing.put_offset.Statement.{statement}
 use Rattle.optext.proofs.writing.put_offset.Tie as tie
 
-slice-write-out-2 : tie.Need-slice-write-out-2
-slice-write-out-2 c = simp length-set (omega arith)
-
-slice-write-out-3 : tie.Need-slice-write-out-3
-slice-write-out-3 c = simp length-set (omega arith)
-
-slice-write-out-4 : tie.Need-slice-write-out-4
-slice-write-out-4 c = simp length-set (omega arith)
-
-slice-write-out-5 : tie.Need-slice-write-out-5
-slice-write-out-5 c = simp length-set (omega arith)
-
-slice-write-out-6 : tie.Need-slice-write-out-6
-slice-write-out-6 c = simp length-set (omega arith)
-
-slice-write-out-7 : tie.Need-slice-write-out-7
-slice-write-out-7 c = simp length-set (omega arith)
-
-slice-write-out-8 : tie.Need-slice-write-out-8
-slice-write-out-8 c = simp length-set (omega arith)
-
 returns : tie.Need-returns
 unfolding offsetText hex4
 returns c =
@@ -41,16 +20,16 @@ put-offset-spec =
     (λ c κs. search needs)
     (λ c. search needs)
     (λ c κs. search needs)
-    slice-write-out-2
+    (λ c. simp length-set (omega arith))
     (λ c κs. search needs)
-    slice-write-out-3
+    (λ c. simp length-set (omega arith))
     (λ c κs. search needs)
-    slice-write-out-4
-    slice-write-out-5
+    (λ c. simp length-set (omega arith))
+    (λ c. simp length-set (omega arith))
     (λ c κs. search needs)
-    slice-write-out-6
+    (λ c. simp length-set (omega arith))
     (λ c κs. search needs)
-    slice-write-out-7
-    slice-write-out-8
+    (λ c. simp length-set (omega arith))
+    (λ c. simp length-set (omega arith))
     (λ c. search needs)
     returns)
