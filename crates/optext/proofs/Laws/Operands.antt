@@ -22,7 +22,7 @@ use Rattle.optext.proofs.Laws.Forms.{plain-reg, plain-pc, plain-up, pla
 use Rattle.optext.proofs.Laws.Back.{hex-back, reg-high, digit-low, digit-high, plain-sign, addressed-same}
 use Rattle.optext.proofs.Laws.Reserved.{from-same, from-ok, from-digits}
 use Rattle.optext.proofs.Laws.Inside.{Allowed, PartOk}
-use Rattle.optext.proofs.Laws.Pieces.{unHex-lt, near-hex1, near-hex2, near-arg6, near-count, near-hex4, near-reg, near-up, unReg-lt}
+use Rattle.optext.proofs.Laws.Pieces.{unHex-lt, near-hex1, near-digits, near-count, near-hex4, near-reg, near-up, unReg-lt}
 
 -- the text of the operand that is read
 abbrev pub again : Kind → Operand → List ℕ
@@ -336,9 +336,7 @@ pub near-operand : (k : Kind) (t : List ℕ) (w x : ℕ) → w < 65536 → x < 6
 near-operand None t w x g l a = near-nil t
 near-operand Mask t w x g l a = near-hex4 t x l
 near-operand Disp t w x g l a =
-    let h = hex2-lt t in
-    let e : unHex2 t % 256 ≡ unHex2 t = omega arith in
-    rw e (near-hex2 t (w % 256) (omega arith))
+    near-digits 256 t (w % 256) (omega arith) refl (omega arith)
 near-operand Reg t w x g l a =
     let h = unReg-lt (getD t 0 0) (getD t 1 0) in
     let e : unReg (getD t 0 0) (getD t 1 0) % 8 ≡ unReg (getD t 0 0) (getD t 1 0) = omega arith in
@@ -349,7 +347,7 @@ near-operand Arg4 t w x g l a =
     rw e (near-hex1 t (w % 16) (omega arith))
 near-operand Arg6 t w x g l a =
     let e : unHex2 t % 64 % 64 ≡ unHex2 t % 64 = omega arith in
-    rw e (near-arg6 t (w % 64) (omega arith))
+    rw e (near-digits 64 t (w % 64) (omega arith) refl (omega arith))
 near-operand Count t w x g l a =
     let h = count-lt t in
     let e : unCount t % 16 ≡ unCount t = omega arith in
