@@ -14,10 +14,10 @@ pub mod Near
 pub mod Once
 pub mod Operands
 pub mod Pieces
+pub mod Places
 pub mod Read
 pub mod Reader
 pub mod Reserved
-pub mod Shapes
 pub mod Shown
 pub mod Table
 pub mod Theorems

@@ -3,13 +3,13 @@ use mathlib.Core.Bool.{Bool, true, false, cond}
 use mathlib.Core.List.{List, [], _∷_, _++_}
 use Prim.Native.Nat.{ℕ, _+_, _*_, _/_, _%_}
 use Prim.Native.Char.{code}
-use lib.Dec.{ltb, leb, eqb}
+use lib.Dec.{leb, eqb}
 use lib.ListN.{getD}
 use Rattle.optext.specs.declared.rows.Kind.{Kind}
 use Rattle.optext.specs.declared.rows.Kind.the-variants.{None, Mask, Disp, Reg, Arg4, Arg6, Count, High, Mid, Dst, Addr, Src, Word}
 use Rattle.optext.specs.First.{firstFrom}
 use Rattle.hexdigits.specs.Digits.{letters, hexOf, hex4, hex2}
-use Rattle.optext.specs.Rows.{wordRow, baseOf, firstOf, secondOf, nameOf}
+use Rattle.optext.specs.Rows.{Place, placeOf, wordRow, baseOf, firstOf, secondOf, nameOf}
 
 -- a register's name, R0 to R5, SP, PC
 unfoldable pub registers : List ℕ
@@ -83,43 +83,23 @@ takes Addr w = modeTakes (w % 64)
 takes Src w = modeTakes (w / 64 % 64)
 takes Word w = 0
 
--- a mode and register that JSR and LEA may have: f, or @R0 where the mode of f is 0
-unfoldable pub addressed : ℕ → ℕ
-addressed f = cond (ltb f 8) 8 f
+-- the bits of the first word w that the operand stands for
+abbrev pub bitsOf : Place → ℕ → ℕ
+bitsOf p w = cond (eqb (p .size) 1) 0 (cond (eqb (p .unit) 1) (w % p .size) (w / p .unit % p .size * p .unit))
+
+abbrev pub fieldOf : Kind → ℕ → ℕ
+fieldOf k w = bitsOf (placeOf k) w
 
 -- reserved and illegal first words: format 11 (F0 to FF), and JSR and LEA (70 to 73) with mode 0
 unfoldable pub isReserved : ℕ → Bool
 isReserved w = cond (leb 240 (w / 256)) true (cond (eqb (w / 1024) 28) (eqb (w / 8 % 8) 0) false)
 
--- a word that .WORD may hold: x, or one that begins with as many of its digits as any does
-unfoldable pub reservedFrom : ℕ → ℕ
-reservedFrom x =
-    cond (isReserved x) x
-    (cond (eqb (x / 1024) 28) (cond (eqb (x / 16 % 4) 0) (x / 16 * 16) (x / 256 * 256))
-    (cond (eqb (x / 4096) 7) 0x7000 0xF000))
-
--- the bits of the first word that the operand stands for; of JSR and LEA with mode 0 they are not what the word has
-abbrev pub fieldOf : Kind → ℕ → ℕ
-fieldOf None w = 0
-fieldOf Mask w = 0
-fieldOf Disp w = w % 256
-fieldOf Reg w = w % 8
-fieldOf Arg4 w = w % 16
-fieldOf Arg6 w = w % 64
-fieldOf Count w = w % 16
-fieldOf High w = w / 64 % 8 * 64
-fieldOf Mid w = w / 8 % 8 * 8
-fieldOf Dst w = w % 64
-fieldOf Addr w = addressed (w % 64)
-fieldOf Src w = w / 64 % 64 * 64
-fieldOf Word w = reservedFrom w
-
--- the row of a first word: the row whose base op code with the operands in it is the word, or else the last
+-- the row of a first word: .WORD for a reserved or illegal one, or else the row whose base op code with the operands in it is the word
 abbrev pub fitsRow : ℕ → ℕ → Bool
 fitsRow w k = eqb (baseOf k + fieldOf (firstOf k) w + fieldOf (secondOf k) w) w
 
 unfoldable pub rowOf : ℕ → ℕ
-rowOf w = firstFrom (fitsRow w) wordRow 0
+rowOf w = cond (isReserved w) wordRow (firstFrom (fitsRow w) wordRow 0)
 
 -- the separator and the operand, if there is one
 abbrev pub isShown : Kind → Bool

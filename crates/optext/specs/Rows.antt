@@ -172,6 +172,29 @@ firstOf k = theRow k .first
 abbrev pub secondOf : ℕ → Kind
 secondOf k = theRow k .second
 
+-- where an operand stands in the first word: in the bits from the one that is worth `unit` on, as a number below `size`
+pub record Place : Type 0 where
+  pub unit : ℕ
+  pub size : ℕ
+
+abbrev pub place : ℕ → ℕ → Place
+place u n = record { unit = u; size = n }
+
+abbrev pub placeOf : Kind → Place
+placeOf None = place 1 1
+placeOf Mask = place 1 1
+placeOf Disp = place 1 256
+placeOf Reg = place 1 8
+placeOf Arg4 = place 1 16
+placeOf Arg6 = place 1 64
+placeOf Count = place 1 16
+placeOf High = place 64 8
+placeOf Mid = place 8 8
+placeOf Dst = place 1 64
+placeOf Addr = place 1 64
+placeOf Src = place 64 64
+placeOf Word = place 1 65536
+
 -- the rows as the program has them, each in as many bytes
 abbrev pub rowWidth : ℕ
 rowWidth = 11
@@ -193,19 +216,19 @@ letterOf Word = code "W"
 
 unfoldable pub kindAs : ℕ → Kind
 kindAs c =
-    cond (eqb c (code "M")) Mask
-    (cond (eqb c (code "8")) Disp
-    (cond (eqb c (code "R")) Reg
-    (cond (eqb c (code "4")) Arg4
-    (cond (eqb c (code "6")) Arg6
-    (cond (eqb c (code "N")) Count
-    (cond (eqb c (code "H")) High
-    (cond (eqb c (code "B")) Mid
+    cond (eqb c (code "-")) None
     (cond (eqb c (code "D")) Dst
-    (cond (eqb c (code "J")) Addr
+    (cond (eqb c (code "8")) Disp
     (cond (eqb c (code "S")) Src
-    (cond (eqb c (code "W")) Word
-    None)))))))))))
+    (cond (eqb c (code "H")) High
+    (cond (eqb c (code "N")) Count
+    (cond (eqb c (code "R")) Reg
+    (cond (eqb c (code "B")) Mid
+    (cond (eqb c (code "6")) Arg6
+    (cond (eqb c (code "J")) Addr
+    (cond (eqb c (code "4")) Arg4
+    (cond (eqb c (code "M")) Mask
+    Word)))))))))))
 
 abbrev pub rowBytes : Row → List ℕ
 rowBytes r =

@@ -28,7 +28,6 @@ use Rattle.format7.proofs.Laws.Columns.{row-is}
 use Rattle.format8.specs.Format8.{rowAt, element}
 use Rattle.format9.specs.Format9.{div, codes9, format9}
 use Rattle.format10.specs.Format10.{onWords, onBytes, format10}
-use Rattle.optext.specs.Line.{addressed}
 use Rattle.step.specs.Execute.{execute, byFormat, further}
 use Rattle.laws.proofs.Laws.Branches.{taken-printed}
 use Rattle.laws.proofs.Laws.Moves.{executes}
@@ -209,14 +208,6 @@ module _ (out : Outside) (s : State) where
 
       digit : (op b : ℕ) → op / 512 ≡ b / 512 → b / 4096 ≡ 7 → op / 256 ≡ 7 * 16 + op / 256 % 16
       digit op b k q = let e : op / 4096 ≡ 7 = omega (arith, k, q) in omega (arith, e)
-
-  pub addressed-lt : (f : ℕ) → f < 64 → addressed f < 64
-  unfolding addressed
-  addressed-lt f l = by (ltb f 8)
-    where
-      by : (t : Bool) → cond t 8 f < 64
-      by true = omega arith
-      by false = l
 
   -- ---- format 10: bits 15 to 12
 

@@ -94,30 +94,6 @@ module _ (t : List ℕ) where
   own-end : IsText t → agree t (guessLine t) ≡ length (guessLine t)
   own-end i = own-far i ∙ sym (ap length (own-line i))
 
-  -- the four refusals
-  module _ (ws : List ℕ) (h : 3 ≤ length ws) where
-    refused : (n : ℕ) → (IsText t → ⊥) → Why t (agree t (guessLine t)) n → RefusedText n (agree t (guessLine t)) t ws ws
-    refused n d w = record { room = h; none = d; column = column; short = column-le; why = w; same = refl }
-
-    at-32 : agree t (guessLine t) ≡ length t → (agree t (guessLine t) ≡ length (guessLine t) → ⊥) → RefusedText 32 (agree t (guessLine t)) t ws ws
-    at-32 e d = refused 32 (λ i. d (own-end i)) (early refl e)
-
-    at-31 : (agree t (guessLine t) ≡ length t → ⊥) → agree t (guessLine t) ≡ length (guessLine t) → RefusedText 31 (agree t (guessLine t)) t ws ws
-    at-31 d e = let l = agree-le-text t (guessLine t) in refused 31 (λ i. d (own-far i)) (after refl (omega arith) (whole-there e))
-
-    module _ (d : agree t (guessLine t) ≡ length t → ⊥) (f : agree t (guessLine t) ≡ length (guessLine t) → ⊥) where
-      inside-text : agree t (guessLine t) < length t
-      inside-text = let l = agree-le-text t (guessLine t) in omega arith
-
-      inside-line : agree t (guessLine t) < length (guessLine t)
-      inside-line = let l = agree-le t (guessLine t) in omega arith
-
-      at-9 : spaceIn (take (agree t (guessLine t)) t) ≡ false → RefusedText 9 (agree t (guessLine t)) t ws ws
-      at-9 s = refused 9 (λ i. d (own-far i)) (name refl inside-text (not-whole inside-line) s)
-
-      at-30 : spaceIn (take (agree t (guessLine t)) t) ≡ true → RefusedText 30 (agree t (guessLine t)) t ws ws
-      at-30 s = refused 30 (λ i. d (own-far i)) (operand refl inside-text (not-whole inside-line) s)
-
 -- the reader's answers from the facts of its code: c is how far the text agrees with the line of the guess, n the line's length
 module _ (t ws : List ℕ) (g : Guess) (e : g ≡ guessOf t) (c n : ℕ) (p : c ≡ agree t (opText (g .w) (g .x) (g .y))) (q : n ≡ length (opText (g .w) (g .x) (g .y))) where
   far : c ≡ agree t (guessLine t)
@@ -131,21 +107,32 @@ module _ (t ws : List ℕ) (g : Guess) (e : g ≡ guessOf t) (c n : ℕ) (p : c 
   pub found-text : c ≡ length t → c ≡ n → opText (g .w) (g .x) (g .y) ≡ t
   found-text a b = same-text t (opText (g .w) (g .x) (g .y)) (sym p ∙ a) (sym p ∙ b ∙ q)
 
-  pub refuses-32 : 3 ≤ length ws → c ≡ length t → (c ≡ n → ⊥) → RefusedText 32 c t ws ws
-  refuses-32 h a b = subst (λ (z : ℕ). RefusedText 32 z t ws ws) (sym far) (at-32 t ws h (sym far ∙ a) (λ z. b (far ∙ z ∙ sym long)))
+  module _ (h : 3 ≤ length ws) where
+    refused : (m : ℕ) → (IsText t → ⊥) → Why t c m → RefusedText m c t ws ws
+    refused m d w = record { room = h; none = d; column = rw far (column t); short = rw far (column-le t); why = w; same = refl }
 
-  pub refuses-31 : 3 ≤ length ws → (c ≡ length t → ⊥) → c ≡ n → RefusedText 31 c t ws ws
-  refuses-31 h a b = subst (λ (z : ℕ). RefusedText 31 z t ws ws) (sym far) (at-31 t ws h (λ z. a (far ∙ z)) (sym far ∙ b ∙ long))
+    pub refuses-32 : c ≡ length t → (c ≡ n → ⊥) → RefusedText 32 c t ws ws
+    refuses-32 a b = refused 32 (λ i. b (far ∙ own-end t i ∙ sym long)) (early refl a)
 
-  pub refuses-9 : 3 ≤ length ws → (c ≡ length t → ⊥) → (c ≡ n → ⊥) → spaceIn (take c t) ≡ false → RefusedText 9 c t ws ws
-  refuses-9 h a b s =
-      subst (λ (z : ℕ). RefusedText 9 z t ws ws) (sym far)
-      (at-9 t ws h (λ z. a (far ∙ z)) (λ z. b (far ∙ z ∙ sym long)) (ap (λ (z : ℕ). spaceIn (take z t)) (sym far) ∙ s))
+    module _ (a : c ≡ length t → ⊥) where
+      other : IsText t → ⊥
+      other i = a (far ∙ own-far t i)
 
-  pub refuses-30 : 3 ≤ length ws → (c ≡ length t → ⊥) → (c ≡ n → ⊥) → spaceIn (take c t) ≡ true → RefusedText 30 c t ws ws
-  refuses-30 h a b s =
-      subst (λ (z : ℕ). RefusedText 30 z t ws ws) (sym far)
-      (at-30 t ws h (λ z. a (far ∙ z)) (λ z. b (far ∙ z ∙ sym long)) (ap (λ (z : ℕ). spaceIn (take z t)) (sym far) ∙ s))
+      within : c < length t
+      within = let l = agree-le-text t (guessLine t) in let f = far in omega arith
+
+      pub refuses-31 : c ≡ n → RefusedText 31 c t ws ws
+      refuses-31 b = refused 31 other (after refl within (rw far (whole-there t (sym far ∙ b ∙ long))))
+
+      module _ (b : c ≡ n → ⊥) where
+        not-there : IsText (take c t) → ⊥
+        not-there = rw far (not-whole t (let l = agree-le t (guessLine t) in let f = far in let g = long in omega arith))
+
+        pub refuses-9 : spaceIn (take c t) ≡ false → RefusedText 9 c t ws ws
+        refuses-9 s = refused 9 other (name refl within not-there s)
+
+        pub refuses-30 : spaceIn (take c t) ≡ true → RefusedText 30 c t ws ws
+        refuses-30 s = refused 30 other (operand refl within not-there s)
 
 -- a loop that looks for a space
 pub space-here : (t : List ℕ) (i : ℕ) → spaceIn t ≡ spaceIn (drop i t) → i < length t → getD t i 0 ≡ 32 → true ≡ spaceIn t

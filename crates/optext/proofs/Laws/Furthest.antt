@@ -22,10 +22,10 @@ use Rattle.optext.proofs.Laws.Heads.{rowAt-lt, head-own, head-some, nea
 use Rattle.optext.proofs.Laws.Forms.{sep-none, sep-some}
 use Rattle.optext.proofs.Laws.Table.{none-both}
 use Rattle.optext.proofs.Laws.Back.{op-back}
-use Rattle.optext.proofs.Laws.Trip.{row-lt, none-text, line-head}
-use Rattle.optext.proofs.Laws.Operands.{Allowed, PartOk, again}
-use Rattle.optext.proofs.Laws.Operands.{part-ok, near-operand, hex4-lt}
-use Rattle.optext.proofs.Laws.Inside.{guess-lt, inside, part-1, part-2, allowed-1, allowed-2}
+use Rattle.optext.proofs.Laws.Trip.{none-text, line-head}
+use Rattle.optext.proofs.Laws.Reserved.{row-lt}
+use Rattle.optext.proofs.Laws.Inside.{Allowed, PartOk, guess-lt, inside, part-1, part-2, allowed-1, allowed-2}
+use Rattle.optext.proofs.Laws.Operands.{again, part-ok, near-operand, hex4-lt}
 
 -- the words that are read are words
 cond-word : (b : Bool) (o o' : Operand) → o .word < 65536 → o' .word < 65536 → (cond b o o') .word < 65536
@@ -113,7 +113,7 @@ near-operands f s u w x y lw lx ly a b =
     len : agree u (operandText f w x) ≡ length (operandText f w x) → unOp f u .len ≡ length (operandText f w x)
     len e =
         ap (λ (l : List ℕ). unOp f l .len) (whole-split u (operandText f w x) e)
-        ∙ ap (λ (o : Operand). o .len) (op-back f w x (drop (length (operandText f w x)) u) lw lx)
+        ∙ ap (λ (o : Operand). o .len) (op-back f w x (drop (length (operandText f w x)) u) lw lx a)
 
 module _ (t : List ℕ) (w x y : ℕ) (lw : w < 65536) (lx : x < 65536) (ly : y < 65536) where
   after-head : (k : ℕ) → k < rowCount → Allowed (firstOf k) w → Allowed (secondOf k) w → rowFor t ≡ k

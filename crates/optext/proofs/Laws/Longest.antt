@@ -7,11 +7,11 @@ use native.Mathlib.Omega.{arith}
 use lib.ListN.{length, length-append}
 use Rattle.hexdigits.specs.Digits.{digits, hexOf, hex4}
 use Rattle.optext.specs.Rows.{rows, theRow, firstOf, secondOf}
-use Rattle.optext.specs.Line.{registers, regA, regB, offsetText, plainText, modeText, modeTakes, addressed, rowOf, isShown, sepText, opText, textOf}
+use Rattle.optext.specs.Line.{registers, regA, regB, offsetText, plainText, modeText, modeTakes, isReserved, rowOf, isShown, sepText, opText, textOf}
 use Rattle.optext.proofs.Laws.Choose.{bool-cases}
 use Rattle.optext.proofs.Laws.Table.{name-le, two-le}
 use Rattle.optext.proofs.Laws.Forms.{sep-none, sep-le}
-use Rattle.optext.proofs.Laws.Trip.{row-lt}
+use Rattle.optext.proofs.Laws.Reserved.{row-lt}
 
 pub line-le : (w x y : ℕ) → length (opText w x y) ≤ 24
 unfolding opText
@@ -32,5 +32,5 @@ text-le ws = line-le _ _ _
 
 -- DE38 0000 0000 is MOVB @0000(R0),@0000(R0)
 pub line-24 : length (textOf (0xDE38 ∷ 0 ∷ 0 ∷ [])) ≡ 24
-unfolding textOf opText rowOf theRow rows sepText modeText modeTakes plainText offsetText regA regB registers hex4 hexOf digits addressed
+unfolding textOf opText rowOf theRow rows sepText modeText modeTakes plainText offsetText regA regB registers hex4 hexOf digits isReserved
 line-24 = refl

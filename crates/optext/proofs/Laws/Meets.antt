@@ -1,6 +1,7 @@
 -- The public contracts from the facts of the code: what the writer and the reader answer and leave.
 use mathlib.Core.Path.{_≡_, refl, ap, sym, _∙_, subst}
 use mathlib.Core.List.{List, [], _∷_}
+use mathlib.Core.Logic.{_⊎_, inl, inr, ⊎-elim}
 use Prim.Native.Nat.{ℕ, zero, suc, _+_, _%_, _^_, _≤_, _<_}
 use native.Mathlib.Omega.{arith}
 use borrow.Author.Tests.{ne-eqb, lt-ltb, le-ltb}
@@ -18,6 +19,7 @@ use Rattle.optext.specs.Answer.{writtenPage, writeWhy, writeOf, Writes, 
 use Rattle.optext.specs.Column.{Whole}
 use Rattle.optext.specs.Words.{Accepts, own, wordsOf}
 use Rattle.hexdigits.proofs.Laws.Laid.{wrote-take, wrote-rest}
+use Rattle.optext.proofs.Laws.Choose.{eq-cases}
 use Rattle.optext.proofs.Laws.Forms.{takes-le}
 use Rattle.optext.proofs.Laws.Back.{op-ignores}
 use Rattle.optext.proofs.Laws.Longest.{text-le}
@@ -93,35 +95,37 @@ three : (a b c : ℕ) → a < 65536 → b < 65536 → c < 65536 → (i : ℕ) �
 three a b c l m n zero = l
 three a b c l m n (suc i) = two b c m n i
 
+-- each operand takes no word of its own or one
+pub by-taken : (w : ℕ) (P : Type 0)
+    → (takes (firstOf (rowOf w)) w ≡ 0 → takes (secondOf (rowOf w)) w ≡ 0 → P) → (takes (firstOf (rowOf w)) w ≡ 0 → takes (secondOf (rowOf w)) w ≡ 1 → P)
+    → (takes (firstOf (rowOf w)) w ≡ 1 → takes (secondOf (rowOf w)) w ≡ 0 → P) → (takes (firstOf (rowOf w)) w ≡ 1 → takes (secondOf (rowOf w)) w ≡ 1 → P) → P
+by-taken w P a b c d =
+    ⊎-elim (λ e. ⊎-elim (a e) (b e) (none-or-one (secondOf (rowOf w)))) (λ e. ⊎-elim (c e) (d e) (none-or-one (secondOf (rowOf w)))) (none-or-one (firstOf (rowOf w)))
+  where
+    none-or-one : (k : Kind) → (takes k w ≡ 0) ⊎ (takes k w ≡ 1)
+    none-or-one k = let l = takes-le k w in ⊎-elim inl (λ e. inr (omega arith)) (eq-cases (takes k w) 0)
+
 module _ (w x y : ℕ) (lw : w < 65536) where
   pub text-words : textOf (wordsOf w x y) ≡ opText w x y
   unfolding textOf wordsOf own
-  text-words = go (takes (firstOf (rowOf w)) w) (takes (secondOf (rowOf w)) w) refl refl
-    where
-      go : (m n : ℕ) → takes (firstOf (rowOf w)) w ≡ m → takes (secondOf (rowOf w)) w ≡ n → textOf (wordsOf w x y) ≡ opText w x y
-      go zero zero e f = rw (e, f) (line-cong w 0 0 x y (op-ignores (firstOf (rowOf w)) w 0 x e) (op-ignores (secondOf (rowOf w)) w 0 y f))
-      go zero (suc zero) e f = rw (e, f) (line-cong w y y x y (op-ignores (firstOf (rowOf w)) w y x e) refl)
-      go (suc zero) zero e f = rw (e, f) (line-cong w x 0 x y refl (op-ignores (secondOf (rowOf w)) w 0 y f))
-      go (suc zero) (suc zero) e f = rw (e, f) refl
-      go (suc (suc m)) n e f = let h = takes-le (firstOf (rowOf w)) w in absurd (omega arith)
-      go zero (suc (suc n)) e f = let h = takes-le (secondOf (rowOf w)) w in absurd (omega arith)
-      go (suc zero) (suc (suc n)) e f = let h = takes-le (secondOf (rowOf w)) w in absurd (omega arith)
+  text-words =
+      by-taken w (textOf (wordsOf w x y) ≡ opText w x y)
+      (λ e f. rw (e, f) (line-cong w 0 0 x y (op-ignores (firstOf (rowOf w)) w 0 x e) (op-ignores (secondOf (rowOf w)) w 0 y f)))
+      (λ e f. rw (e, f) (line-cong w y y x y (op-ignores (firstOf (rowOf w)) w y x e) refl))
+      (λ e f. rw (e, f) (line-cong w x 0 x y refl (op-ignores (secondOf (rowOf w)) w 0 y f)))
+      (λ e f. rw (e, f) refl)
 
   pub whole-words : x < 65536 → y < 65536 → Whole (wordsOf w x y)
   unfolding wordsOf own taken
-  whole-words lx ly = go (takes (firstOf (rowOf w)) w) (takes (secondOf (rowOf w)) w) refl refl
+  whole-words lx ly =
+      by-taken w (Whole (wordsOf w x y))
+      (λ e f. whole (w ∷ []) (rw (e, f) refl) (rw (e, f) refl) (one w lw))
+      (λ e f. whole (w ∷ y ∷ []) (rw (e, f) refl) (rw (e, f) refl) (two w y lw ly))
+      (λ e f. whole (w ∷ x ∷ []) (rw (e, f) refl) (rw (e, f) refl) (two w x lw lx))
+      (λ e f. whole (w ∷ x ∷ y ∷ []) (rw (e, f) refl) (rw (e, f) refl) (three w x y lw lx ly))
     where
-      each : (l : List ℕ) → wordsOf w x y ≡ l → ((i : ℕ) → getD l i 0 < 65536) → (i : ℕ) → getD (wordsOf w x y) i 0 < 65536
-      each l e h = subst (λ (l : List ℕ). (i : ℕ) → getD l i 0 < 65536) (sym e) h
-
-      go : (m n : ℕ) → takes (firstOf (rowOf w)) w ≡ m → takes (secondOf (rowOf w)) w ≡ n → Whole (wordsOf w x y)
-      go zero zero e f = record { count = rw (e, f) refl; words = each (w ∷ []) (rw (e, f) refl) (one w lw) }
-      go zero (suc zero) e f = record { count = rw (e, f) refl; words = each (w ∷ y ∷ []) (rw (e, f) refl) (two w y lw ly) }
-      go (suc zero) zero e f = record { count = rw (e, f) refl; words = each (w ∷ x ∷ []) (rw (e, f) refl) (two w x lw lx) }
-      go (suc zero) (suc zero) e f = record { count = rw (e, f) refl; words = each (w ∷ x ∷ y ∷ []) (rw (e, f) refl) (three w x y lw lx ly) }
-      go (suc (suc m)) n e f = let h = takes-le (firstOf (rowOf w)) w in absurd (omega arith)
-      go zero (suc (suc n)) e f = let h = takes-le (secondOf (rowOf w)) w in absurd (omega arith)
-      go (suc zero) (suc (suc n)) e f = let h = takes-le (secondOf (rowOf w)) w in absurd (omega arith)
+      whole : (l : List ℕ) → wordsOf w x y ≡ l → length (wordsOf w x y) ≡ taken w → ((i : ℕ) → getD l i 0 < 65536) → Whole (wordsOf w x y)
+      whole l e c h = record { count = c; words = subst (λ (l : List ℕ). (i : ℕ) → getD l i 0 < 65536) (sym e) h }
 
 -- what the words of a guess are, by the words that its operands take
 pub words-3 : (w x y m n : ℕ) → m ≡ takes (firstOf (rowOf w)) w → n ≡ takes (secondOf (rowOf w)) w → m ≡ 1 → n ≡ 1 → wordsOf w x y ≡ w ∷ x ∷ y ∷ []

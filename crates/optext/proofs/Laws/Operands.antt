@@ -14,49 +14,19 @@ use Rattle.optext.specs.declared.rows.Kind.{Kind}
 use Rattle.optext.specs.declared.rows.Kind.the-variants.{None, Mask, Disp, Reg, Arg4, Arg6, Count, High, Mid, Dst, Addr, Src, Word}
 use Rattle.optext.specs.declared.reading.Operand.{Operand}
 use Rattle.optext.specs.Digits.{unHex, unHex2, unHex4}
-use Rattle.optext.specs.Line.{regA, regB, regText, upText, literalText, downText, offsetText, plainText, modeText, operandText, addressed, isReserved, reservedFrom}
-use Rattle.optext.specs.Guess.{operandRead, unReg, notPc, unPlain, unMode, unCount, unOp}
+use Rattle.optext.specs.Line.{regA, regB, regText, upText, literalText, downText, offsetText, plainText, modeText, operandText, isReserved}
+use Rattle.optext.specs.Guess.{operandRead, unReg, notPc, unPlain, unMode, unCount, addressed, reservedFrom, unOp}
 use Rattle.optext.proofs.Laws.Choose.{eq-cases, lt-cases}
 use Rattle.optext.proofs.Laws.Near.{Near, near-nil, near-next, near-at, near-seq, near-refl, near-off}
 use Rattle.optext.proofs.Laws.Forms.{plain-reg, plain-pc, plain-up, plain-down, plain-offset, mode-plain, mode-at}
-use Rattle.optext.proofs.Laws.Back.{hex-back, reg-high, digit-low, digit-high, plain-sign}
-use Rattle.optext.proofs.Laws.Reserved.{addressed-same, from-same, from-ok, from-digits}
-use Rattle.optext.proofs.Laws.Pieces.{unHex-lt, near-hex1, near-hex2, near-arg6, near-count, near-hex4, near-reg, near-up, unReg-lt}
-
--- what a first word must be, beside its row's base op code, to have an operand of a kind
-abbrev pub Allowed : Kind → ℕ → Type 0
-Allowed None w = Unit {0}
-Allowed Mask w = Unit {0}
-Allowed Disp w = Unit {0}
-Allowed Reg w = Unit {0}
-Allowed Arg4 w = Unit {0}
-Allowed Arg6 w = Unit {0}
-Allowed Count w = Unit {0}
-Allowed High w = Unit {0}
-Allowed Mid w = Unit {0}
-Allowed Dst w = Unit {0}
-Allowed Addr w = 8 ≤ w % 64
-Allowed Src w = Unit {0}
-Allowed Word w = isReserved w ≡ true
+use Rattle.optext.proofs.Laws.Back.{hex-back, reg-high, digit-low, digit-high, plain-sign, addressed-same}
+use Rattle.optext.proofs.Laws.Reserved.{from-same, from-ok, from-digits}
+use Rattle.optext.proofs.Laws.Inside.{Allowed, PartOk}
+use Rattle.optext.proofs.Laws.Pieces.{unHex-lt, near-hex1, near-digits, near-count, near-hex4, near-reg, near-up, unReg-lt}
 
 -- the text of the operand that is read
 abbrev pub again : Kind → Operand → List ℕ
 again k o = operandText k (o .part) (o .word)
-
-abbrev pub PartOk : Kind → ℕ → Type 0
-PartOk None a = a ≡ 0
-PartOk Mask a = a ≡ 0
-PartOk Disp a = a < 256
-PartOk Reg a = a < 8
-PartOk Arg4 a = a < 16
-PartOk Arg6 a = a < 64
-PartOk Count a = a < 16
-PartOk High a = (a / 64 * 64 ≡ a) × (a < 512)
-PartOk Mid a = (a / 8 * 8 ≡ a) × (a < 64)
-PartOk Dst a = a < 64
-PartOk Addr a = (8 ≤ a) × (a < 64)
-PartOk Src a = (a / 64 * 64 ≡ a) × (a < 4096)
-PartOk Word a = (isReserved a ≡ true) × (a < 65536)
 
 notPc-lt : (r : ℕ) → r < 8 → notPc r < 7
 unfolding notPc
@@ -366,9 +336,7 @@ pub near-operand : (k : Kind) (t : List ℕ) (w x : ℕ) → w < 65536 → x < 6
 near-operand None t w x g l a = near-nil t
 near-operand Mask t w x g l a = near-hex4 t x l
 near-operand Disp t w x g l a =
-    let h = hex2-lt t in
-    let e : unHex2 t % 256 ≡ unHex2 t = omega arith in
-    rw e (near-hex2 t (w % 256) (omega arith))
+    near-digits 256 t (w % 256) (omega arith) refl (omega arith)
 near-operand Reg t w x g l a =
     let h = unReg-lt (getD t 0 0) (getD t 1 0) in
     let e : unReg (getD t 0 0) (getD t 1 0) % 8 ≡ unReg (getD t 0 0) (getD t 1 0) = omega arith in
@@ -379,7 +347,7 @@ near-operand Arg4 t w x g l a =
     rw e (near-hex1 t (w % 16) (omega arith))
 near-operand Arg6 t w x g l a =
     let e : unHex2 t % 64 % 64 ≡ unHex2 t % 64 = omega arith in
-    rw e (near-arg6 t (w % 64) (omega arith))
+    rw e (near-digits 64 t (w % 64) (omega arith) refl (omega arith))
 near-operand Count t w x g l a =
     let h = count-lt t in
     let e : unCount t % 16 ≡ unCount t = omega arith in
@@ -399,9 +367,9 @@ near-operand Dst t w x g l a =
 near-operand Addr t w x g l a =
     let h = addressed-ok (unMode t .part) (mode-lt t) .1 in
     let e : addressed (unMode t .part) % 64 ≡ addressed (unMode t .part) = omega arith in
-    rw e (near-addr t (w % 64) x a (omega arith) l)
+    rw e (near-addr t (w % 64) x (a .0 tt) (omega arith) l)
 near-operand Src t w x g l a =
     let h = mode-lt t in
     let e : unMode t .part * 64 / 64 % 64 ≡ unMode t .part = omega arith in
     rw e (near-mode t (w / 64 % 64) x (omega arith) l)
-near-operand Word t w x g l a = near-word w g a t
+near-operand Word t w x g l a = near-word w g (a .1 tt) t

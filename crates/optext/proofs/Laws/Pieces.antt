@@ -1,9 +1,11 @@
 -- Each piece of the guess is the nearest of its kind to the text it is read from.
-use mathlib.Core.Path.{_≡_, refl, sym, subst}
+use mathlib.Core.Path.{_≡_, refl, ap, sym, subst}
+use mathlib.Core.Bool.{cond}
 use mathlib.Core.Logic.{_⊎_, ⊎-elim}
 use mathlib.Core.List.{List, [], _∷_}
-use Prim.Native.Nat.{ℕ, _+_, _-_, _*_, _/_, _%_, _<_}
+use Prim.Native.Nat.{ℕ, _+_, _*_, _/_, _%_, _<_, _-_, _≤_}
 use native.Mathlib.Omega.{arith}
+use native.Mathlib.Nat.{mod-eq-of-lt}
 use lib.Dec.{eqb, eqb→eq}
 use borrow.Author.Tests.{eq-eqb, ne-eqb, lt-ltb, le-ltb}
 use lib.ListN.{drop, getD}
@@ -14,8 +16,8 @@ use Rattle.optext.specs.Line.{registers, regA, regB, regText}
 use Rattle.optext.specs.Guess.{unCount, unReg, notPc}
 use Rattle.optext.proofs.Laws.Choose.{eq-cases, lt-cases, at}
 use Rattle.optext.proofs.Laws.Near.{Near}
-use Rattle.optext.proofs.Laws.Near.{near-nil, near-next, near-at, near-refl}
-use Rattle.optext.proofs.Laws.Back.{hex-back, reg-back}
+use Rattle.optext.proofs.Laws.Near.{near-nil, near-next, near-at}
+use Rattle.optext.proofs.Laws.Back.{hex-back, count-back, reg-back}
 
 pub unHex-lt : (c : ℕ) → unHex c < 16
 unfolding unHex
@@ -32,44 +34,20 @@ pub near-digit : (t : List ℕ) (d : ℕ) → d < 16 → (s : List ℕ) (q : Lis
 near-digit t d h s q n =
     near-at t (hexOf d) s (λ (l : List ℕ). hexOf (unHex (getD l 0 0)) ∷ q (drop 1 l)) (λ u. rw (hex-back d h) (near-next u (hexOf d) s (q u) (n u)))
 
-one : List ℕ → List ℕ
+abbrev one : List ℕ → List ℕ
 one t = hexOf (unHex (getD t 0 0)) ∷ []
 
-two : List ℕ → List ℕ
+abbrev two : List ℕ → List ℕ
 two t = hexOf (unHex (getD t 0 0)) ∷ one (drop 1 t)
 
-four : List ℕ → List ℕ
-four t = hexOf (unHex (getD t 0 0)) ∷ (hexOf (unHex (getD (drop 1 t) 0 0)) ∷ two (drop 1 (drop 1 t)))
+abbrev three : List ℕ → List ℕ
+three t = hexOf (unHex (getD t 0 0)) ∷ two (drop 1 t)
 
-near-one : (t : List ℕ) (d : ℕ) → d < 16 → Near t (hexOf d ∷ []) (one t)
-unfolding one
-near-one t d h = near-digit t d h [] (λ l. []) near-nil
+pub near-hex1 : (t : List ℕ) (d : ℕ) → d < 16 → Near t (hexOf d ∷ []) (one t)
+near-hex1 t d h = near-digit t d h [] (λ l. []) near-nil
 
-near-two : (t : List ℕ) (a b : ℕ) → a < 16 → b < 16 → Near t (hexOf a ∷ hexOf b ∷ []) (two t)
-unfolding two
-near-two t a b h k = near-digit t a h (hexOf b ∷ []) one (λ u. near-one u b k)
-
-near-four : (t : List ℕ) (a b c d : ℕ) → a < 16 → b < 16 → c < 16 → d < 16 → Near t (hexOf a ∷ hexOf b ∷ hexOf c ∷ hexOf d ∷ []) (four t)
-unfolding four
-near-four t a b c d h k l m =
-    near-digit t a h (hexOf b ∷ hexOf c ∷ hexOf d ∷ []) (λ u. hexOf (unHex (getD u 0 0)) ∷ two (drop 1 u)) (λ u.
-    near-digit u b k (hexOf c ∷ hexOf d ∷ []) two (λ v. near-two v c d l m))
-
-pub near-hex1 : (t : List ℕ) (d : ℕ) → d < 16 → Near t (hexOf d ∷ []) (hexOf (unHex (getD t 0 0)) ∷ [])
-unfolding one
-near-hex1 t d h = near-one t d h
-
-two-is : (t : List ℕ) → hex2 (unHex2 t) ≡ two t
-unfolding hex2 unHex2 two one
-two-is t =
-    let a = unHex-lt (getD t 0 0) in
-    let b = unHex-lt (getD t 1 0) in
-    let p : (unHex (getD t 0 0) * 16 + unHex (getD t 1 0)) / 16 ≡ unHex (getD t 0 0) = omega arith in
-    let q : (unHex (getD t 0 0) * 16 + unHex (getD t 1 0)) % 16 ≡ unHex (getD t 1 0) = omega arith in
-    rw (p, q, getD-drop 1 t 0 0) refl
-
-four-is : (t : List ℕ) → hex4 (unHex4 t) ≡ four t
-unfolding hex4 unHex4 four two one
+four-is : (t : List ℕ) → hex4 (unHex4 t) ≡ hexOf (unHex (getD t 0 0)) ∷ three (drop 1 t)
+unfolding hex4 unHex4
 four-is t =
     let x : ℕ = unHex (getD t 0 0) * 4096 + unHex (getD t 1 0) * 256 + unHex (getD t 2 0) * 16 + unHex (getD t 3 0) in
     let a = unHex-lt (getD t 0 0) in
@@ -82,61 +60,42 @@ four-is t =
     let s : x % 16 ≡ unHex (getD t 3 0) = omega arith in
     rw (p, q, r, s, getD-drop 1 (drop 1 (drop 1 t)) 0 0, getD-drop 1 (drop 1 t) 1 0, getD-drop 1 t 2 0, getD-drop 1 (drop 1 t) 0 0, getD-drop 1 t 1 0, getD-drop 1 t 0 0) refl
 
-pub near-hex2 : (t : List ℕ) (x : ℕ) → x < 256 → Near t (hex2 x) (hex2 (unHex2 t))
-unfolding hex2
-near-hex2 t x h = rw (two-is t) (near-two t (x / 16) (x % 16) (omega arith) (omega arith))
-
 pub near-hex4 : (t : List ℕ) (x : ℕ) → x < 65536 → Near t (hex4 x) (hex4 (unHex4 t))
 unfolding hex4
-near-hex4 t x h = rw (four-is t) (near-four t (x / 4096) (x / 256 % 16) (x / 16 % 16) (x % 16) (omega arith) (omega arith) (omega arith) (omega arith))
+near-hex4 t x h =
+    rw (four-is t)
+    (near-digit t (x / 4096) (omega arith) _ three (λ u. near-digit u (x / 256 % 16) (omega arith) _ two (λ v.
+    near-digit v (x / 16 % 16) (omega arith) _ one (λ r. near-hex1 r (x % 16) (omega arith)))))
 
--- two digits of which the first is at most 3
-pub near-arg6 : (t : List ℕ) (x : ℕ) → x < 64 → Near t (hex2 x) (hex2 (unHex2 t % 64))
+-- two characters A and B of a number, which un reads: whatever stands second, the first is kept
+near-pair : (A B : ℕ → ℕ) (un : ℕ → ℕ → ℕ) (t : List ℕ) (v : ℕ) → ((b : ℕ) → A (un (A v) b) ≡ A v) → un (A v) (B v) ≡ v
+    → Near t (A v ∷ B v ∷ []) (A (un (getD t 0 0) (getD t 1 0)) ∷ B (un (getD t 0 0) (getD t 1 0)) ∷ [])
+near-pair A B un t v f g =
+    near-at t (A v) (B v ∷ []) (λ (l : List ℕ). A (un (getD l 0 0) (getD l 1 0)) ∷ B (un (getD l 0 0) (getD l 1 0)) ∷ []) (λ u.
+    rw (f (getD u 0 0)) (near-next u (A v) (B v ∷ []) (B (un (A v) (getD u 0 0)) ∷ [])
+    (near-at u (B v) [] (λ (l : List ℕ). B (un (A v) (getD l 0 0)) ∷ []) (λ r. rw g (near-next r (B v) [] [] (near-nil r))))))
+
+-- two digits of a number below n, a multiple of 16
+pub near-digits : (n : ℕ) (t : List ℕ) (x : ℕ) → x < n → n % 16 ≡ 0 → n ≤ 256 → Near t (hex2 x) (hex2 (unHex2 t % n))
 unfolding hex2 unHex2
-near-arg6 t x h =
-    near-at t (hexOf (x / 16)) (hexOf (x % 16) ∷ []) (λ (l : List ℕ). hexOf ((unHex (getD l 0 0) * 16 + unHex (getD l 1 0)) % 64 / 16) ∷ hexOf ((unHex (getD l 0 0) * 16 + unHex (getD l 1 0)) % 64 % 16) ∷ []) (λ u.
-    rw (hex-back (x / 16) (omega arith)) (
-    let b = unHex-lt (getD u 0 0) in
-    let p : (x / 16 * 16 + unHex (getD u 0 0)) % 64 / 16 ≡ x / 16 = omega arith in
-    let q : (x / 16 * 16 + unHex (getD u 0 0)) % 64 % 16 ≡ unHex (getD u 0 0) = omega arith in
-    rw (p, q) (near-next u (hexOf (x / 16)) (hexOf (x % 16) ∷ []) (hexOf (unHex (getD u 0 0)) ∷ []) (near-hex1 u (x % 16) (omega arith)))))
+near-digits n t x h e l =
+    near-pair (λ d. hexOf (d / 16)) (λ d. hexOf (d % 16)) (λ a b. (unHex a * 16 + unHex b) % n) t x
+    (λ b. let c = unHex-lt b in
+    let m : (x / 16 * 16 + unHex b) % n ≡ x / 16 * 16 + unHex b = mod-eq-of-lt (omega arith) in
+    rw (hex-back (x / 16) (omega arith), m) (ap hexOf (omega arith)))
+    (rw (hex-back (x / 16) (omega arith), hex-back (x % 16) (omega arith)) (let m : x / 16 * 16 + x % 16 ≡ x = omega arith in rw m (mod-eq-of-lt h)))
 
 -- 01 to 10
-count-0 : (u : List ℕ) → hex2 (unCount (48 ∷ u) + 1) ≡ 48 ∷ hexOf (unHex (getD u 0 0) - 1 + 1) ∷ []
-unfolding hex2 unCount hexOf digits
-count-0 u =
-    let b = unHex-lt (getD u 0 0) in
-    let p : (unHex (getD u 0 0) - 1 + 1) / 16 ≡ 0 = omega arith in
-    let q : (unHex (getD u 0 0) - 1 + 1) % 16 ≡ unHex (getD u 0 0) - 1 + 1 = omega arith in
-    rw (p, q) refl
-
-low-count : (d : ℕ) → d < 15 → hex2 (d + 1) ≡ 48 ∷ hexOf (d + 1) ∷ []
-unfolding hex2 hexOf digits
-low-count d h =
-    let p : (d + 1) / 16 ≡ 0 = omega arith in
-    let q : (d + 1) % 16 ≡ d + 1 = omega arith in
-    rw (p, q) refl
-
-near-low : (t : List ℕ) (d : ℕ) → d < 15 → Near t (48 ∷ hexOf (d + 1) ∷ []) (hex2 (unCount t + 1))
-near-low t d h =
-    near-at t 48 (hexOf (d + 1) ∷ []) (λ (l : List ℕ). hex2 (unCount l + 1)) (λ u. rw (count-0 u) (
-    near-next u 48 (hexOf (d + 1) ∷ []) (hexOf (unHex (getD u 0 0) - 1 + 1) ∷ [])
-    (near-at u (hexOf (d + 1)) [] (λ (l : List ℕ). hexOf (unHex (getD l 0 0) - 1 + 1) ∷ []) (λ v. rw (hex-back (d + 1) (omega arith)) (
-    let e : d + 1 - 1 + 1 ≡ d + 1 = omega arith in
-    rw e (near-next v (hexOf (d + 1)) [] [] (near-nil v)))))))
-
-near-high : (t : List ℕ) → Near t (49 ∷ 48 ∷ []) (hex2 (unCount t + 1))
-unfolding unCount hex2 hexOf digits
-near-high t = near-at t 49 (48 ∷ []) (λ (l : List ℕ). hex2 (unCount l + 1)) (λ u. near-refl (49 ∷ u) (49 ∷ 48 ∷ []))
-
-sixteen : hex2 (15 + 1) ≡ 49 ∷ 48 ∷ []
-unfolding hex2 hexOf digits
-sixteen = refl
-
 pub near-count : (t : List ℕ) (d : ℕ) → d < 16 → Near t (hex2 (d + 1)) (hex2 (unCount t + 1))
+unfolding hex2 unCount hexOf digits
 near-count t d h =
-    ⊎-elim (λ l. rw (low-count d l) (near-low t d l)) (λ l. let e : d ≡ 15 = omega arith in
-    subst (λ (d : ℕ). Near t (hex2 (d + 1)) (hex2 (unCount t + 1))) (sym e) (rw sixteen (near-high t))) (lt-cases d 15)
+    near-pair (λ d. hexOf ((d + 1) / 16)) (λ d. hexOf ((d + 1) % 16)) (λ a b. cond (eqb a 49) 15 (unHex b - 1)) t d (λ b. kept b) (count-back d [] h)
+  where
+    kept : (b : ℕ) → hexOf ((cond (eqb (hexOf ((d + 1) / 16)) 49) 15 (unHex b - 1) + 1) / 16) ≡ hexOf ((d + 1) / 16)
+    kept b =
+        let c = unHex-lt b in
+        ⊎-elim (λ l. let e : (d + 1) / 16 ≡ 0 = omega arith in let f : (unHex b - 1 + 1) / 16 ≡ 0 = omega arith in rw (e, f) refl)
+        (λ l. let e : (d + 1) / 16 ≡ 1 = omega arith in rw e refl) (lt-cases d 15)
 
 -- registers: whatever stands second, the first letter is kept
 reg-R : (r : ℕ) → r < 6 → regA r ≡ 82
@@ -180,18 +139,10 @@ up-back : (r : ℕ) → r < 7 → notPc (unReg (regA r) (regB r)) ≡ r
 unfolding notPc
 up-back r h = rw (reg-back r (omega arith), ne-eqb r 7 (λ e. omega arith)) refl
 
--- a register as un reads it
-near-reg-by : (un : ℕ → ℕ → ℕ) (t : List ℕ) (r : ℕ) → ((b : ℕ) → regA (un (regA r) b) ≡ regA r) → un (regA r) (regB r) ≡ r
-    → Near t (regText r) (regText (un (getD t 0 0) (getD t 1 0)))
-unfolding regText
-near-reg-by un t r f g =
-    near-at t (regA r) (regB r ∷ []) (λ (l : List ℕ). regA (un (getD l 0 0) (getD l 1 0)) ∷ regB (un (getD l 0 0) (getD l 1 0)) ∷ []) (λ u.
-    rw (f (getD u 0 0)) (near-next u (regA r) (regB r ∷ []) (regB (un (regA r) (getD u 0 0)) ∷ [])
-    (near-at u (regB r) [] (λ (l : List ℕ). regB (un (regA r) (getD l 0 0)) ∷ []) (λ v.
-    rw g (near-next v (regB r) [] [] (near-nil v))))))
-
 pub near-reg : (t : List ℕ) (r : ℕ) → r < 8 → Near t (regText r) (regText (unReg (getD t 0 0) (getD t 1 0)))
-near-reg t r h = near-reg-by unReg t r (λ b. reg-first r b h) (reg-back r h)
+unfolding regText
+near-reg t r h = near-pair regA regB unReg t r (λ b. reg-first r b h) (reg-back r h)
 
 pub near-up : (t : List ℕ) (r : ℕ) → r < 7 → Near t (regText r) (regText (notPc (unReg (getD t 0 0) (getD t 1 0))))
-near-up t r h = near-reg-by (λ a b. notPc (unReg a b)) t r (λ b. up-first r b h) (up-back r h)
+unfolding regText
+near-up t r h = near-pair regA regB (λ a b. notPc (unReg a b)) t r (λ b. up-first r b h) (up-back r h)

@@ -11,7 +11,7 @@ use lib.ListN.{length, take, drop, getD, length-append, List·getD-append}
 use Rattle.hexdigits.specs.Digits.{letters, hex4}
 use Rattle.optext.specs.Digits.{unHex4}
 use Rattle.optext.specs.Rows.{wordRow, rowCount, rows, theRow, nameOf, firstOf, secondOf}
-use Rattle.optext.specs.Line.{rowOf, takes, taken, sepText, opText, textOf, wordText}
+use Rattle.optext.specs.Line.{isReserved, rowOf, takes, taken, sepText, opText, textOf, wordText}
 use Rattle.optext.specs.Guess.{rowFor, guessA, guessB, guessOf}
 use Rattle.refusal.specs.Page.{answered}
 use Rattle.optext.specs.Column.{Whole, IsText}
@@ -20,7 +20,7 @@ use Rattle.optext.specs.Read.{sameText, readFrom, wordsOfText}
 use Rattle.optext.proofs.Laws.Read.{same-refl, same-eq}
 use Rattle.optext.proofs.Laws.Choose.{at}
 use Rattle.optext.proofs.Laws.Back.{hex4-back}
-use Rattle.optext.proofs.Laws.Trip.{row-lt}
+use Rattle.optext.proofs.Laws.Reserved.{row-lt}
 use Rattle.optext.proofs.Laws.Furthest.{lt-w, lt-x, lt-y}
 use Rattle.optext.proofs.Laws.Meets.{text-words, whole-words}
 use Rattle.optext.proofs.Laws.Columns.{guessLine}
@@ -147,7 +147,7 @@ read-origin a = read-refuses t (λ i. no-letter (other i))
 
 -- no characters are no text
 pub read-nothing : wordsOfText [] ≡ []
-unfolding wordsOfText readFrom opText theRow rows rowOf guessOf rowFor guessA guessB
+unfolding wordsOfText readFrom opText theRow rows rowOf isReserved guessOf rowFor guessA guessB
 read-nothing = refl
 
 -- the writer's .WORD of any word is the name and four digits

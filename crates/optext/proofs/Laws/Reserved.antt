@@ -3,18 +3,18 @@ use mathlib.Core.Path.{_≡_, refl, sym, _∙_, subst}
 use mathlib.Core.Bool.{Bool, true, false, cond}
 use mathlib.Core.Logic.{⊎-elim}
 use mathlib.Core.List.{List, [], _∷_}
-use Prim.Native.Nat.{ℕ, zero, suc, _+_, _-_, _*_, _/_, _%_, _≤_, _<_}
+use Prim.Native.Nat.{ℕ, zero, suc, _+_, _*_, _/_, _%_, _≤_, _<_, _-_}
 use native.Mathlib.Omega.{arith}
 use lib.Dec.{T, ltb, leb, eqb, eqb→eq, leb→le}
-use borrow.Author.Tests.{eq-eqb, ne-eqb, eqb-true, lt-ltb, le-ltb, le-leb, lt-leb}
-use lib.ListN.{length, getD}
-use Rattle.optext.specs.declared.rows.Kind.{Kind}
-use Rattle.optext.specs.declared.rows.Kind.the-variants.{None, Mask, Disp, Reg, Arg4, Arg6, Count, High, Mid, Dst, Addr, Src, Word}
-use Rattle.optext.specs.Rows.{Row, rowCount, wordRow, rows, theRow, noRow, baseOf, firstOf, secondOf}
-use Rattle.optext.specs.Line.{addressed, fieldOf, fitsRow, rowOf, isReserved, reservedFrom}
-use Rattle.optext.proofs.Laws.Choose.{no, eq-cases, bool-cases, lt-cases, both, both-left, both-right, first-at}
-use Rattle.optext.proofs.Laws.Table.{row-count}
-use Rattle.optext.proofs.Laws.Shapes.{Pairs, by-kinds, fit-at}
+use borrow.Author.Tests.{eq-eqb, ne-eqb, eqb-true, le-leb, lt-leb}
+use lib.ListN.{length, take, getD}
+use lib.Seq.{getD-take}
+use Rattle.optext.specs.First.{firstFrom}
+use Rattle.optext.specs.Rows.{Row, placeOf, rowCount, wordRow, rows, theRow, noRow, baseOf, firstOf, secondOf}
+use Rattle.optext.specs.Line.{fieldOf, isReserved, fitsRow, rowOf}
+use Rattle.optext.specs.Guess.{reservedFrom}
+use Rattle.optext.proofs.Laws.Choose.{no, eq-cases, bool-cases, lt-cases, both, both-left, both-right, first-le, first-hit, first-at}
+use Rattle.optext.proofs.Laws.Places.{block, grows, row-fit}
 
 -- the two kinds of reserved words
 pub reserved-elim : (w : ℕ) (P : Type 0) → isReserved w ≡ true → (240 ≤ w / 256 → P) → (w / 1024 ≡ 28 → w / 8 % 8 ≡ 0 → P) → P
@@ -36,105 +36,55 @@ pub reserved-mode : (w : ℕ) → w / 1024 ≡ 28 → w / 8 % 8 ≡ 0 → isRese
 unfolding isReserved
 reserved-mode w e f = rw (lt-leb 240 (w / 256) (omega arith), eq-eqb (w / 1024) 28 e, eq-eqb (w / 8 % 8) 0 f) refl
 
-pub addressed-same : (f : ℕ) → 8 ≤ f → addressed f ≡ f
-unfolding addressed
-addressed-same f h = rw (le-ltb f 8 h) refl
+-- the row of a word, by the two ways of its definition
+module _ (w : ℕ) where
+  pub row-word : isReserved w ≡ true → rowOf w ≡ wordRow
+  unfolding rowOf
+  row-word e = rw e refl
 
-addressed-8 : (f : ℕ) → f < 8 → addressed f ≡ 8
-unfolding addressed
-addressed-8 f h = rw (lt-ltb f 8 h) refl
+  pub row-found : isReserved w ≡ false → rowOf w ≡ firstFrom (fitsRow w) wordRow 0
+  unfolding rowOf
+  row-found e = rw e refl
 
--- The words of a row stand in blocks. A block begins at a multiple of its size, and the row that makes its first word makes all of it: the size is a product over the operands.
-abbrev low : Kind → ℕ
-low None = 1
-low Mask = 1
-low Disp = 256
-low Reg = 8
-low Arg4 = 16
-low Arg6 = 64
-low Count = 16
-low High = 1
-low Mid = 8
-low Dst = 64
-low Addr = 8
-low Src = 64
-low Word = 0
+  pub row-lt : rowOf w < rowCount
+  row-lt =
+      ⊎-elim (λ e. rw (row-found e) (let h = first-le (fitsRow w) wordRow 0 in omega arith)) (λ e. rw (row-word e) (omega arith)) (bool-cases (isReserved w))
 
-abbrev Grows : Kind → Kind → ℕ → Type 0
-Grows f s n =
-    (z d : ℕ) → z % (low f * low s) ≡ 0 → d < low f * low s → n + fieldOf f z + fieldOf s z ≡ z → n + fieldOf f (z + d) + fieldOf s (z + d) ≡ z + d
+  -- a word is the base op code of its row with the operands in it
+  last : w < 65536 → rowOf w ≡ wordRow → baseOf (rowOf w) + fieldOf (firstOf (rowOf w)) w + fieldOf (secondOf (rowOf w)) w ≡ w
+  unfolding theRow rows
+  last l e = rw e (omega arith)
 
-low-6 : (w : ℕ) → w / 8 % 8 * 8 + w % 8 ≡ w % 64
-low-6 w = let e : w / 8 % 8 ≡ w % 64 / 8 = omega arith in let f : w % 8 ≡ w % 64 % 8 = omega arith in rw (e, f) (omega arith)
+  found : isReserved w ≡ false → firstFrom (fitsRow w) wordRow 0 < wordRow → baseOf (rowOf w) + fieldOf (firstOf (rowOf w)) w + fieldOf (secondOf (rowOf w)) w ≡ w
+  found e h = rw (row-found e) (eqb-true _ w (first-hit (fitsRow w) wordRow 0 (omega arith)))
 
-low-12 : (w : ℕ) → w / 64 % 64 * 64 + w % 64 ≡ w % 4096
-low-12 w = let e : w / 64 % 64 ≡ w % 4096 / 64 = omega arith in let f : w % 64 ≡ w % 4096 % 64 = omega arith in rw (e, f) (omega arith)
-
-same-64 : (z d : ℕ) → z % 64 + d < 64 → ((z + d) / 64 ≡ z / 64) × ((z + d) % 64 ≡ z % 64 + d)
-same-64 z d h = (omega arith, omega arith)
-
-grows : Pairs Grows
-grows = record {
-  none = λ n z d a h e. omega arith;
-  mask = λ n z d a h e. omega arith;
-  disp = λ n q z d a h e. omega arith;
-  reg = λ n q z d a h e. omega arith;
-  arg4 = λ n q z d a h e. omega arith;
-  arg6 = λ n q z d a h e. omega arith;
-  count-high = λ n q p z d a h e. let s = same-64 z d (room-16 z d a h) in let t : (z + d) % 16 ≡ d = omega arith in rw (s .0, t) (omega arith);
-  high-count = λ n q p z d a h e. let s = same-64 z d (room-16 z d a h) in let t : (z + d) % 16 ≡ d = omega arith in rw (s .0, t) (omega arith);
-  high-dst = λ n q p z d a h e. let s = same-64 z d (omega arith) in rw (s .0, s .1) (omega arith);
-  high-addr = λ n q p z d a h e. address n z d q a h e;
-  high-arg6 = λ n q p z d a h e. let s = same-64 z d (omega arith) in rw (s .0, s .1) (omega arith);
-  mid-reg = λ n q z d a h e. joined n z d (z / 8 % 8 * 8) (z % 8) (z % 64) ((z + d) / 8 % 8 * 8) ((z + d) % 8) ((z + d) % 64) (low-6 z) (low-6 (z + d)) a (omega arith) e;
-  dst = λ n q z d a h e. omega arith;
-  src-dst = λ n q z d a h e. joined n z d (z / 64 % 64 * 64) (z % 64) (z % 4096) ((z + d) / 64 % 64 * 64) ((z + d) % 64) ((z + d) % 4096) (low-12 z) (low-12 (z + d)) a (omega arith) e;
-  word = λ n q z d a h e. absurd (omega arith);
-}
-  where
-    -- two fields that are one: a and b make s at z, a' and b' make s' at z + d
-    joined : (n z d a b s a' b' s' : ℕ) → a + b ≡ s → a' + b' ≡ s' → s ≡ 0 → s' ≡ d → n + a + b ≡ z → n + a' + b' ≡ z + d
-    joined n z d a b s a' b' s' p q e f g = omega arith
-
-    room-16 : (z d : ℕ) → z % 16 ≡ 0 → d < 16 → z % 64 + d < 64
-    room-16 z d a h = let e : z % 64 % 16 ≡ 0 = omega arith in omega arith
-
-    room-8 : (z d : ℕ) → z % 8 ≡ 0 → d < 8 → z % 64 + d < 64
-    room-8 z d a h = let e : z % 64 % 8 ≡ 0 = omega arith in omega arith
-
-    mode-0 : (n z : ℕ) → n % 64 ≡ 0 → z % 64 < 8 → z % 8 ≡ 0 → n + z / 64 % 8 * 64 + addressed (z % 64) ≡ z → ⊥
-    mode-0 n z q l a e = let f = addressed-8 (z % 64) l in let g : z % 64 ≡ z % 8 = omega arith in omega arith
-
-    address : (n z d : ℕ) → n % 64 ≡ 0 → z % 8 ≡ 0 → d < 8 → n + z / 64 % 8 * 64 + addressed (z % 64) ≡ z → n + (z + d) / 64 % 8 * 64 + addressed ((z + d) % 64) ≡ z + d
-    address n z d q a h e =
-        ⊎-elim (λ l. absurd (mode-0 n z q l a e)) (λ l.
-        let s = same-64 z d (room-8 z d a h) in
-        let f = addressed-same (z % 64) l in
-        let g = addressed-same (z % 64 + d) (omega arith) in
-        rw (s .0, s .1, g) (omega arith)) (lt-cases (z % 64) 8)
+  pub word-back : w < 65536 → baseOf (rowOf w) + fieldOf (firstOf (rowOf w)) w + fieldOf (secondOf (rowOf w)) w ≡ w
+  word-back l =
+      ⊎-elim (λ e. ⊎-elim (found e) (λ h. last l (row-found e ∙ (let g = first-le (fitsRow w) wordRow 0 in omega arith))) (lt-cases (firstFrom (fitsRow w) wordRow 0) wordRow))
+      (λ e. last l (row-word e)) (bool-cases (isReserved w))
 
 abbrev fitsIn : ℕ → Row → Bool
 fitsIn z r = eqb (r .base + fieldOf (r .first) z + fieldOf (r .second) z) z
 
 abbrev blockOf : Row → ℕ
-blockOf r = low (r .first) * low (r .second)
+blockOf r = block (placeOf (r .first)) (placeOf (r .second)) (r .base)
 
 -- the size of the block that begins at z
 abbrev blockIn : List Row → ℕ → ℕ
 blockIn [] z = 0
 blockIn (r ∷ rs) z = cond (fitsIn z r) (blockOf r) (blockIn rs z)
 
--- reserved words stand in blocks of 8
-abbrev strideAt : ℕ → ℕ
-strideAt z = cond (isReserved z) 8 (blockIn rows z)
+-- all rows but the last
+abbrev pub codes : List Row
+codes = take wordRow rows
 
--- from z on, n blocks one after the other cover all words
+-- from z on, n blocks one after the other cover all words below format 11
 abbrev covered : ℕ → ℕ → Bool
-covered zero z = leb 65536 z
-covered (suc n) z = cond (leb 65536 z) true (both (ltb 0 (strideAt z)) (both (eqb (z % strideAt z) 0) (covered n (z + strideAt z))))
+covered zero z = leb 0xF000 z
+covered (suc n) z = cond (leb 0xF000 z) true (both (ltb 0 (blockIn codes z)) (both (eqb (z % blockIn codes z) 0) (covered n (z + blockIn codes z))))
 
-all-covered : T (covered 1000 0)
-unfolding isReserved reservedFrom addressed rows
+all-covered : T (covered 300 0)
+unfolding rows
 all-covered = tt
 
 -- the row that makes the block at z, where z + d is in the block
@@ -145,9 +95,9 @@ record Block (rs : List Row) (z d : ℕ) : Type 0 where
   within : d < blockOf (getD rs row noRow)
   even : z % blockOf (getD rs row noRow) ≡ 0
 
-block : (rs : List Row) (z d : ℕ) → d < blockIn rs z → z % blockIn rs z ≡ 0 → Block rs z d
-block [] z d h e = absurd (omega arith)
-block (r ∷ rs) z d h e = go (λ p q. block rs z d p q) (fitsIn z r) refl h e
+block-at : (rs : List Row) (z d : ℕ) → d < blockIn rs z → z % blockIn rs z ≡ 0 → Block rs z d
+block-at [] z d h e = absurd (omega arith)
+block-at (r ∷ rs) z d h e = go (λ p q. block-at rs z d p q) (fitsIn z r) refl h e
   where
     later : Block rs z d → Block (r ∷ rs) z d
     later b = record { row = suc (b .row); lt = let l = b .lt in omega arith; fits = b .fits; within = b .within; even = b .even }
@@ -157,61 +107,48 @@ block (r ∷ rs) z d h e = go (λ p q. block rs z d p q) (fitsIn z r) refl h e
     go f true q h e = record { row = 0; lt = omega arith; fits = subst (λ (b : Bool). T b) (sym q) tt; within = h; even = e }
     go f false q h e = later (f h e)
 
-not-last : (k z d : ℕ) → k ≡ wordRow → d < blockOf (theRow k) → ⊥
-unfolding theRow rows
-not-last k z d e h = subst (λ (k : ℕ). d < blockOf (theRow k) → ⊥) (sym e) (λ l. omega arith) h
+pub few : length codes ≡ wordRow
+unfolding rows
+few = refl
 
-in-block : (z d : ℕ) → d < blockIn rows z → z % blockIn rows z ≡ 0 → rowOf (z + d) < wordRow
-unfolding rowOf theRow
+in-block : (z d : ℕ) → d < blockIn codes z → z % blockIn codes z ≡ 0 → firstFrom (fitsRow (z + d)) wordRow 0 < wordRow
+unfolding theRow
 in-block z d h e =
-    let b = block rows z d h e in
+    let b = block-at codes z d h e in
     let k : ℕ = b .row in
-    let l : k < rowCount = rw row-count at (b .lt) in
-    let f : baseOf k + fieldOf (firstOf k) z + fieldOf (secondOf k) z ≡ z = eqb→eq (baseOf k + fieldOf (firstOf k) z + fieldOf (secondOf k) z) z (b .fits) in
-    let g = by-kinds Grows grows (firstOf k) (secondOf k) (baseOf k) (fit-at k l) z d (b .even) (b .within) f in
-    ⊎-elim (λ m. absurd (not-last k z d m (b .within))) (λ m.
+    let l : k < wordRow = rw few at (b .lt) in
+    let r : getD codes k noRow ≡ theRow k = getD-take wordRow rows k noRow l in
+    let f : T (fitsIn z (theRow k)) = rw r at (b .fits) in
+    let m : z % blockOf (theRow k) ≡ 0 = rw r at (b .even) in
+    let n : d < blockOf (theRow k) = rw r at (b .within) in
+    let g = grows (placeOf (firstOf k)) (placeOf (secondOf k)) (baseOf k) (row-fit k (omega arith)) z d m n (eqb→eq (baseOf k + fieldOf (firstOf k) z + fieldOf (secondOf k) z) z f) in
     let i = first-at (fitsRow (z + d)) wordRow 0 k (omega arith) (omega arith) (eq-eqb (baseOf k + fieldOf (firstOf k) (z + d) + fieldOf (secondOf k) (z + d)) (z + d) g) in
-    omega arith) (eq-cases k wordRow)
-
-reserved-block : (z d : ℕ) → isReserved z ≡ true → z % 8 ≡ 0 → d < 8 → isReserved (z + d) ≡ true
-reserved-block z d r a h =
-    reserved-elim z (isReserved (z + d) ≡ true) r (λ e. reserved-high (z + d) (omega arith)) (λ e m.
-    let q : (z + d) / 8 ≡ z / 8 = omega arith in
-    reserved-mode (z + d) (omega arith) (rw q m))
+    omega arith
 
 -- a first word that is neither reserved nor illegal has a row of its own
-has-from : (n z w : ℕ) → T (covered n z) → z ≤ w → w < 65536 → isReserved w ≡ false → rowOf w < wordRow
-has-from zero z w t l h r = absurd (let g = leb→le 65536 z t in omega arith)
-has-from (suc n) z w t l h r = go (λ u m. has-from n (z + strideAt z) w u m h r) (leb 65536 z) refl t
+has-from : (n z w : ℕ) → T (covered n z) → z ≤ w → w < 0xF000 → firstFrom (fitsRow w) wordRow 0 < wordRow
+has-from zero z w t l h = absurd (let g = leb→le 0xF000 z t in omega arith)
+has-from (suc n) z w t l h = go (λ u m. has-from n (z + blockIn codes z) w u m h) (leb 0xF000 z) refl t
   where
-    d : ℕ
-    d = w - z
+    here : w - z < blockIn codes z → z % blockIn codes z ≡ 0 → firstFrom (fitsRow w) wordRow 0 < wordRow
+    here k e = let sum : z + (w - z) ≡ w = omega arith in rw sum at (in-block z (w - z) k e)
 
-    sum : z + d ≡ w
-    sum = omega arith
-
-    here : (b : Bool) → isReserved z ≡ b → d < cond b 8 (blockIn rows z) → z % cond b 8 (blockIn rows z) ≡ 0 → rowOf w < wordRow
-    here true q k e = absurd (no (sym (rw sum at (reserved-block z d q e k)) ∙ r))
-    here false q k e = rw sum at (in-block z d k e)
-
-    go : (T (covered n (z + strideAt z)) → z + strideAt z ≤ w → rowOf w < wordRow)
-        → (b : Bool) → leb 65536 z ≡ b → T (cond b true (both (ltb 0 (strideAt z)) (both (eqb (z % strideAt z) 0) (covered n (z + strideAt z))))) → rowOf w < wordRow
-    go f true q t = absurd (let g = leb→le 65536 z (subst (λ (b : Bool). T b) (sym q) tt) in omega arith)
+    go : (T (covered n (z + blockIn codes z)) → z + blockIn codes z ≤ w → firstFrom (fitsRow w) wordRow 0 < wordRow)
+        → (b : Bool) → leb 0xF000 z ≡ b → T (cond b true (both (ltb 0 (blockIn codes z)) (both (eqb (z % blockIn codes z) 0) (covered n (z + blockIn codes z))))) → firstFrom (fitsRow w) wordRow 0 < wordRow
+    go f true q t = absurd (let g = leb→le 0xF000 z (subst (λ (b : Bool). T b) (sym q) tt) in omega arith)
     go f false q t =
-        let u = both-right (ltb 0 (strideAt z)) (both (eqb (z % strideAt z) 0) (covered n (z + strideAt z))) t in
-        let e = eqb→eq (z % strideAt z) 0 (both-left (eqb (z % strideAt z) 0) (covered n (z + strideAt z)) u) in
-        ⊎-elim (λ k. here (isReserved z) refl k e)
-        (λ k. f (both-right (eqb (z % strideAt z) 0) (covered n (z + strideAt z)) u) (omega arith)) (lt-cases d (strideAt z))
+        let u = both-right (ltb 0 (blockIn codes z)) (both (eqb (z % blockIn codes z) 0) (covered n (z + blockIn codes z))) t in
+        let e = eqb→eq (z % blockIn codes z) 0 (both-left (eqb (z % blockIn codes z) 0) (covered n (z + blockIn codes z)) u) in
+        ⊎-elim (λ k. here k e)
+        (λ k. f (both-right (eqb (z % blockIn codes z) 0) (covered n (z + blockIn codes z)) u) (omega arith)) (lt-cases (w - z) (blockIn codes z))
 
 pub has-row : (w : ℕ) → w < 65536 → isReserved w ≡ false → rowOf w < wordRow
-has-row w h r = has-from 1000 0 w all-covered (omega arith) h r
+has-row w h r =
+    rw (row-found w r) (⊎-elim (has-from 300 0 w all-covered (omega arith)) (λ l. absurd (no (sym (reserved-high w (omega arith)) ∙ r))) (lt-cases w 0xF000))
 
 -- so the word of the last row is reserved
 pub last-reserved : (w : ℕ) → w < 65536 → rowOf w ≡ wordRow → isReserved w ≡ true
-last-reserved w h e = ⊎-elim (λ r. absurd (less (has-row w h r) e)) (λ r. r) (bool-cases (isReserved w))
-  where
-    less : rowOf w < wordRow → rowOf w ≡ wordRow → ⊥
-    less h q = omega arith
+last-reserved w h e = ⊎-elim (λ r. absurd (let l = has-row w h r in omega arith)) (λ r. r) (bool-cases (isReserved w))
 
 -- what is read as a word of .WORD: a reserved word is itself
 pub from-same : (w : ℕ) → isReserved w ≡ true → reservedFrom w ≡ w

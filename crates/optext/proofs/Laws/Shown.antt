@@ -14,7 +14,7 @@ use Rattle.optext.specs.Line.{registers, regA, regB, regText, upText, li
 use Rattle.optext.proofs.Laws.Choose.{both, both-left, both-right, at}
 use Rattle.optext.proofs.Laws.Longest.{text-le}
 use Rattle.optext.proofs.Laws.Reader.{any-word-text}
-use Rattle.optext.proofs.Laws.Trip.{row-lt}
+use Rattle.optext.proofs.Laws.Reserved.{row-lt}
 use Rattle.optext.specs.Shown.{other, OtherLetter, Without, none, more, lastLetter, Stands}
 
 -- ---- laws of these

@@ -5,7 +5,7 @@ use mathlib.Core.Logic.{⊎-elim}
 use mathlib.Core.List.{List, [], _∷_, _++_}
 use Prim.Native.Nat.{ℕ, zero, suc, _+_, _*_, _≤_, _<_}
 use native.Mathlib.Omega.{arith}
-use lib.Dec.{T, ltb, leb, eqb, leb→le, ltb→lt}
+use lib.Dec.{T, ltb, leb, eqb, eqb→eq, leb→le, ltb→lt}
 use borrow.Author.Tests.{eq-eqb}
 use lib.ListN.{length, getD, drop, List·getD-append, List·getD-eq-default}
 use lib.Seq.{getD-drop, drop-append-add}
@@ -14,7 +14,7 @@ use Rattle.optext.specs.declared.rows.Kind.the-variants.{None, Mask, Dis
 use Rattle.hexdigits.specs.Digits.{hex4}
 use Rattle.optext.specs.Rows.{Row, rowCount, rowWidth, rows, theRow, noRow, nameOf, baseOf, firstOf, secondOf, rowBytes, tableBytes, letterOf, kindAs}
 use Rattle.optext.specs.Line.{isShown}
-use Rattle.optext.proofs.Laws.Choose.{lt-cases, at}
+use Rattle.optext.proofs.Laws.Choose.{no, lt-cases, at}
 
 -- from a row's place on, the flat table begins with the row
 pub flat-drop : (rs : List Row) (k : ℕ) → k < length rs → drop (k * rowWidth) (tableBytes rs) ≡ rowBytes (getD rs k noRow) ++ drop (k * rowWidth + rowWidth) (tableBytes rs)
@@ -71,6 +71,28 @@ kind-back Dst = refl
 kind-back Addr = refl
 kind-back Src = refl
 kind-back Word = refl
+
+abbrev pub isKind : Kind → Kind → Bool
+isKind z k = eqb (letterOf k) (letterOf z)
+
+pub is-kind : (z k : Kind) → T (isKind z k) → k ≡ z
+is-kind z k t = sym (kind-back k) ∙ ap kindAs (eqb→eq (letterOf k) (letterOf z) t) ∙ kind-back z
+
+-- what is not shown is none
+pub none-is : (k : Kind) → isShown k ≡ false → k ≡ None
+none-is None e = refl
+none-is Mask e = absurd (no e)
+none-is Disp e = absurd (no e)
+none-is Reg e = absurd (no e)
+none-is Arg4 e = absurd (no e)
+none-is Arg6 e = absurd (no e)
+none-is Count e = absurd (no e)
+none-is High e = absurd (no e)
+none-is Mid e = absurd (no e)
+none-is Dst e = absurd (no e)
+none-is Addr e = absurd (no e)
+none-is Src e = absurd (no e)
+none-is Word e = absurd (no e)
 
 -- a mnemonic has one to five letters, and none of them is a space
 short : ℕ → Bool

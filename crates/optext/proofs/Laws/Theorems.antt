@@ -2,7 +2,7 @@
 use mathlib.Core.Bool.{cond}
 use mathlib.Core.Path.{_≡_, refl, ap, sym, _∙_, subst}
 use mathlib.Core.List.{List, [], _∷_, _++_}
-use Prim.Native.Nat.{ℕ, zero, suc, _+_, _≤_, _<_}
+use Prim.Native.Nat.{ℕ, _+_, _≤_}
 use native.Mathlib.Omega.{arith}
 use lib.Dec.{eqb}
 use lib.ListN.{length, take, drop, getD}
@@ -24,9 +24,8 @@ use Rattle.optext.specs.Column.{Whole}
 use Rattle.optext.specs.Words.{Reads, own, wordsOf}
 use Rattle.optext.proofs.Laws.Once.{not-less, reads-one}
 use Rattle.optext.proofs.Laws.Choose.{no}
-use Rattle.optext.proofs.Laws.Forms.{takes-le}
-use Rattle.optext.proofs.Laws.Back.{wordOf}
-use Rattle.optext.proofs.Laws.Back.{word-taken}
+use Rattle.optext.proofs.Laws.Meets.{by-taken}
+use Rattle.optext.proofs.Laws.Back.{wordOf, word-taken}
 use Rattle.optext.proofs.Laws.Trip.{guess-back}
 use Rattle.optext.proofs.Laws.Near.{agree-self}
 use Rattle.optext.proofs.Laws.Columns.{near-text, own-line}
@@ -56,7 +55,12 @@ len-3 (a ∷ b ∷ c ∷ d ∷ l) e = absurd (omega arith)
 
 pub guess-words : (vs : List ℕ) → Whole vs → wordsIn (guessOf (textOf vs)) ≡ vs
 unfolding textOf wordsIn wordsOf own taken
-guess-words vs h = go (takes (firstOf (rowOf w)) w) (takes (secondOf (rowOf w)) w) refl refl
+guess-words vs h =
+    by-taken w (wordsIn (guessOf (textOf vs)) ≡ vs)
+    (λ e f. rw (back, e, f) (len-1 vs (count 0 0 e f)))
+    (λ e f. rw (back, word-taken (secondOf (rowOf w)) w y f, e, f) (len-2 vs (count 0 1 e f)))
+    (λ e f. rw (back, word-taken (firstOf (rowOf w)) w x e, e, f) (len-2 vs (count 1 0 e f)))
+    (λ e f. rw (back, word-taken (firstOf (rowOf w)) w x e, word-taken (secondOf (rowOf w)) w y f, e, f) (len-3 vs (count 1 1 e f)))
   where
     w : ℕ
     w = getD vs 0 0
@@ -64,26 +68,14 @@ guess-words vs h = go (takes (firstOf (rowOf w)) w) (takes (secondOf (rowOf w)) 
     x : ℕ
     x = getD vs 1 0
 
-    lw : w < 65536
-    lw = h .words 0
-
     y : ℕ
     y = getD vs (1 + takes (firstOf (rowOf w)) w) 0
 
     back : guessOf (opText w x y) ≡ guess w (wordOf (firstOf (rowOf w)) w x) (wordOf (secondOf (rowOf w)) w y)
-    back = guess-back w x y lw (h .words 1) (h .words (1 + takes (firstOf (rowOf w)) w))
+    back = guess-back w x y (h .words 0) (h .words 1) (h .words (1 + takes (firstOf (rowOf w)) w))
 
     count : (m n : ℕ) → takes (firstOf (rowOf w)) w ≡ m → takes (secondOf (rowOf w)) w ≡ n → length vs ≡ 1 + m + n
     count m n e f = h .count ∙ rw (e, f) refl
-
-    go : (m n : ℕ) → takes (firstOf (rowOf w)) w ≡ m → takes (secondOf (rowOf w)) w ≡ n → wordsIn (guessOf (textOf vs)) ≡ vs
-    go zero zero e f = rw (back, e, f) (len-1 vs (count 0 0 e f))
-    go zero (suc zero) e f = rw (back, word-taken (secondOf (rowOf w)) w y f, e, f) (len-2 vs (count 0 1 e f))
-    go (suc zero) zero e f = rw (back, word-taken (firstOf (rowOf w)) w x e, e, f) (len-2 vs (count 1 0 e f))
-    go (suc zero) (suc zero) e f = rw (back, word-taken (firstOf (rowOf w)) w x e, word-taken (secondOf (rowOf w)) w y f, e, f) (len-3 vs (count 1 1 e f))
-    go (suc (suc m)) n e f = let h = takes-le (firstOf (rowOf w)) w in absurd (omega arith)
-    go zero (suc (suc n)) e f = let h = takes-le (secondOf (rowOf w)) w in absurd (omega arith)
-    go (suc zero) (suc (suc n)) e f = let h = takes-le (secondOf (rowOf w)) w in absurd (omega arith)
 
 -- and the only words whose text it is
 pub only-guess : (t : List ℕ) (g : Guess) → g ≡ guessOf t → (vs : List ℕ) → Whole vs → textOf vs ≡ t → vs ≡ wordsOf (g .w) (g .x) (g .y)

@@ -5,71 +5,29 @@ use mathlib.Core.Logic.{⊎-elim}
 use mathlib.Core.List.{List, [], _∷_, _++_, append-assoc, append-nil}
 use Prim.Native.Nat.{ℕ, suc, _+_, _%_, _^_, _<_}
 use native.Mathlib.Omega.{arith}
-use borrow.Author.Tests.{eqb-true}
 use lib.ListN.{length, drop}
 use lib.Seq.{drop-append-add}
 use Rattle.optext.specs.declared.rows.Kind.{Kind}
-use Rattle.optext.specs.declared.rows.Kind.the-variants.{None, Mask, Disp, Reg, Arg4, Arg6, Count, High, Mid, Dst, Addr, Src, Word}
-use Rattle.optext.specs.Rows.{rowCount, wordRow, rows, theRow, nameOf, baseOf, firstOf, secondOf}
-use Rattle.optext.specs.Line.{fieldOf, fitsRow, rowOf, isShown, operandText, sepText, opText}
+use Rattle.optext.specs.Rows.{nameOf, baseOf, firstOf, secondOf}
+use Rattle.optext.specs.Line.{fieldOf, rowOf, isShown, operandText, sepText, opText}
 use Rattle.optext.specs.Guess.{headOf, rowFor, operandRead, unOp, guess, guessA, guessB, guessOf}
-use Rattle.optext.proofs.Laws.Choose.{no, bool-cases, lt-cases, first-le, first-hit}
-use Rattle.optext.proofs.Laws.Table.{none-both}
+use Rattle.optext.proofs.Laws.Choose.{no, bool-cases}
+use Rattle.optext.proofs.Laws.Table.{none-is, none-both}
 use Rattle.optext.proofs.Laws.Near.{agree-self}
 use Rattle.optext.proofs.Laws.Heads.{head-own}
-use Rattle.optext.proofs.Laws.Reserved.{last-reserved, from-same}
+use Rattle.optext.proofs.Laws.Reserved.{row-lt, word-back}
+use Rattle.optext.proofs.Laws.Inside.{allowed-1, allowed-2}
 use Rattle.optext.proofs.Laws.Forms.{sep-none, sep-some}
-use Rattle.optext.proofs.Laws.Back.{wordOf}
+use Rattle.optext.proofs.Laws.Back.{ownOf, wordOf}
 use Rattle.optext.proofs.Laws.Back.{op-back}
-
-pub row-lt : (w : ℕ) → rowOf w < rowCount
-unfolding rowOf
-row-lt w = let h = first-le (fitsRow w) wordRow 0 in omega arith
-
--- a word is the base op code of its row with the operands in it
-found : (w : ℕ) → rowOf w < wordRow → baseOf (rowOf w) + fieldOf (firstOf (rowOf w)) w + fieldOf (secondOf (rowOf w)) w ≡ w
-unfolding rowOf
-found w h = eqb-true (baseOf (rowOf w) + fieldOf (firstOf (rowOf w)) w + fieldOf (secondOf (rowOf w)) w) w (first-hit (fitsRow w) wordRow 0 (omega arith))
-
-last : (w : ℕ) → w < 65536 → rowOf w ≡ wordRow → baseOf (rowOf w) + fieldOf (firstOf (rowOf w)) w + fieldOf (secondOf (rowOf w)) w ≡ w
-unfolding theRow rows
-last w l e = rw (e, from-same w (last-reserved w l e)) (omega arith)
-
-pub word-back : (w : ℕ) → w < 65536 → baseOf (rowOf w) + fieldOf (firstOf (rowOf w)) w + fieldOf (secondOf (rowOf w)) w ≡ w
-word-back w l =
-    let r = row-lt w in
-    ⊎-elim (λ h. found w h) (λ h. last w l (omega arith)) (lt-cases (rowOf w) wordRow)
 
 -- an operand that is not shown
 pub none-text : (k : Kind) (w x : ℕ) → isShown k ≡ false → operandText k w x ≡ []
-none-text None w x e = refl
-none-text Mask w x e = absurd (no e)
-none-text Disp w x e = absurd (no e)
-none-text Reg w x e = absurd (no e)
-none-text Arg4 w x e = absurd (no e)
-none-text Arg6 w x e = absurd (no e)
-none-text Count w x e = absurd (no e)
-none-text High w x e = absurd (no e)
-none-text Mid w x e = absurd (no e)
-none-text Dst w x e = absurd (no e)
-none-text Addr w x e = absurd (no e)
-none-text Src w x e = absurd (no e)
-none-text Word w x e = absurd (no e)
+none-text k w x e = rw (none-is k e) refl
 
 none-back : (k : Kind) (t : List ℕ) (w x : ℕ) → isShown k ≡ false → unOp k t ≡ operandRead (fieldOf k w) (wordOf k w x) (length (operandText k w x))
-none-back None t w x e = refl
-none-back Mask t w x e = absurd (no e)
-none-back Disp t w x e = absurd (no e)
-none-back Reg t w x e = absurd (no e)
-none-back Arg4 t w x e = absurd (no e)
-none-back Arg6 t w x e = absurd (no e)
-none-back Count t w x e = absurd (no e)
-none-back High t w x e = absurd (no e)
-none-back Mid t w x e = absurd (no e)
-none-back Dst t w x e = absurd (no e)
-none-back Addr t w x e = absurd (no e)
-none-back Src t w x e = absurd (no e)
-none-back Word t w x e = absurd (no e)
+unfolding ownOf
+none-back k t w x e = rw (none-is k e) refl
 
 module _ (w x y : ℕ) (lw : w < 65536) (lx : x < 65536) (ly : y < 65536) where
   line-none : isShown (firstOf (rowOf w)) ≡ false → opText w x y ≡ nameOf (rowOf w)
@@ -101,7 +59,7 @@ module _ (w x y : ℕ) (lw : w < 65536) (lx : x < 65536) (ly : y < 65536) where
       rw row-back
       (⊎-elim (λ e. none-back (firstOf (rowOf w)) (drop (length (nameOf (rowOf w)) + 1) (opText w x y)) w x e)
       (λ n. rw (line-some n, drop-append-add (nameOf (rowOf w)) (32 ∷ (operandText (firstOf (rowOf w)) w x ++ sepText 44 (secondOf (rowOf w)) w y)) 1)
-      (op-back (firstOf (rowOf w)) w x (sepText 44 (secondOf (rowOf w)) w y) lw lx))
+      (op-back (firstOf (rowOf w)) w x (sepText 44 (secondOf (rowOf w)) w y) lw lx (allowed-1 w lw)))
       (bool-cases (isShown (firstOf (rowOf w)))))
 
   B-back : guessB (opText w x y) ≡ operandRead (fieldOf (secondOf (rowOf w)) w) (wordOf (secondOf (rowOf w)) w y) (length (operandText (secondOf (rowOf w)) w y))
@@ -109,7 +67,7 @@ module _ (w x y : ℕ) (lw : w < 65536) (lx : x < 65536) (ly : y < 65536) where
   B-back =
       rw (row-back, A-back)
       (⊎-elim (λ e. none-back (secondOf (rowOf w)) (drop (length (nameOf (rowOf w)) + 1 + length (operandText (firstOf (rowOf w)) w x) + 1) (opText w x y)) w y e)
-      (λ n. rw (after-comma n (both n)) (rw append-nil at (op-back (secondOf (rowOf w)) w y [] lw ly)))
+      (λ n. rw (after-comma n (both n)) (rw append-nil at (op-back (secondOf (rowOf w)) w y [] lw ly (allowed-2 w lw))))
       (bool-cases (isShown (secondOf (rowOf w)))))
     where
       both : isShown (secondOf (rowOf w)) ≡ true → isShown (firstOf (rowOf w)) ≡ true

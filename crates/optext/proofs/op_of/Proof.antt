@@ -10,9 +10,6 @@ returns c =
     let h = words-le (g .w) (g .x) (g .y) in
     (op-taken (c .before .before .before .before .before .before .before .before .args .text .now) g (c .before .before .before .before .before .before .decode .ensures) _ (c .before .before .before .before .is-line .ensures) _ _ (c .before .before .before .if1 .taken) (c .before .store .ensures), omega (arith, c .before .store .ensures .count, h))
 
-returns-2 : tie.Need-returns-2
-returns-2 c = (op-refused (c .before .before .before .before .before .args .text .now) (c .before .before .before .decode .result) (c .before .before .before .decode .ensures) _ (c .before .is-line .ensures) (c .if1 .left), omega arith)
-
 pub op-of-spec : {M : Type 1} → statement M
 op-of-spec =
     tie.close
@@ -26,4 +23,4 @@ op-of-spec =
     (λ c. search needs)
     (λ c. search needs)
     returns
-    returns-2)
+    (λ c. (op-refused (c .before .before .before .before .before .args .text .now) (c .before .before .before .decode .result) (c .before .before .before .decode .ensures) _ (c .before .is-line .ensures) (c .if1 .left), omega arith)))

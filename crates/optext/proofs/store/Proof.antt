@@ -10,9 +10,6 @@ use borrow.Author.Needs.{needs}
 use Rattle.optext.proofs.store.Statement.{statement}
 use Rattle.optext.proofs.store.Tie as tie
 
-slice-write-words-2 : tie.Need-slice-write-words-2
-slice-write-words-2 c = simp length-set (omega arith)
-
 returns : tie.Need-returns
 returns c =
     let a = c .before .before .before .before .before .before .before .args in
@@ -28,9 +25,6 @@ returns-2 c =
     let e1 : c .before .before .before .before .takes-of .result ≡ takes (firstOf (rowOf (a .w))) (a .w) = c .before .before .before .before .takes-of .ensures ∙ rw (c .before .before .before .before .before .first .ensures, k) refl in
     let e2 : c .before .before .takes-of2 .result ≡ takes (secondOf (rowOf (a .w))) (a .w) = c .before .before .takes-of2 .ensures ∙ rw (c .before .before .before .second .ensures, k) refl in
     rw (words-a (a .w) (a .x) (a .y) _ _ e1 e2 (c .before .if1 .taken) (c .if2 .left)) (wrote-sets (a .w ∷ a .x ∷ []) (a .words .now) (omega arith))
-
-slice-write-words-4 : tie.Need-slice-write-words-4
-slice-write-words-4 c = simp length-set (omega arith)
 
 returns-3 : tie.Need-returns-3
 returns-3 c =
@@ -57,13 +51,13 @@ store-spec =
     (λ c κs. search needs)
     (λ c κs. search needs)
     (λ c. search needs)
-    slice-write-words-2
+    (λ c. simp length-set (omega arith))
     (λ c. search needs)
     (λ c. search needs)
     returns
     (λ c. search needs)
     returns-2
-    slice-write-words-4
+    (λ c. simp length-set (omega arith))
     (λ c. search needs)
     returns-3
     (λ c. search needs)

@@ -7,12 +7,6 @@ use borrow.Author.Needs.{needs}
 use Rattle.optext.proofs.taken.Statement.{statement}
 use Rattle.optext.proofs.taken.Tie as tie
 
-add-result : tie.Need-add-result
-add-result c = omega (arith, c .before .before .takes-of .ensures, takes-le (c .before .before .before .first .result) (c .before .before .before .before .before .args .w))
-
-add-result-2 : tie.Need-add-result-2
-add-result-2 c = omega (arith, c .before .before .takes-of .ensures, takes-le (c .before .before .before .first .result) (c .before .before .before .before .before .args .w), c .takes-of2 .ensures, takes-le (c .before .second .result) (c .before .before .before .before .before .args .w))
-
 returns : tie.Need-returns
 unfolding taken
 returns c =
@@ -29,6 +23,6 @@ taken-spec =
     (λ c κs. search needs)
     (λ c κs. search needs)
     (λ c κs. search needs)
-    add-result
-    add-result-2
+    (λ c. omega (arith, c .before .before .takes-of .ensures, takes-le (c .before .before .before .first .result) (c .before .before .before .before .before .args .w)))
+    (λ c. omega (arith, c .before .before .takes-of .ensures, takes-le (c .before .before .before .first .result) (c .before .before .before .before .before .args .w), c .takes-of2 .ensures, takes-le (c .before .second .result) (c .before .before .before .before .before .args .w)))
     returns)

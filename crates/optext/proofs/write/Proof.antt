@@ -9,18 +9,6 @@ use borrow.Author.Needs.{needs}
 use Rattle.optext.proofs.write.Statement.{statement}
 use Rattle.optext.proofs.write.Tie as tie
 
-returns : tie.Need-returns
-returns c = writes-8 (c .before .before .before .args .words .now) (c .before .before .before .args .text .now) (c .if1 .taken)
-
-returns-2 : tie.Need-returns-2
-returns-2 c = writes-6 (c .before .before .before .before .args .words .now) (c .before .before .before .before .args .text .now) (c .before .if1 .left) (c .if2 .taken)
-
-add-need : tie.Need-add-need
-add-need c = omega (arith, c .before .before .takes-of .ensures, takes-le (c .before .before .before .first .result) (getD (c .before .before .before .before .before .before .before .before .before .before .args .words .now) 0 0))
-
-add-need-2 : tie.Need-add-need-2
-add-need-2 c = omega (arith, c .before .before .takes-of .ensures, takes-le (c .before .before .before .first .result) (getD (c .before .before .before .before .before .before .before .before .before .before .args .words .now) 0 0), c .takes-of2 .ensures, takes-le (c .before .second .result) (getD (c .before .before .before .before .before .before .before .before .before .before .args .words .now) 0 0))
-
 returns-3 : tie.Need-returns-3
 unfolding taken
 returns-3 c =
@@ -44,16 +32,16 @@ pub write-spec : {M : Type 1} → statement M
 write-spec =
     tie.close
     (tie.spec
-    returns
-    returns-2
+    (λ c. writes-8 (c .before .before .before .args .words .now) (c .before .before .before .args .text .now) (c .if1 .taken))
+    (λ c. writes-6 (c .before .before .before .before .args .words .now) (c .before .before .before .before .args .text .now) (c .before .if1 .left) (c .if2 .taken))
     (λ c. search needs)
     (λ c κs. search needs)
     (λ c κs. search needs)
     (λ c κs. search needs)
     (λ c κs. search needs)
     (λ c κs. search needs)
-    add-need
-    add-need-2
+    (λ c. omega (arith, c .before .before .takes-of .ensures, takes-le (c .before .before .before .first .result) (getD (c .before .before .before .before .before .before .before .before .before .before .args .words .now) 0 0)))
+    (λ c. omega (arith, c .before .before .takes-of .ensures, takes-le (c .before .before .before .first .result) (getD (c .before .before .before .before .before .before .before .before .before .before .args .words .now) 0 0), c .takes-of2 .ensures, takes-le (c .before .second .result) (getD (c .before .before .before .before .before .before .before .before .before .before .args .words .now) 0 0)))
     returns-3
     (λ c κs. search needs)
     (λ c. search needs)

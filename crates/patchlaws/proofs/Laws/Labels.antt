@@ -20,7 +20,7 @@ use Rattle.optext.specs.Read.{wordsOfText, opOf}
 use Rattle.optext.proofs.Laws.Choose.{lt-cases}
 use Rattle.optext.proofs.Laws.Back.{hex2-back}
 use Rattle.optext.proofs.Laws.Inside.{inside}
-use Rattle.optext.proofs.Laws.Trip.{word-back}
+use Rattle.optext.proofs.Laws.Reserved.{word-back}
 use Rattle.optext.proofs.Laws.Reader.{read-of-words}
 use Rattle.patchline.specs.Text.{slice, pastOf, isName}
 use Rattle.patchline.specs.declared.oneline.How.{How}

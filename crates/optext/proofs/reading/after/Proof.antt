@@ -9,9 +9,6 @@ use borrow.Author.Needs.{needs}
 use Rattle.optext.proofs.reading.after.Statement.{statement}
 use Rattle.optext.proofs.reading.after.Tie as tie
 
-returns : tie.Need-returns
-returns c = part-is-drop (c .before .before .args .at) (c .before .before .args .t .now)
-
 returns-2 : tie.Need-returns-2
 returns-2 c =
     let t : List ℕ = c .before .before .args .t .now in
@@ -25,7 +22,7 @@ after-spec =
     (λ c. search needs)
     (λ c. search needs)
     (λ c. search needs)
-    returns
+    (λ c. part-is-drop (c .before .before .args .at) (c .before .before .args .t .now))
     (λ c. search needs)
     (λ c. search needs)
     (λ c. search needs)

@@ -4,8 +4,5 @@ use borrow.Author.Needs.{needs}
 use Rattle.optext.proofs.reading.un_addr.Statement.{statement}
 use Rattle.optext.proofs.reading.un_addr.Tie as tie
 
-returns : tie.Need-returns
-returns c = (rw (c .address .ensures .0, ← c .before .un-mode .ensures .0) refl, omega arith)
-
 pub un-addr-spec : {M : Type 1} → statement M
-un-addr-spec = tie.close (tie.spec (λ c κs. search needs) (λ c κs. search needs) returns)
+un-addr-spec = tie.close (tie.spec (λ c κs. search needs) (λ c κs. search needs) (λ c. (rw (c .address .ensures .0, ← c .before .un-mode .ensures .0) refl, omega arith)))

@@ -5,11 +5,8 @@ use borrow.Author.Needs.{needs}
 use Rattle.optext.proofs.reading.un_hex2.Statement.{statement}
 use Rattle.optext.proofs.reading.un_hex2.Tie as tie
 
-returns : tie.Need-returns
-unfolding unHex2
-returns c = (rw (c .before .before .un-hex .ensures .0, c .un-hex2 .ensures .0, c .before .before .before .ch .ensures, c .before .ch2 .ensures) refl, omega arith)
-
 pub un-hex2-spec : {M : Type 1} → statement M
+unfolding unHex2
 un-hex2-spec =
     tie.close
     (tie.spec
@@ -19,4 +16,4 @@ un-hex2-spec =
     (λ c κs. search needs)
     (λ c. search needs)
     (λ c. search needs)
-    returns)
+    (λ c. (rw (c .before .before .un-hex .ensures .0, c .un-hex2 .ensures .0, c .before .before .before .ch .ensures, c .before .ch2 .ensures) refl, omega arith)))

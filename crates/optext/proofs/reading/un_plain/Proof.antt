@@ -6,27 +6,8 @@ use borrow.Author.Needs.{needs}
 use Rattle.optext.proofs.reading.un_plain.Statement.{statement}
 use Rattle.optext.proofs.reading.un_plain.Tie as tie
 
-returns : tie.Need-returns
-unfolding unPlain
-returns c = (rw (c .bits .ensures, ← c .before .before .before .before .before .before .ch .ensures, eq-eqb _ _ (c .before .before .before .before .before .if1 .taken), c .before .not-pc .ensures .0, c .before .before .un-reg .ensures .0, c .before .before .before .before .ch2 .ensures, c .before .before .before .ch3 .ensures) refl, rw (c .bits .ensures) (omega arith), rw (c .bits .ensures) (omega arith))
-
-returns-2 : tie.Need-returns-2
-unfolding unPlain
-returns-2 c = (rw (c .bits2 .ensures, ← c .before .before .before .before .before .before .ch .ensures, ne-eqb _ _ (c .before .before .before .before .before .if1 .left), eq-eqb _ _ (c .before .before .before .before .if2 .taken), c .before .un-reg2 .ensures .0, c .before .before .before .ch4 .ensures, c .before .before .ch5 .ensures) refl, rw (c .bits2 .ensures) (omega arith), rw (c .bits2 .ensures) (omega arith))
-
-returns-3 : tie.Need-returns-3
-unfolding unPlain
-returns-3 c = (rw (← c .before .before .before .before .before .ch .ensures, ne-eqb _ _ (c .before .before .before .before .if1 .left), ne-eqb _ _ (c .before .before .before .if2 .left), eq-eqb _ _ (c .before .before .if3 .taken), c .un-hex4 .ensures, c .before .after .ensures) refl, omega arith, omega arith)
-
-returns-4 : tie.Need-returns-4
-unfolding unPlain
-returns-4 c = (rw (← c .before .before .before .before .before .before .before .before .ch .ensures, ne-eqb _ _ (c .before .before .before .before .before .before .before .if1 .left), ne-eqb _ _ (c .before .before .before .before .before .before .if2 .left), ne-eqb _ _ (c .before .before .before .before .before .if3 .left), lt-ltb _ _ (c .before .before .before .before .if4 .taken), c .before .un-reg3 .ensures .0, c .before .before .before .ch6 .ensures, c .before .before .ch7 .ensures, c .un-hex42 .ensures) refl, omega arith, omega arith)
-
-returns-5 : tie.Need-returns-5
-unfolding unPlain
-returns-5 c = (rw (c .bits3 .ensures, ← c .before .before .before .before .before .before .before .ch .ensures, ne-eqb _ _ (c .before .before .before .before .before .before .if1 .left), ne-eqb _ _ (c .before .before .before .before .before .if2 .left), ne-eqb _ _ (c .before .before .before .before .if3 .left), le-ltb _ _ (c .before .before .before .if4 .left), c .before .un-reg4 .ensures .0, c .before .before .ch8 .ensures) refl, rw (c .bits3 .ensures) (omega arith), rw (c .bits3 .ensures) (omega arith))
-
 pub un-plain-spec : {M : Type 1} → statement M
+unfolding unPlain
 un-plain-spec =
     tie.close
     (tie.spec
@@ -37,23 +18,23 @@ un-plain-spec =
     (λ c κs. search needs)
     (λ c. search needs)
     (λ c κs. search needs)
-    returns
+    (λ c. (rw (c .bits .ensures, ← c .before .before .before .before .before .before .ch .ensures, eq-eqb _ _ (c .before .before .before .before .before .if1 .taken), c .before .not-pc .ensures .0, c .before .before .un-reg .ensures .0, c .before .before .before .before .ch2 .ensures, c .before .before .before .ch3 .ensures) refl, rw (c .bits .ensures) (omega arith), rw (c .bits .ensures) (omega arith)))
     (λ c κs. search needs)
     (λ c κs. search needs)
     (λ c κs. search needs)
     (λ c. search needs)
     (λ c κs. search needs)
-    returns-2
+    (λ c. (rw (c .bits2 .ensures, ← c .before .before .before .before .before .before .ch .ensures, ne-eqb _ _ (c .before .before .before .before .before .if1 .left), eq-eqb _ _ (c .before .before .before .before .if2 .taken), c .before .un-reg2 .ensures .0, c .before .before .before .ch4 .ensures, c .before .before .ch5 .ensures) refl, rw (c .bits2 .ensures) (omega arith), rw (c .bits2 .ensures) (omega arith)))
     (λ c κs. search needs)
     (λ c κs. search needs)
-    returns-3
+    (λ c. (rw (← c .before .before .before .before .before .ch .ensures, ne-eqb _ _ (c .before .before .before .before .if1 .left), ne-eqb _ _ (c .before .before .before .if2 .left), eq-eqb _ _ (c .before .before .if3 .taken), c .un-hex4 .ensures, c .before .after .ensures) refl, omega arith, omega arith))
     (λ c κs. search needs)
     (λ c κs. search needs)
     (λ c κs. search needs)
     (λ c κs. search needs)
     (λ c. search needs)
-    returns-4
+    (λ c. (rw (← c .before .before .before .before .before .before .before .before .ch .ensures, ne-eqb _ _ (c .before .before .before .before .before .before .before .if1 .left), ne-eqb _ _ (c .before .before .before .before .before .before .if2 .left), ne-eqb _ _ (c .before .before .before .before .before .if3 .left), lt-ltb _ _ (c .before .before .before .before .if4 .taken), c .before .un-reg3 .ensures .0, c .before .before .before .ch6 .ensures, c .before .before .ch7 .ensures, c .un-hex42 .ensures) refl, omega arith, omega arith))
     (λ c κs. search needs)
     (λ c κs. search needs)
     (λ c κs. search needs)
-    returns-5)
+    (λ c. (rw (c .bits3 .ensures, ← c .before .before .before .before .before .before .before .ch .ensures, ne-eqb _ _ (c .before .before .before .before .before .before .if1 .left), ne-eqb _ _ (c .before .before .before .before .before .if2 .left), ne-eqb _ _ (c .before .before .before .before .if3 .left), le-ltb _ _ (c .before .before .before .if4 .left), c .before .un-reg4 .ensures .0, c .before .before .ch8 .ensures) refl, rw (c .bits3 .ensures) (omega arith), rw (c .bits3 .ensures) (omega arith))))

@@ -4,8 +4,5 @@ use borrow.Author.Needs.{needs}
 use Rattle.optext.proofs.reading.un_src.Statement.{statement}
 use Rattle.optext.proofs.reading.un_src.Tie as tie
 
-returns : tie.Need-returns
-returns c = (rw (← c .before .un-mode .ensures .0) refl, omega arith)
-
 pub un-src-spec : {M : Type 1} → statement M
-un-src-spec = tie.close (tie.spec (λ c κs. search needs) (λ c. search needs) returns)
+un-src-spec = tie.close (tie.spec (λ c κs. search needs) (λ c. search needs) (λ c. (rw (← c .before .un-mode .ensures .0) refl, omega arith)))

@@ -5,9 +5,6 @@ use borrow.Author.Needs.{needs}
 use Rattle.optext.proofs.rows.letter.Statement.{statement}
 use Rattle.optext.proofs.rows.letter.Tie as tie
 
-returns : tie.Need-returns
-unfolding rows digits hexOf hex4
-returns c = table-at (c .args .k) (c .args .i) (c .pre .0) (c .pre .1)
-
 pub letter-spec : {M : Type 1} → statement M
-letter-spec = tie.close (tie.spec (λ c. search needs) (λ c. search needs) (λ c. search needs) returns)
+unfolding digits hex4 hexOf rows
+letter-spec = tie.close (tie.spec (λ c. search needs) (λ c. search needs) (λ c. search needs) (λ c. table-at (c .args .k) (c .args .i) (c .pre .0) (c .pre .1)))

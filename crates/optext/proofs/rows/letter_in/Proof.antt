@@ -6,11 +6,5 @@ use borrow.Author.Needs.{needs}
 use Rattle.optext.proofs.rows.letter_in.Statement.{statement}
 use Rattle.optext.proofs.rows.letter_in.Tie as tie
 
-shared-slice-read-result : tie.Need-shared-slice-read-result
-shared-slice-read-result c = omega (arith, ap length (c .before .pre .0) ∙ flat-length)
-
-returns : tie.Need-returns
-returns c = rw (c .before .pre .0) (table-at (c .before .args .k) (c .before .args .i) (c .before .pre .1) (c .before .pre .2))
-
 pub letter-in-spec : {M : Type 1} → statement M
-letter-in-spec = tie.close (tie.spec (λ c. search needs) (λ c. search needs) shared-slice-read-result returns)
+letter-in-spec = tie.close (tie.spec (λ c. search needs) (λ c. search needs) (λ c. omega (arith, ap length (c .before .pre .0) ∙ flat-length)) (λ c. rw (c .before .pre .0) (table-at (c .before .args .k) (c .before .args .i) (c .before .pre .1) (c .before .pre .2))))

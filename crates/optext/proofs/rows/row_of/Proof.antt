@@ -1,64 +1,9 @@
-use mathlib.Core.Path.{_≡_, refl, ap, sym, _∙_}
-use Prim.Native.Nat.{_≤_, _-_}
+use mathlib.Core.Path.{sym, _∙_}
 use native.Mathlib.Omega.{arith}
-use lib.ListN.{length}
-use Rattle.optext.specs.Line.{fitsRow, rowOf, taken}
-use Rattle.optext.proofs.Laws.Choose.{first-found, first-next, first-end}
-use Rattle.optext.specs.First.{firstFrom}
-use Rattle.optext.specs.Rows.{wordRow, rows, tableBytes}
-use Rattle.hexdigits.specs.Digits.{digits, hexOf, hex4}
-use Rattle.optext.proofs.Laws.Table.{flat-length}
+use borrow.Author.Needs.{needs}
+use Rattle.optext.proofs.Laws.Reserved.{row-word, row-found}
 use Rattle.optext.proofs.rows.row_of.Statement.{statement}
 use Rattle.optext.proofs.rows.row_of.Tie as tie
 
-abbrev Inv-loop : tie.InvT-loop
-Inv-loop w table i₀ i = (table ≡ tableBytes rows) × (i ≤ wordRow) × (rowOf w ≡ firstFrom (fitsRow w) (wordRow - i) i)
-
-abbrev μ-loop : tie.MeasureT-loop
-μ-loop w table i₀ i = wordRow - i
-
-loop-holds : tie.Need-loop-holds Inv-loop μ-loop
-unfolding rowOf rows digits hexOf hex4
-loop-holds c = (refl, omega arith, refl)
-
-slice-aggregate-row-fits : tie.Need-slice-aggregate-row-fits Inv-loop μ-loop
-slice-aggregate-row-fits c = sym (ap length (c .before .before .loop .inv .0) ∙ flat-length)
-
-row-fits-requires : tie.Need-row-fits-requires Inv-loop μ-loop
-row-fits-requires c κs = (c .before .before .loop .inv .0, omega arith)
-
-returns : tie.Need-returns Inv-loop μ-loop
-returns c =
-    let l = c .before .before .before .before .loop in
-    (first-found (fitsRow (c .before .before .before .before .before .args .w)) wordRow (l .i) _ (l .inv .2) (omega arith) (sym (c .before .row-fits .ensures) ∙ c .if1 .taken), omega arith)
-
-add-i : tie.Need-add-i Inv-loop μ-loop
-add-i c = omega arith
-
-loop-less : tie.Need-loop-less Inv-loop μ-loop
-loop-less c = omega arith
-
-loop-again : tie.Need-loop-again Inv-loop μ-loop
-loop-again c =
-    let l = c .before .before .before .before .loop in
-    (l .inv .0, omega arith, first-next (fitsRow (c .before .before .before .before .before .args .w)) wordRow (l .i) _ (l .inv .2) (omega arith) (sym (c .before .row-fits .ensures) ∙ c .if1 .left))
-
-returns-2 : tie.Need-returns-2 Inv-loop μ-loop
-returns-2 c =
-    let l = c .before .loop in
-    (first-end (fitsRow (c .before .before .args .w)) wordRow (l .i) _ (l .inv .2) (omega arith), omega arith)
-
 pub row-of-spec : {M : Type 1} → statement M
-row-of-spec =
-    tie.close
-    (tie.spec
-    Inv-loop
-    μ-loop
-    loop-holds
-    slice-aggregate-row-fits
-    row-fits-requires
-    returns
-    add-i
-    loop-less
-    loop-again
-    returns-2)
+row-of-spec = tie.close (tie.spec (λ c κs. search needs) (λ c. (sym (row-word _ (sym (c .before .is-reserved .ensures) ∙ c .if1 .taken)), omega arith)) (λ c κs. search needs) (λ c. (c .row-made .ensures .0 ∙ sym (row-found _ (sym (c .before .before .is-reserved .ensures) ∙ c .before .if1 .left)), c .row-made .ensures .1)))

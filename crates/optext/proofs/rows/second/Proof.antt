@@ -6,9 +6,6 @@ use borrow.Author.Needs.{needs}
 use Rattle.optext.proofs.rows.second.Statement.{statement}
 use Rattle.optext.proofs.rows.second.Tie as tie
 
-returns : tie.Need-returns
-unfolding hex4
-returns c = c .kind-of .ensures ∙ ap kindAs (c .before .letter .ensures) ∙ kind-back (secondOf (c .before .before .args .k))
-
 pub second-spec : {M : Type 1} → statement M
-second-spec = tie.close (tie.spec (λ c κs. search needs) (λ c κs. search needs) returns)
+unfolding hex4
+second-spec = tie.close (tie.spec (λ c κs. search needs) (λ c κs. search needs) (λ c. c .kind-of .ensures ∙ ap kindAs (c .before .letter .ensures) ∙ kind-back (secondOf (c .before .before .args .k))))

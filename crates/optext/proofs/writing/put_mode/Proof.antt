@@ -11,24 +11,6 @@ use borrow.Author.Needs.{needs}
 use Rattle.optext.proofs.writing.put_mode.Statement.{statement}
 use Rattle.optext.proofs.writing.put_mode.Tie as tie
 
-returns : tie.Need-returns
-returns c = rw (mode-plain _ _ (c .before .before .before .before .if1 .taken)) (c .before .before .put-plain .ensures)
-
-sub-put-plain : tie.Need-sub-put-plain
-sub-put-plain c = simp length-set (omega arith)
-
-part-put-plain-start : tie.Need-part-put-plain-start
-part-put-plain-start c = simp length-set (omega arith)
-
-put-plain-requires-2 : tie.Need-put-plain-requires-2
-put-plain-requires-2 c κs = (simp (length-take, length-drop, length-set) (omega arith), search needs)
-
-add-result : tie.Need-add-result
-add-result c = omega (arith, plain-le (c .before .before .before .before .before .before .args .f / 16) (c .before .before .before .before .before .before .args .f % 8) (c .before .before .before .before .before .before .args .x))
-
-same-length-2 : tie.Need-same-length-2
-same-length-2 c = part-length 1 (set (c .before .before .before .before .before .before .args .out .now) 0 64) (c .before .before .put-plain2 .last .0) (c .before .before .put-plain2 .kept .0) ∙ length-set (c .before .before .before .before .before .before .args .out .now) 0 64
-
 returns-2 : tie.Need-returns-2
 returns-2 c =
     let a = c .before .before .before .before .before .before .args in
@@ -45,12 +27,12 @@ put-mode-spec =
     (tie.spec
     (λ c κs. search needs)
     (λ c. search needs)
-    returns
+    (λ c. rw (mode-plain _ _ (c .before .before .before .before .if1 .taken)) (c .before .before .put-plain .ensures))
     (λ c. search needs)
-    sub-put-plain
-    part-put-plain-start
+    (λ c. simp length-set (omega arith))
+    (λ c. simp length-set (omega arith))
     (λ c. search needs)
-    put-plain-requires-2
-    add-result
-    same-length-2
+    (λ c κs. (simp (length-take, length-drop, length-set) (omega arith), search needs))
+    (λ c. omega (arith, plain-le (c .before .before .before .before .before .before .args .f / 16) (c .before .before .before .before .before .before .args .f % 8) (c .before .before .before .before .before .before .args .x)))
+    (λ c. part-length 1 (set (c .before .before .before .before .before .before .args .out .now) 0 64) (c .before .before .put-plain2 .last .0) (c .before .before .put-plain2 .kept .0) ∙ length-set (c .before .before .before .before .before .before .args .out .now) 0 64)
     returns-2)

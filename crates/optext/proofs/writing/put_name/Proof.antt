@@ -17,21 +17,6 @@ Inv-loop out₀ k n i₀ out i = (i ≤ n) × (length out ≡ length out₀) × 
 abbrev μ-loop : tie.MeasureT-loop
 μ-loop out₀ k n i₀ out i = n - i
 
-loop-holds : tie.Need-loop-holds Inv-loop μ-loop
-loop-holds c = (omega arith, refl, copy-none (nameOf (c .before .before .args .k)) (c .before .before .args .out .now))
-
-letter-requires : tie.Need-letter-requires Inv-loop μ-loop
-letter-requires c κs = (search needs, omega arith)
-
-slice-write-out : tie.Need-slice-write-out Inv-loop μ-loop
-slice-write-out c = omega arith
-
-add-i : tie.Need-add-i Inv-loop μ-loop
-add-i c = omega arith
-
-loop-less : tie.Need-loop-less Inv-loop μ-loop
-loop-less c = omega arith
-
 loop-again : tie.Need-loop-again Inv-loop μ-loop
 loop-again c =
     let l = c .before .before .loop in
@@ -40,9 +25,6 @@ loop-again c =
     let f : length (nameOf (a .k)) ≤ length (a .out .now) = omega arith in
     let e = name-letter (a .k) (l .i) (c .letter .result) (omega arith) g (c .letter .ensures) in
     (omega arith, length-set (l .out) (l .i) (c .letter .result) ∙ l .inv .1, rw e (copy-more (nameOf (a .k)) (a .out .now) (l .out) (l .i) (l .inv .2) g f))
-
-same-length : tie.Need-same-length Inv-loop μ-loop
-same-length c = c .before .loop .inv .1
 
 returns : tie.Need-returns Inv-loop μ-loop
 returns c =
@@ -58,11 +40,11 @@ put-name-spec =
     Inv-loop
     μ-loop
     (λ c κs. search needs)
-    loop-holds
-    letter-requires
-    slice-write-out
-    add-i
-    loop-less
+    (λ c. (omega arith, refl, copy-none (nameOf (c .before .before .args .k)) (c .before .before .args .out .now)))
+    (λ c κs. (search needs, omega arith))
+    (λ c. omega arith)
+    (λ c. omega arith)
+    (λ c. omega arith)
     loop-again
-    same-length
+    (λ c. c .before .loop .inv .1)
     returns)

@@ -6,48 +6,8 @@ use borrow.Author.Needs.{needs}
 use Rattle.optext.proofs.writing.put_operand.Statement.{statement}
 use Rattle.optext.proofs.writing.put_operand.Tie as tie
 
-returns : tie.Need-returns
-returns c = rw (c .enum-told .given .1) (wrote-sets [] (c .before .before .before .args .out .now) (omega arith))
-
-returns-2 : tie.Need-returns-2
-unfolding hex4
-returns-2 c = rw (c .before .before .before .before .enum-told2 .given .1) (wrote-fits _ _ _ _ (omega (arith, c .before .before .before .before .before .before .before .pre)) (c .before .before .put-hex4 .ensures))
-
-returns-3 : tie.Need-returns-3
-returns-3 c = rw (c .before .before .before .before .enum-told3 .given .1) (c .before .before .put-hex2 .ensures)
-
-returns-4 : tie.Need-returns-4
-returns-4 c = rw (c .before .before .before .before .enum-told4 .given .1) (c .before .before .put-reg .ensures)
-
-returns-5 : tie.Need-returns-5
-returns-5 c = rw (c .before .before .before .before .enum-told5 .given .1) (c .before .before .put-digit .ensures)
-
-returns-6 : tie.Need-returns-6
-returns-6 c = rw (c .before .before .before .before .enum-told6 .given .1) (c .before .before .put-hex22 .ensures)
-
-returns-7 : tie.Need-returns-7
-returns-7 c = rw (c .before .before .before .before .enum-told7 .given .1) (c .before .before .put-hex23 .ensures)
-
-returns-8 : tie.Need-returns-8
-returns-8 c = rw (c .before .before .before .before .enum-told8 .given .1) (c .before .before .put-reg2 .ensures)
-
-returns-9 : tie.Need-returns-9
-returns-9 c = rw (c .before .before .before .before .enum-told9 .given .1) (c .before .before .put-reg3 .ensures)
-
-returns-10 : tie.Need-returns-10
-returns-10 c = rw (c .before .before .before .before .enum-told10 .given .1) (c .before .before .put-mode .ensures)
-
-returns-11 : tie.Need-returns-11
-returns-11 c = rw (c .before .before .before .before .enum-told11 .given .1) (c .before .before .put-mode2 .ensures)
-
-returns-12 : tie.Need-returns-12
-returns-12 c = rw (c .before .before .before .before .enum-told12 .given .1) (c .before .before .put-mode3 .ensures)
-
-returns-13 : tie.Need-returns-13
-unfolding hex4
-returns-13 c = rw (c .before .before .before .before .enum-told13 .given .1) (wrote-fits _ _ _ _ (omega (arith, c .before .before .before .before .before .before .before .pre)) (c .before .before .put-hex42 .ensures))
-
 pub put-operand-spec : {M : Type 1} → statement M
+unfolding hex4
 put-operand-spec =
     tie.close
     (tie.spec
@@ -77,28 +37,28 @@ put-operand-spec =
     (λ c κs. search needs)
     (λ c. search needs)
     (λ c κs. search needs)
-    returns
+    (λ c. rw (c .enum-told .given .1) (wrote-sets [] (c .before .before .before .args .out .now) (omega arith)))
     (λ c. search needs)
-    returns-2
+    (λ c. rw (c .before .before .before .before .enum-told2 .given .1) (wrote-fits _ _ _ _ (omega (arith, c .before .before .before .before .before .before .before .pre)) (c .before .before .put-hex4 .ensures)))
     (λ c. search needs)
-    returns-3
+    (λ c. rw (c .before .before .before .before .enum-told3 .given .1) (c .before .before .put-hex2 .ensures))
     (λ c. search needs)
-    returns-4
+    (λ c. rw (c .before .before .before .before .enum-told4 .given .1) (c .before .before .put-reg .ensures))
     (λ c. search needs)
-    returns-5
+    (λ c. rw (c .before .before .before .before .enum-told5 .given .1) (c .before .before .put-digit .ensures))
     (λ c. search needs)
-    returns-6
+    (λ c. rw (c .before .before .before .before .enum-told6 .given .1) (c .before .before .put-hex22 .ensures))
     (λ c. search needs)
-    returns-7
+    (λ c. rw (c .before .before .before .before .enum-told7 .given .1) (c .before .before .put-hex23 .ensures))
     (λ c. search needs)
-    returns-8
+    (λ c. rw (c .before .before .before .before .enum-told8 .given .1) (c .before .before .put-reg2 .ensures))
     (λ c. search needs)
-    returns-9
+    (λ c. rw (c .before .before .before .before .enum-told9 .given .1) (c .before .before .put-reg3 .ensures))
     (λ c. search needs)
-    returns-10
+    (λ c. rw (c .before .before .before .before .enum-told10 .given .1) (c .before .before .put-mode .ensures))
     (λ c. search needs)
-    returns-11
+    (λ c. rw (c .before .before .before .before .enum-told11 .given .1) (c .before .before .put-mode2 .ensures))
     (λ c. search needs)
-    returns-12
+    (λ c. rw (c .before .before .before .before .enum-told12 .given .1) (c .before .before .put-mode3 .ensures))
     (λ c. search needs)
-    returns-13)
+    (λ c. rw (c .before .before .before .before .enum-told13 .given .1) (wrote-fits _ _ _ _ (omega (arith, c .before .before .before .before .before .before .before .pre)) (c .before .before .put-hex42 .ensures))))

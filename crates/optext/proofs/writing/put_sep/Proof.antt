@@ -11,22 +11,10 @@ use borrow.Author.Needs.{needs}
 use Rattle.optext.proofs.writing.put_sep.Statement.{statement}
 use Rattle.optext.proofs.writing.put_sep.Tie as tie
 
-sub-put-operand : tie.Need-sub-put-operand
-sub-put-operand c = simp length-set (omega arith)
-
-part-put-operand-start : tie.Need-part-put-operand-start
-part-put-operand-start c = simp length-set (omega arith)
-
-put-operand-requires : tie.Need-put-operand-requires
-put-operand-requires c κs = simp (length-take, length-drop, length-set) (omega arith)
-
 add-result : tie.Need-add-result
 add-result c =
     let a = c .before .before .before .before .before .before .before .args in
     omega (arith, operand-le (a .k) (a .w) (a .x))
-
-same-length : tie.Need-same-length
-same-length c = part-length 1 (set (c .before .before .before .before .before .before .before .args .out .now) 0 (c .before .before .before .before .before .before .before .args .sep)) (c .before .before .put-operand .last .0) (c .before .before .put-operand .kept .0) ∙ length-set (c .before .before .before .before .before .before .before .args .out .now) 0 (c .before .before .before .before .before .before .before .args .sep)
 
 returns : tie.Need-returns
 returns c =
@@ -38,20 +26,17 @@ returns c =
       count = ap (λ (n : ℕ). n + 1) (w .count) ∙ add-one _;
     })
 
-returns-2 : tie.Need-returns-2
-returns-2 c = rw (sep-none _ _ _ _ (sym (c .before .shown .ensures) ∙ c .if1 .left)) (wrote-sets [] (c .before .before .before .args .out .now) (omega arith))
-
 pub put-sep-spec : {M : Type 1} → statement M
 put-sep-spec =
     tie.close
     (tie.spec
     (λ c κs. search needs)
     (λ c. search needs)
-    sub-put-operand
-    part-put-operand-start
+    (λ c. simp length-set (omega arith))
+    (λ c. simp length-set (omega arith))
     (λ c. search needs)
-    put-operand-requires
+    (λ c κs. simp (length-take, length-drop, length-set) (omega arith))
     add-result
-    same-length
+    (λ c. part-length 1 (set (c .before .before .before .before .before .before .before .args .out .now) 0 (c .before .before .before .before .before .before .before .args .sep)) (c .before .before .put-operand .last .0) (c .before .before .put-operand .kept .0) ∙ length-set (c .before .before .before .before .before .before .before .args .out .now) 0 (c .before .before .before .before .before .before .before .args .sep))
     returns
-    returns-2)
+    (λ c. rw (sep-none _ _ _ _ (sym (c .before .shown .ensures) ∙ c .if1 .left)) (wrote-sets [] (c .before .before .before .args .out .now) (omega arith))))

@@ -3,9 +3,6 @@ use borrow.Author.Needs.{needs}
 use Rattle.optext.proofs.writing.reg_a.Statement.{statement}
 use Rattle.optext.proofs.writing.reg_a.Tie as tie
 
-returns : tie.Need-returns
-unfolding regA registers
-returns c = search needs
-
 pub reg-a-spec : {M : Type 1} → statement M
-reg-a-spec = tie.close (tie.spec (λ c. search needs) (λ c. search needs) (λ c. search needs) returns)
+unfolding regA registers
+reg-a-spec = tie.close (tie.spec (λ c. search needs) (λ c. search needs) (λ c. search needs) (λ c. search needs))

@@ -3,9 +3,6 @@ use borrow.Author.Needs.{needs}
 use Rattle.optext.proofs.writing.reg_b.Statement.{statement}
 use Rattle.optext.proofs.writing.reg_b.Tie as tie
 
-returns : tie.Need-returns
-unfolding regB registers
-returns c = search needs
-
 pub reg-b-spec : {M : Type 1} → statement M
-reg-b-spec = tie.close (tie.spec (λ c. search needs) (λ c. search needs) (λ c. search needs) (λ c. search needs) returns)
+unfolding regB registers
+reg-b-spec = tie.close (tie.spec (λ c. search needs) (λ c. search needs) (λ c. search needs) (λ c. search needs) (λ c. search needs))
