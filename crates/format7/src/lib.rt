@@ -274,7 +274,29 @@ fn no_result(
     tjmp(s, image, map, op)
 }
 
-// What modifies its operand is told first. The rest is called from two places, which keeps it out of line.
+// What is met seldom, kept out of line: a function with two call sites is not inlined.
+fn seldom(
+    s: State,
+    image: &mut [u8],
+    map: &[u8],
+    log: &mut [u16; 32],
+    out: Outside,
+    op: u16,
+    row: u16,
+) -> Went
+    requires { ⌜ Board (now map) (beside (now image) (now log)) ⌝ }
+    ensures { λ r. ⌜ Works (now (map .entry)) (Rows.noResultAt out s op row) (now (image .entry)) (now (log .entry)) r (now (image .exit)) (now (log .exit)) ⌝ }
+{
+    let t = s;
+    let o = out;
+    let m = map;
+    if op < 0x8000 {
+        return state::apart(no_result(t, image, m, log, o, op, row));
+    }
+    state::apart(no_result(t, image, m, log, o, op, row))
+}
+
+// What modifies its operand is told first.
 pub fn format7(
     s: State,
     image: &mut [u8],
@@ -293,11 +315,5 @@ pub fn format7(
     if row < 12 {
         return modify_byte(s, image, map, log, op, row);
     }
-    let t = s;
-    let o = out;
-    let m = map;
-    if op < 0x8000 {
-        return state::apart(no_result(t, image, m, log, o, op, row));
-    }
-    state::apart(no_result(t, image, m, log, o, op, row))
+    seldom(s, image, map, log, out, op, row)
 }

@@ -207,7 +207,28 @@ fn preset_code(
     }
 }
 
-// SOB and JSR are told first. The rest is called from two places, which keeps it out of line.
+// What is met seldom, kept out of line: a function with two call sites is not inlined.
+fn seldom(
+    s: State,
+    image: &mut [u8],
+    map: &[u8],
+    log: &mut [u16; 32],
+    out: Outside,
+    op: u16,
+) -> Went
+    requires { ⌜ (Board (now map) (beside (now image) (now log))) × (Spec.NeitherJsrNorSob op) ⌝ }
+    ensures { λ r. ⌜ Works (now (map .entry)) (Spec.format9 out s op) (now (image .entry)) (now (log .entry)) r (now (image .exit)) (now (log .exit)) ⌝ }
+{
+    let t = s;
+    let o = out;
+    let m = map;
+    if op < 0x7600 {
+        return state::apart(preset_code(t, image, m, log, o, op));
+    }
+    state::apart(preset_code(t, image, m, log, o, op))
+}
+
+// SOB and JSR are told first.
 pub fn format9(
     s: State,
     image: &mut [u8],
@@ -226,11 +247,5 @@ pub fn format9(
         let t = s.with_flags(shift::signed::preset());
         return jsr(t, image, map, log, out, op);
     }
-    let t = s;
-    let o = out;
-    let m = map;
-    if op < 0x7600 {
-        return state::apart(preset_code(t, image, m, log, o, op));
-    }
-    state::apart(preset_code(t, image, m, log, o, op))
+    seldom(s, image, map, log, out, op)
 }

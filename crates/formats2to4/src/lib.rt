@@ -30,7 +30,28 @@ fn formats_2_to_4(
     format4::format4(s, image, map, log, out, op)
 }
 
-// Format 1, then RTN, are told first. The rest is called from two places, which keeps it out of line.
+// What is met seldom, kept out of line: a function with two call sites is not inlined.
+fn seldom(
+    s: State,
+    image: &mut [u8],
+    map: &[u8],
+    log: &mut [u16; 32],
+    out: Outside,
+    op: u16,
+) -> Went
+    requires { ⌜ Board (now map) (beside (now image) (now log)) ⌝ }
+    ensures { λ r. ⌜ Works (now (map .entry)) (Spec.formats2to4 out s op) (now (image .entry)) (now (log .entry)) r (now (image .exit)) (now (log .exit)) ⌝ }
+{
+    let t = s;
+    let o = out;
+    let m = map;
+    if op < 0x40 {
+        return state::apart(formats_2_to_4(t, image, m, log, o, op));
+    }
+    state::apart(formats_2_to_4(t, image, m, log, o, op))
+}
+
+// Format 1, then RTN, are told first.
 pub fn low_codes(
     s: State,
     image: &mut [u8],
@@ -48,11 +69,5 @@ pub fn low_codes(
     if op / 8 == 3 {
         return format2::rtn(s, image, map, op % 8);
     }
-    let t = s;
-    let o = out;
-    let m = map;
-    if op < 0x40 {
-        return state::apart(formats_2_to_4(t, image, m, log, o, op));
-    }
-    state::apart(formats_2_to_4(t, image, m, log, o, op))
+    seldom(s, image, map, log, out, op)
 }

@@ -7,21 +7,29 @@ use Rattle.board.proofs.Laws.Bounded.{bounded-then, bounded-load, bounded-store
 use Rattle.state.specs.declared.State.{State}
 use Rattle.state.specs.declared.Outside.{Outside}
 use Rattle.state.proofs.Laws.Bounds.{bounded-push, bounded-pushReg, bounded-pop, bounded-popReg, bounded-popStatus, bounded-fetch, bounded-fromLoc, bounded-pushBoth}
-use Rattle.format1.specs.Format1.{bpt, save, savs, rest, rtt, rrtn, rrtt, rsts, rsvc, format1}
+use Rattle.format1.specs.Format1.{bpt, pushThree, popThree, save, savs, rest, rtt, rrtn, rrtt, rsts, rsvc, format1}
 
 bounded-bpt : (out : Outside) (s : State) → Bounded 2 (bpt out s)
 unfolding bpt
 bounded-bpt out s = bounded-then {k = 0} (omega arith) (bounded-pushBoth s _) (λ s. bounded-fromLoc s _)
 
+bounded-pushThree : (s : State) (i j k : ℕ) → Bounded 3 (pushThree s i j k)
+unfolding pushThree
+bounded-pushThree s i j k =
+    bounded-then {k = 2} (omega arith) (bounded-pushReg s i) λ s.
+    bounded-then {k = 1} (omega arith) (bounded-pushReg s j) λ s.
+    bounded-pushReg s k
+
+bounded-popThree : (s : State) (i j k : ℕ) → Bounded 0 (popThree s i j k)
+unfolding popThree
+bounded-popThree s i j k =
+    bounded-then {k = 0} (omega arith) (bounded-popReg s i) λ s.
+    bounded-then {k = 0} (omega arith) (bounded-popReg s j) λ s.
+    bounded-popReg s k
+
 pub bounded-save : (s : State) → Bounded 6 (save s)
 unfolding save
-bounded-save s =
-    bounded-then {k = 5} (omega arith) (bounded-pushReg s 5) λ s.
-    bounded-then {k = 4} (omega arith) (bounded-pushReg s 4) λ s.
-    bounded-then {k = 3} (omega arith) (bounded-pushReg s 3) λ s.
-    bounded-then {k = 2} (omega arith) (bounded-pushReg s 2) λ s.
-    bounded-then {k = 1} (omega arith) (bounded-pushReg s 1) λ s.
-    bounded-pushReg s 0
+bounded-save s = bounded-then {k = 3} (omega arith) (bounded-pushThree s 5 4 3) (λ s. bounded-pushThree s 2 1 0)
 
 bounded-savs : (s : State) → Bounded 8 (savs s)
 unfolding savs
@@ -35,13 +43,7 @@ bounded-savs s =
 
 bounded-rest : (s : State) → Bounded 0 (rest s)
 unfolding rest
-bounded-rest s =
-    bounded-then {k = 0} (omega arith) (bounded-popReg s 0) λ s.
-    bounded-then {k = 0} (omega arith) (bounded-popReg s 1) λ s.
-    bounded-then {k = 0} (omega arith) (bounded-popReg s 2) λ s.
-    bounded-then {k = 0} (omega arith) (bounded-popReg s 3) λ s.
-    bounded-then {k = 0} (omega arith) (bounded-popReg s 4) λ s.
-    bounded-popReg s 5
+bounded-rest s = bounded-then {k = 0} (omega arith) (bounded-popThree s 0 1 2) (λ s. bounded-popThree s 3 4 5)
 
 bounded-rtt : (s : State) → Bounded 0 (rtt s)
 unfolding rtt

@@ -24,30 +24,6 @@ returns-2 c =
     rw (c .before .before .before .before .before .before .before .if2 .taken)
     (record { got = (rw (c .before .before .before .before .before .with-flags .ensures, c .before .before .before .before .before .before .preset .ensures) at (c .before .before .jsr .ensures)) .got; board = c .before .before .jsr .ensures .board })
 
-preset-code-requires : tie.Need-preset-code-requires
-preset-code-requires c κs = (c .before .before .before .before .before .before .before .pre, record { not-jsr = c .before .before .before .if2 .left; not-sob = c .before .before .before .before .if1 .left })
-
-same-length-2 : tie.Need-same-length-2
-same-length-2 c = c .before .before .before .preset-code .ensures .board .lent .size ∙ sym (c .before .before .before .before .before .before .before .before .before .before .before .pre .lent .size)
-
-returns-3 : tie.Need-returns-3
-unfolding format9
-returns-3 c =
-    rw (c .apart .ensures)
-    (record { got = c .before .before .before .preset-code .ensures .got; board = c .before .before .before .preset-code .ensures .board })
-
-preset-code-requires-2 : tie.Need-preset-code-requires-2
-preset-code-requires-2 c κs = (c .before .before .before .before .before .before .before .pre, record { not-jsr = c .before .before .before .if2 .left; not-sob = c .before .before .before .before .if1 .left })
-
-same-length-3 : tie.Need-same-length-3
-same-length-3 c = c .before .before .before .preset-code2 .ensures .board .lent .size ∙ sym (c .before .before .before .before .before .before .before .before .before .before .before .pre .lent .size)
-
-returns-4 : tie.Need-returns-4
-unfolding format9
-returns-4 c =
-    rw (c .apart2 .ensures)
-    (record { got = c .before .before .before .preset-code2 .ensures .got; board = c .before .before .before .preset-code2 .ensures .board })
-
 pub format9-spec : {M : Type 1} → statement M
 format9-spec =
     tie.close
@@ -59,11 +35,6 @@ format9-spec =
     jsr-requires
     same-length
     returns-2
-    preset-code-requires
     (λ c κs. search needs)
-    same-length-2
-    returns-3
-    preset-code-requires-2
-    (λ c κs. search needs)
-    same-length-3
-    returns-4)
+    (λ c. search needs)
+    (λ c. search needs))
