@@ -1,4 +1,6 @@
 // Formats 1 to 4: the op codes whose high byte is 00.
+use opcodes::fields::format2_code;
+use opcodes::fields::only_register;
 use state::Outside;
 use state::State;
 use state::Went;
@@ -66,8 +68,8 @@ pub fn low_codes(
     if op < 0x10 {
         return format1::format1(s, image, map, log, out, op);
     }
-    if op / 8 == 3 {
-        return format2::rtn(s, image, map, op % 8);
+    if format2_code(op) == 3 {
+        return format2::rtn(s, image, map, only_register(op));
     }
     seldom(s, image, map, log, out, op)
 }

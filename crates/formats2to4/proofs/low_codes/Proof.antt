@@ -19,17 +19,17 @@ returns c =
     (record { got = c .before .before .format1 .ensures .got; board = c .before .before .format1 .ensures .board })
 
 rtn-requires : tie.Need-rtn-requires
-rtn-requires c κs = c .before .before .before .before .before .pre .lent
+rtn-requires c κs = c .before .before .before .before .before .before .before .pre .lent
 
 returns-2 : tie.Need-returns-2
 returns-2 c =
-    rw (low-rtn _ _ (c .before .before .before .before .before .before .args .op) (c .before .before .if2 .taken))
-    (record { got = c .rtn .ensures .got; board = c .before .before .before .before .before .before .pre })
+    rw (low-rtn _ _ (c .before .before .before .before .before .before .before .before .args .op) (sym (c .before .before .before .before .format2-code .ensures) ∙ c .before .before .before .if2 .taken), ← c .before .only-register .ensures)
+    (record { got = c .rtn .ensures .got; board = c .before .before .before .before .before .before .before .before .pre })
 
 returns-3 : tie.Need-returns-3
 unfolding lowCodes
 returns-3 c =
-    rw (le-ltb _ _ (c .before .before .before .before .before .before .if1 .left))
+    rw (le-ltb _ _ (c .before .before .before .before .before .before .before .if1 .left))
     (record { got = c .before .before .seldom .ensures .got; board = c .before .before .seldom .ensures .board })
 
 pub low-codes-spec : {M : Type 1} → statement M
@@ -39,6 +39,8 @@ low-codes-spec =
     format1-requires
     same-length
     returns
+    (λ c κs. search needs)
+    (λ c κs. search needs)
     rtn-requires
     (λ c. search needs)
     returns-2
