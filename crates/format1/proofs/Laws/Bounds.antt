@@ -9,10 +9,6 @@ use Rattle.state.specs.declared.Outside.{Outside}
 use Rattle.state.proofs.Laws.Bounds.{bounded-push, bounded-pushReg, bounded-pop, bounded-popReg, bounded-popStatus, bounded-fetch, bounded-fromLoc, bounded-pushBoth}
 use Rattle.format1.specs.Format1.{bpt, pushThree, popThree, save, savs, rest, rtt, rrtn, rrtt, rsts, rsvc, format1}
 
-bounded-bpt : (out : Outside) (s : State) → Bounded 2 (bpt out s)
-unfolding bpt
-bounded-bpt out s = bounded-then {k = 0} (omega arith) (bounded-pushBoth s _) (λ s. bounded-fromLoc s _)
-
 bounded-pushThree : (s : State) (i j k : ℕ) → Bounded 3 (pushThree s i j k)
 unfolding pushThree
 bounded-pushThree s i j k =
@@ -49,27 +45,8 @@ bounded-rtt : (s : State) → Bounded 0 (rtt s)
 unfolding rtt
 bounded-rtt s = bounded-then {k = 0} (omega arith) (bounded-popReg s 7) (λ s. bounded-popStatus s)
 
-bounded-rrtn : (s : State) → Bounded 0 (rrtn s)
-unfolding rrtn
-bounded-rrtn s = bounded-then {k = 0} (omega arith) (bounded-rest s) (λ s. bounded-popReg s 7)
-
-bounded-rrtt : (s : State) → Bounded 0 (rrtt s)
-unfolding rrtt
-bounded-rrtt s = bounded-then {k = 0} (omega arith) (bounded-rest s) (λ s. bounded-rtt s)
-
-bounded-rsts : (s : State) → Bounded 1 (rsts s)
-unfolding rsts
-bounded-rsts s =
-    bounded-then {k = 1} (omega arith) (bounded-pop s) λ mask.
-    bounded-then {k = 0} (omega arith) (bounded-store word _ _) λ _.
-    bounded-rrtt _
-
-bounded-rsvc : (s : State) → Bounded 0 (rsvc s)
-unfolding rsvc
-bounded-rsvc s = bounded-then {k = 0} (omega arith) (bounded-rest s) (λ s. bounded-rtt _)
-
 pub bounded-format1 : (out : Outside) (s : State) (op : ℕ) → Bounded 9 (format1 out s op)
-unfolding format1
+unfolding format1 bpt rsvc rrtt rrtn rsts
 bounded-format1 out s op =
     bounded-getD op
     (also (gives _)
@@ -78,15 +55,15 @@ bounded-format1 out s op =
     (also (gives _)
     (also (gives _)
     (also (gives _)
-    (also (bounded-more (omega arith) (bounded-bpt out s))
+    (also (bounded-then {k = 0} (omega arith) (bounded-pushBoth s _) (λ s. bounded-fromLoc s _))
     (also (gives _)
-    (also (bounded-more (omega arith) (bounded-rsvc s))
-    (also (bounded-more (omega arith) (bounded-rrtt s))
+    (also (bounded-then {k = 0} (omega arith) (bounded-rest s) (λ s. bounded-rtt _))
+    (also (bounded-then {k = 0} (omega arith) (bounded-rest s) (λ s. bounded-rtt s))
     (also (bounded-more (omega arith) (bounded-save s))
     (also (bounded-more (omega arith) (bounded-savs s))
     (also (bounded-more (omega arith) (bounded-rest s))
-    (also (bounded-more (omega arith) (bounded-rrtn s))
-    (also (bounded-more (omega arith) (bounded-rsts s))
+    (also (bounded-then {k = 0} (omega arith) (bounded-rest s) (λ s. bounded-popReg s 7))
+    (also (bounded-then {k = 1} (omega arith) (bounded-pop s) (λ mask. bounded-then {k = 0} (omega arith) (bounded-store word _ _) (λ _. bounded-then {k = 0} (omega arith) (bounded-rest _) (λ s. bounded-rtt s))))
     (also (bounded-more (omega arith) (bounded-rtt s))
     none))))))))))))))))
     (bounded-more (omega arith) (bounded-rtt s))
