@@ -43,15 +43,24 @@ bpt out s = do
 abbrev pub wfi : State → State
 wfi s = withMode (withI2 s true) Waiting
 
+-- three registers are pushed, or popped, one after the other
+unfoldable pub pushThree : State → ℕ → ℕ → ℕ → Work State
+pushThree s i j k = do
+  s ← pushReg s i
+  s ← pushReg s j
+  pushReg s k
+
+unfoldable pub popThree : State → ℕ → ℕ → ℕ → Work State
+popThree s i j k = do
+  s ← popReg s i
+  s ← popReg s j
+  popReg s k
+
 -- SAVE: R5 to R0 are pushed
 unfoldable pub save : State → Work State
 save s = do
-  s ← pushReg s 5
-  s ← pushReg s 4
-  s ← pushReg s 3
-  s ← pushReg s 2
-  s ← pushReg s 1
-  pushReg s 0
+  s ← pushThree s 5 4 3
+  pushThree s 2 1 0
 
 -- SAVS: SAVE; ↓ SP, @SP ← (loc 2E); (loc 2E) ← (loc 2E) or MASK; IEN
 unfoldable pub savs : State → Work State
@@ -66,12 +75,8 @@ savs s = do
 -- REST: R0 to R5 are popped
 unfoldable pub rest : State → Work State
 rest s = do
-  s ← popReg s 0
-  s ← popReg s 1
-  s ← popReg s 2
-  s ← popReg s 3
-  s ← popReg s 4
-  popReg s 5
+  s ← popThree s 0 1 2
+  popThree s 3 4 5
 
 -- RTT: PC ← @SP, SP ↑; PS ← @SP, SP ↑
 unfoldable pub rtt : State → Work State

@@ -58,32 +58,40 @@ fn bpt(s: State, image: &mut [u8], map: &[u8], log: &mut [u16; 32], out: Outside
     t.from_loc(image, map, 0x2c)
 }
 
+// Three registers are pushed.
+fn push_three(
+    s: State,
+    image: &mut [u8],
+    map: &[u8],
+    log: &mut [u16; 32],
+    i: u16,
+    j: u16,
+    k: u16,
+) -> Went
+    requires { ⌜ Board (now map) (beside (now image) (now log)) ⌝ }
+    ensures { λ r. ⌜ Works (now (map .entry)) (Spec.pushThree s i j k) (now (image .entry)) (now (log .entry)) r (now (image .exit)) (now (log .exit)) ⌝ }
+{
+    let first = s.push_reg(image, map, log, i);
+    let Went::Done(t) = first else {
+        return first;
+    };
+    let second = t.push_reg(image, map, log, j);
+    let Went::Done(u) = second else {
+        return second;
+    };
+    u.push_reg(image, map, log, k)
+}
+
 // SAVE: R5 to R0 are pushed.
 pub fn save(s: State, image: &mut [u8], map: &[u8], log: &mut [u16; 32]) -> Went
     requires { ⌜ Board (now map) (beside (now image) (now log)) ⌝ }
     ensures { λ r. ⌜ Works (now (map .entry)) (Spec.save s) (now (image .entry)) (now (log .entry)) r (now (image .exit)) (now (log .exit)) ⌝ }
 {
-    let went5 = s.push_reg(image, map, log, 5);
-    let Went::Done(s5) = went5 else {
-        return went5;
+    let went = push_three(s, image, map, log, 5, 4, 3);
+    let Went::Done(t) = went else {
+        return went;
     };
-    let went4 = s5.push_reg(image, map, log, 4);
-    let Went::Done(s4) = went4 else {
-        return went4;
-    };
-    let went3 = s4.push_reg(image, map, log, 3);
-    let Went::Done(s3) = went3 else {
-        return went3;
-    };
-    let went2 = s3.push_reg(image, map, log, 2);
-    let Went::Done(s2) = went2 else {
-        return went2;
-    };
-    let went1 = s2.push_reg(image, map, log, 1);
-    let Went::Done(s1) = went1 else {
-        return went1;
-    };
-    s1.push_reg(image, map, log, 0)
+    push_three(t, image, map, log, 2, 1, 0)
 }
 
 // SAVS: SAVE; ↓ SP, @SP ← (loc 2E); (loc 2E) ← (loc 2E) or MASK; IEN.
@@ -112,32 +120,32 @@ fn savs(s: State, image: &mut [u8], map: &[u8], log: &mut [u16; 32]) -> Went
     Went::Done(ien(pushed))
 }
 
+// Three registers are popped.
+fn pop_three(s: State, image: &[u8], map: &[u8], i: u16, j: u16, k: u16) -> Went
+    requires { ⌜ Lent (now map) (now image) ⌝ }
+    ensures { λ r. ⌜ Saw (now (map .entry)) (Spec.popThree s i j k) (now (image .entry)) (wentAs r) ⌝ }
+{
+    let first = s.pop_reg(image, map, i);
+    let Went::Done(t) = first else {
+        return first;
+    };
+    let second = t.pop_reg(image, map, j);
+    let Went::Done(u) = second else {
+        return second;
+    };
+    u.pop_reg(image, map, k)
+}
+
 // REST: R0 to R5 are popped.
 fn rest(s: State, image: &[u8], map: &[u8]) -> Went
     requires { ⌜ Lent (now map) (now image) ⌝ }
     ensures { λ r. ⌜ Saw (now (map .entry)) (Spec.rest s) (now (image .entry)) (wentAs r) ⌝ }
 {
-    let went0 = s.pop_reg(image, map, 0);
-    let Went::Done(s0) = went0 else {
-        return went0;
+    let went = pop_three(s, image, map, 0, 1, 2);
+    let Went::Done(t) = went else {
+        return went;
     };
-    let went1 = s0.pop_reg(image, map, 1);
-    let Went::Done(s1) = went1 else {
-        return went1;
-    };
-    let went2 = s1.pop_reg(image, map, 2);
-    let Went::Done(s2) = went2 else {
-        return went2;
-    };
-    let went3 = s2.pop_reg(image, map, 3);
-    let Went::Done(s3) = went3 else {
-        return went3;
-    };
-    let went4 = s3.pop_reg(image, map, 4);
-    let Went::Done(s4) = went4 else {
-        return went4;
-    };
-    s4.pop_reg(image, map, 5)
+    pop_three(t, image, map, 3, 4, 5)
 }
 
 // RTT: PC ← @SP, SP ↑; PS ← @SP, SP ↑.
@@ -235,7 +243,28 @@ fn by_number(
     }
 }
 
-// SAVE, REST and RTT are tried first. The rest is called from two places, which keeps it out of line.
+// What is met seldom, kept out of line: a function with two call sites is not inlined.
+fn seldom(
+    s: State,
+    image: &mut [u8],
+    map: &[u8],
+    log: &mut [u16; 32],
+    out: Outside,
+    op: u16,
+) -> Went
+    requires { ⌜ Board (now map) (beside (now image) (now log)) ⌝ }
+    ensures { λ r. ⌜ Works (now (map .entry)) (Spec.format1 out s op) (now (image .entry)) (now (log .entry)) r (now (image .exit)) (now (log .exit)) ⌝ }
+{
+    let t = s;
+    let o = out;
+    let m = map;
+    if op < 8 {
+        return state::apart(by_number(t, image, m, log, o, op));
+    }
+    state::apart(by_number(t, image, m, log, o, op))
+}
+
+// SAVE, REST and RTT are tried first.
 pub fn format1(
     s: State,
     image: &mut [u8],
@@ -258,11 +287,5 @@ pub fn format1(
     if op == 15 {
         return rtt(s, image, map);
     }
-    let t = s;
-    let o = out;
-    let m = map;
-    if op < 8 {
-        return state::apart(by_number(t, image, m, log, o, op));
-    }
-    state::apart(by_number(t, image, m, log, o, op))
+    seldom(s, image, map, log, out, op)
 }

@@ -3,6 +3,11 @@ use board::Byte;
 use board::Word;
 use opcodes::Binary;
 use opcodes::ByteBinary;
+use opcodes::fields::destination_mode;
+use opcodes::fields::destination_register;
+use opcodes::fields::high_digit;
+use opcodes::fields::source_mode;
+use opcodes::fields::source_register;
 use operand::Found;
 use operand::Place;
 use operand::byte_step;
@@ -28,9 +33,9 @@ fn binary_number(op: u16) -> u16
     ensures { λ r. ⌜ r ≡ Spec.binaryNumber op ⌝ }
 {
     if op < 0x8000 {
-        minus(op / 4096, 1)
+        minus(high_digit(op), 1)
     } else {
-        minus(op / 4096, 3)
+        minus(high_digit(op), 3)
     }
 }
 
@@ -75,13 +80,15 @@ fn onto_words(s: State, image: &mut [u8], map: &[u8], log: &mut [u16; 32], op: u
     requires { ⌜ Board (now map) (beside (now image) (now log)) ⌝ }
     ensures { λ r. ⌜ Works (now (map .entry)) (Spec.ontoWords (Spec.binaryCode op) s op x) (now (image .entry)) (now (log .entry)) r (now (image .exit)) (now (log .exit)) ⌝ }
 {
-    let to = op % 8;
-    let found = locate(image, map, 2, to, s.reg(to), s.regs.pc, op / 8 % 8);
+    let to = destination_register(op);
+    let mode = destination_mode(op);
+    let opc = high_digit(op);
+    let found = locate(image, map, 2, to, s.reg(to), s.regs.pc, mode);
     let Found::At(place) = found else {
         return unfound(found);
     };
     let u = moved(s, place);
-    if op / 4096 == 11 {
+    if opc == 11 {
         let done = wordmath::result::mov16(x, u.flags);
         return operand::write_word(u.with_flags(done.flags), image, map, log, to, place, x);
     }
@@ -107,8 +114,9 @@ fn on_words(s: State, image: &mut [u8], map: &[u8], log: &mut [u16; 32], op: u16
     requires { ⌜ Board (now map) (beside (now image) (now log)) ⌝ }
     ensures { λ r. ⌜ Works (now (map .entry)) (Spec.onWords (Spec.binaryCode op) s op) (now (image .entry)) (now (log .entry)) r (now (image .exit)) (now (log .exit)) ⌝ }
 {
-    let from = op / 64 % 8;
-    let found = locate(image, map, 2, from, s.reg(from), s.regs.pc, op / 512 % 8);
+    let from = source_register(op);
+    let mode = source_mode(op);
+    let found = locate(image, map, 2, from, s.reg(from), s.regs.pc, mode);
     let Found::At(source) = found else {
         return unfound(found);
     };
@@ -163,14 +171,16 @@ fn onto_bytes(s: State, image: &mut [u8], map: &[u8], log: &mut [u16; 32], op: u
     requires { ⌜ Board (now map) (beside (now image) (now log)) ⌝ }
     ensures { λ r. ⌜ Works (now (map .entry)) (Spec.ontoBytes (Spec.byteCode op) s op x) (now (image .entry)) (now (log .entry)) r (now (image .exit)) (now (log .exit)) ⌝ }
 {
-    let to = op % 8;
+    let to = destination_register(op);
+    let mode = destination_mode(op);
+    let opc = high_digit(op);
     let step = byte_step(to);
-    let found = locate(image, map, step, to, s.reg(to), s.regs.pc, op / 8 % 8);
+    let found = locate(image, map, step, to, s.reg(to), s.regs.pc, mode);
     let Found::At(place) = found else {
         return unfound(found);
     };
     let u = moved(s, place);
-    if op / 4096 == 13 {
+    if opc == 13 {
         let done = wordmath::result::mov8(x, u.flags);
         return move_byte(
             u.with_flags(done.flags),
@@ -185,7 +195,7 @@ fn onto_bytes(s: State, image: &mut [u8], map: &[u8], log: &mut [u16; 32], op: u
     let Byte::Value(y) = read_byte(image, map, place, u.reg(to)) else {
         return unanswered(place);
     };
-    let b = opcodes::byte_binary_at(minus(op / 4096, 12));
+    let b = opcodes::byte_binary_at(minus(opc, 12));
     let done = arith::binary::byte_binary(b, x, y, u.flags);
     let w = u.with_flags(done.flags);
     settle_byte(w, image, map, log, b, to, place, done.value)
@@ -196,9 +206,9 @@ fn on_bytes(s: State, image: &mut [u8], map: &[u8], log: &mut [u16; 32], op: u16
     requires { ⌜ Board (now map) (beside (now image) (now log)) ⌝ }
     ensures { λ r. ⌜ Works (now (map .entry)) (Spec.onBytes (Spec.byteCode op) s op) (now (image .entry)) (now (log .entry)) r (now (image .exit)) (now (log .exit)) ⌝ }
 {
-    let from = op / 64 % 8;
+    let from = source_register(op);
+    let mode = source_mode(op);
     let step = byte_step(from);
-    let mode = op / 512 % 8;
     let found = locate(image, map, step, from, s.reg(from), s.regs.pc, mode);
     let Found::At(source) = found else {
         return unfound(found);

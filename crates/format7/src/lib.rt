@@ -1,6 +1,8 @@
 // Format 7: one operand.
 use board::Byte;
 use board::Word;
+use opcodes::fields::destination_mode;
+use opcodes::fields::destination_register;
 use operand::Found;
 use operand::Held;
 use operand::Place;
@@ -53,11 +55,18 @@ fn further_word(op: u16, row: u16, d: u16, f: Flags) -> Done
     }
 }
 
+// The operand is in a register: mode 0.
+fn in_register(op: u16) -> bool
+    ensures { λ r. ⌜ r ≡ Spec.inRegister op ⌝ }
+{
+    destination_mode(op) == 0
+}
+
 fn word_result(op: u16, row: u16, d: u16, f: Flags) -> Done
     ensures { λ r. ⌜ r ≡ Rows.resultAt word op row d f ⌝ }
 {
     if row < 12 {
-        return unary::by_code::unary16(opcodes::unary_at(row), op / 8 % 8 == 0, d, f);
+        return unary::by_code::unary16(opcodes::unary_at(row), in_register(op), d, f);
     }
     further_word(op, row, d, f)
 }
@@ -65,7 +74,7 @@ fn word_result(op: u16, row: u16, d: u16, f: Flags) -> Done
 fn byte_result(op: u16, row: u16, d: u8, f: Flags) -> Done
     ensures { λ r. ⌜ r ≡ Rows.resultAt byte op row d f ⌝ }
 {
-    unary::by_code::unary8(opcodes::unary_at(row), op / 8 % 8 == 0, d, f)
+    unary::by_code::unary8(opcodes::unary_at(row), in_register(op), d, f)
 }
 
 fn stored_word(
@@ -81,10 +90,11 @@ fn stored_word(
     requires { ⌜ Board (now map) (beside (now image) (now log)) ⌝ }
     ensures { λ r. ⌜ Works (now (map .entry)) (Rows.storedAt word op row s place v) (now (image .entry)) (now (log .entry)) r (now (image .exit)) (now (log .exit)) ⌝ }
 {
+    let k = destination_register(op);
     if row == 2 {
         return Went::Done(s);
     }
-    operand::write_word(s, image, map, log, op % 8, place, v)
+    operand::write_word(s, image, map, log, k, place, v)
 }
 
 fn stored_byte(
@@ -100,10 +110,11 @@ fn stored_byte(
     requires { ⌜ Board (now map) (beside (now image) (now log)) ⌝ }
     ensures { λ r. ⌜ Works (now (map .entry)) (Rows.storedAt byte op row s place v) (now (image .entry)) (now (log .entry)) r (now (image .exit)) (now (log .exit)) ⌝ }
 {
+    let k = destination_register(op);
     if row == 2 {
         return Went::Done(s);
     }
-    operand::write_byte(s, image, map, log, op % 8, place, v)
+    operand::write_byte(s, image, map, log, k, place, v)
 }
 
 // ROR to DEC, IW2, SXT, ADC, SBC.
@@ -118,8 +129,9 @@ fn modify_word(
     requires { ⌜ Board (now map) (beside (now image) (now log)) ⌝ }
     ensures { λ r. ⌜ Works (now (map .entry)) (Rows.modifyAt word s op row) (now (image .entry)) (now (log .entry)) r (now (image .exit)) (now (log .exit)) ⌝ }
 {
-    let k = op % 8;
-    let found = locate(image, map, 2, k, s.reg(k), s.regs.pc, op / 8 % 8);
+    let k = destination_register(op);
+    let mode = destination_mode(op);
+    let found = locate(image, map, 2, k, s.reg(k), s.regs.pc, mode);
     let Found::At(place) = found else {
         return unfound(found);
     };
@@ -152,8 +164,9 @@ fn modify_byte(
     requires { ⌜ Board (now map) (beside (now image) (now log)) ⌝ }
     ensures { λ r. ⌜ Works (now (map .entry)) (Rows.modifyAt byte s op row) (now (image .entry)) (now (log .entry)) r (now (image .exit)) (now (log .exit)) ⌝ }
 {
-    let k = op % 8;
-    let found = locate(image, map, byte_step(k), k, s.reg(k), s.regs.pc, op / 8 % 8);
+    let k = destination_register(op);
+    let mode = destination_mode(op);
+    let found = locate(image, map, byte_step(k), k, s.reg(k), s.regs.pc, mode);
     let Found::At(place) = found else {
         return unfound(found);
     };
@@ -219,11 +232,12 @@ fn ssts(s: State, image: &mut [u8], map: &[u8], log: &mut [u16; 32], out: Outsid
     requires { ⌜ Board (now map) (beside (now image) (now log)) ⌝ }
     ensures { λ r. ⌜ Works (now (map .entry)) (Spec.ssts out s op) (now (image .entry)) (now (log .entry)) r (now (image .exit)) (now (log .exit)) ⌝ }
 {
+    let k = destination_register(op);
     let held = destination_word(s, image, map, op);
     let Held::At(t, place, _) = held else {
         return unheld(held);
     };
-    operand::write_word(t, image, map, log, op % 8, place, t.ps(out, false))
+    operand::write_word(t, image, map, log, k, place, t.ps(out, false))
 }
 
 // 0A00 to 0D7F, and 8D80, 8DC0.
@@ -274,7 +288,29 @@ fn no_result(
     tjmp(s, image, map, op)
 }
 
-// What modifies its operand is tried first. The rest is called from two places, which keeps it out of line.
+// What is met seldom, kept out of line: a function with two call sites is not inlined.
+fn seldom(
+    s: State,
+    image: &mut [u8],
+    map: &[u8],
+    log: &mut [u16; 32],
+    out: Outside,
+    op: u16,
+    row: u16,
+) -> Went
+    requires { ⌜ Board (now map) (beside (now image) (now log)) ⌝ }
+    ensures { λ r. ⌜ Works (now (map .entry)) (Rows.noResultAt out s op row) (now (image .entry)) (now (log .entry)) r (now (image .exit)) (now (log .exit)) ⌝ }
+{
+    let t = s;
+    let o = out;
+    let m = map;
+    if op < 0x8000 {
+        return state::apart(no_result(t, image, m, log, o, op, row));
+    }
+    state::apart(no_result(t, image, m, log, o, op, row))
+}
+
+// What modifies its operand is tried first.
 pub fn format7(
     s: State,
     image: &mut [u8],
@@ -293,11 +329,5 @@ pub fn format7(
     if row < 12 {
         return modify_byte(s, image, map, log, op, row);
     }
-    let t = s;
-    let o = out;
-    let m = map;
-    if op < 0x8000 {
-        return state::apart(no_result(t, image, m, log, o, op, row));
-    }
-    state::apart(no_result(t, image, m, log, o, op, row))
+    seldom(s, image, map, log, out, op, row)
 }

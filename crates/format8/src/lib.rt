@@ -2,6 +2,9 @@
 use board::Byte;
 use board::Kept;
 use board::Word;
+use opcodes::fields::block_destination;
+use opcodes::fields::block_source;
+use opcodes::fields::format8_code;
 use state::State;
 use state::Went;
 use state::unwritten;
@@ -118,9 +121,9 @@ pub fn format8(s: State, image: &mut [u8], map: &[u8], log: &mut [u16; 32], op: 
     requires { ⌜ Board (now map) (beside (now image) (now log)) ⌝ }
     ensures { λ r. ⌜ Works (now (map .entry)) (Spec.format8 s op) (now (image .entry)) (now (log .entry)) r (now (image .exit)) (now (log .exit)) ⌝ }
 {
-    let row = row_at(op / 64 % 8);
-    let i = op / 8 % 8;
-    let j = op % 8;
+    let row = row_at(format8_code(op));
+    let i = block_source(op);
+    let j = block_destination(op);
     let kept = transfer(image, map, log, row.bytes, s.reg(i), s.reg(j));
     let Kept::Done = kept else {
         return unwritten(kept);

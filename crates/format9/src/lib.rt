@@ -1,4 +1,9 @@
 // Format 9: REG and DST.
+use opcodes::fields::destination_mode;
+use opcodes::fields::destination_register;
+use opcodes::fields::format9_code;
+use opcodes::fields::offset;
+use opcodes::fields::register;
 use operand::Found;
 use operand::Held;
 use operand::Place;
@@ -59,13 +64,15 @@ fn jsr(s: State, image: &mut [u8], map: &[u8], log: &mut [u16; 32], out: Outside
     requires { ⌜ Board (now map) (beside (now image) (now log)) ⌝ }
     ensures { λ r. ⌜ Works (now (map .entry)) (Spec.jsr out s op) (now (image .entry)) (now (log .entry)) r (now (image .exit)) (now (log .exit)) ⌝ }
 {
-    let k = op % 8;
-    let found = locate(image, map, 2, k, s.reg(k), s.regs.pc, op / 8 % 8);
+    let k = destination_register(op);
+    let mode = destination_mode(op);
+    let r = register(op);
+    let found = locate(image, map, 2, k, s.reg(k), s.regs.pc, mode);
     let Found::At(to) = found else {
         return unfound(found);
     };
     let t = moved(s, to);
-    jsr_to(t, image, map, log, out, op / 64 % 8, to)
+    jsr_to(t, image, map, log, out, r, to)
 }
 
 fn lea_to(
@@ -91,13 +98,15 @@ fn lea(s: State, image: &mut [u8], map: &[u8], log: &mut [u16; 32], out: Outside
     requires { ⌜ Board (now map) (beside (now image) (now log)) ⌝ }
     ensures { λ r. ⌜ Works (now (map .entry)) (Spec.lea out s op) (now (image .entry)) (now (log .entry)) r (now (image .exit)) (now (log .exit)) ⌝ }
 {
-    let k = op % 8;
-    let found = locate(image, map, 2, k, s.reg(k), s.regs.pc, op / 8 % 8);
+    let k = destination_register(op);
+    let mode = destination_mode(op);
+    let r = register(op);
+    let found = locate(image, map, 2, k, s.reg(k), s.regs.pc, mode);
     let Found::At(to) = found else {
         return unfound(found);
     };
     let t = moved(s, to);
-    lea_to(t, image, map, log, out, op / 64 % 8, to)
+    lea_to(t, image, map, log, out, r, to)
 }
 
 // ASH: REG is shifted by (DST), a signed byte.
@@ -105,11 +114,11 @@ fn ash(s: State, image: &[u8], map: &[u8], op: u16) -> Went
     requires { ⌜ Lent (now map) (now image) ⌝ }
     ensures { λ r. ⌜ Saw (now (map .entry)) (Spec.ash s op) (now (image .entry)) (wentAs r) ⌝ }
 {
+    let k = register(op);
     let held = destination_byte(s, image, map, op);
     let Held::At(t, _, n) = held else {
         return unheld(held);
     };
-    let k = op / 64 % 8;
     let done = shift::signed::ash(t.reg(k), (n % 256) as u8);
     Went::Done(t.with_done(k, done))
 }
@@ -118,13 +127,14 @@ fn ash(s: State, image: &[u8], map: &[u8], op: u16) -> Went
 fn sob(s: State, op: u16) -> State
     ensures { λ r. ⌜ r ≡ Spec.sob s op ⌝ }
 {
-    let k = op / 64 % 8;
+    let k = register(op);
+    let n = offset(op);
     let v = minus(s.reg(k), 1);
     let t = s.with_reg(k, v);
     if v == 0 {
         return t;
     }
-    t.with_pc(minus(t.regs.pc, op % 64 * 2))
+    t.with_pc(minus(t.regs.pc, n * 2))
 }
 
 // XCH: REG and (DST) are exchanged.
@@ -132,13 +142,14 @@ fn xch(s: State, image: &mut [u8], map: &[u8], log: &mut [u16; 32], op: u16) -> 
     requires { ⌜ Board (now map) (beside (now image) (now log)) ⌝ }
     ensures { λ r. ⌜ Works (now (map .entry)) (Spec.xch s op) (now (image .entry)) (now (log .entry)) r (now (image .exit)) (now (log .exit)) ⌝ }
 {
+    let k = register(op);
+    let to = destination_register(op);
     let held = destination_word(s, image, map, op);
     let Held::At(t, place, d) = held else {
         return unheld(held);
     };
-    let k = op / 64 % 8;
     let r = t.reg(k);
-    operand::write_word(t.with_reg(k, d), image, map, log, op % 8, place, r)
+    operand::write_word(t.with_reg(k, d), image, map, log, to, place, r)
 }
 
 // ASHC: as ASH, on REG+1:REG.
@@ -146,11 +157,11 @@ fn ashc(s: State, image: &[u8], map: &[u8], op: u16) -> Went
     requires { ⌜ Lent (now map) (now image) ⌝ }
     ensures { λ r. ⌜ Saw (now (map .entry)) (Spec.ashc s op) (now (image .entry)) (wentAs r) ⌝ }
 {
+    let k = register(op);
     let held = destination_byte(s, image, map, op);
     let Held::At(t, _, n) = held else {
         return unheld(held);
     };
-    let k = op / 64 % 8;
     let pair = shift::signed::ashc(t.reg(k), t.reg(state::next(k)), (n % 256) as u8);
     Went::Done(t.with_pair(k, pair))
 }
@@ -160,11 +171,11 @@ fn mul(s: State, image: &[u8], map: &[u8], op: u16) -> Went
     requires { ⌜ Lent (now map) (now image) ⌝ }
     ensures { λ r. ⌜ Saw (now (map .entry)) (Spec.mul s op) (now (image .entry)) (wentAs r) ⌝ }
 {
+    let k = register(op);
     let held = destination_word(s, image, map, op);
     let Held::At(t, _, d) = held else {
         return unheld(held);
     };
-    let k = op / 64 % 8;
     let pair = arith::wide::mul(t.reg(k), d);
     Went::Done(t.with_pair(k, pair))
 }
@@ -174,11 +185,11 @@ fn div(s: State, image: &[u8], map: &[u8], op: u16) -> Went
     requires { ⌜ Lent (now map) (now image) ⌝ }
     ensures { λ r. ⌜ Saw (now (map .entry)) (Spec.div s op) (now (image .entry)) (wentAs r) ⌝ }
 {
+    let k = register(op);
     let held = destination_word(s, image, map, op);
     let Held::At(t, _, d) = held else {
         return unheld(held);
     };
-    let k = op / 64 % 8;
     let pair = arith::wide::div(t.reg(k), t.reg(state::next(k)), d);
     Went::Done(t.with_pair(k, pair))
 }
@@ -195,9 +206,9 @@ fn preset_code(
     requires { ⌜ (Board (now map) (beside (now image) (now log))) × (Spec.NeitherJsrNorSob op) ⌝ }
     ensures { λ r. ⌜ Works (now (map .entry)) (Spec.format9 out s op) (now (image .entry)) (now (log .entry)) r (now (image .exit)) (now (log .exit)) ⌝ }
 {
+    let opc = format9_code(op);
     let t = s.with_flags(shift::signed::preset());
-    let which = op / 512 % 8;
-    match which {
+    match opc {
         1 => lea(t, image, map, log, out, op),
         2 => ash(t, image, map, op),
         4 => xch(t, image, map, log, op),
@@ -207,7 +218,28 @@ fn preset_code(
     }
 }
 
-// SOB and JSR are tried first. The rest is called from two places, which keeps it out of line.
+// What is met seldom, kept out of line: a function with two call sites is not inlined.
+fn seldom(
+    s: State,
+    image: &mut [u8],
+    map: &[u8],
+    log: &mut [u16; 32],
+    out: Outside,
+    op: u16,
+) -> Went
+    requires { ⌜ (Board (now map) (beside (now image) (now log))) × (Spec.NeitherJsrNorSob op) ⌝ }
+    ensures { λ r. ⌜ Works (now (map .entry)) (Spec.format9 out s op) (now (image .entry)) (now (log .entry)) r (now (image .exit)) (now (log .exit)) ⌝ }
+{
+    let t = s;
+    let o = out;
+    let m = map;
+    if op < 0x7600 {
+        return state::apart(preset_code(t, image, m, log, o, op));
+    }
+    state::apart(preset_code(t, image, m, log, o, op))
+}
+
+// SOB and JSR are tried first.
 pub fn format9(
     s: State,
     image: &mut [u8],
@@ -219,18 +251,13 @@ pub fn format9(
     requires { ⌜ Board (now map) (beside (now image) (now log)) ⌝ }
     ensures { λ r. ⌜ Works (now (map .entry)) (Spec.format9 out s op) (now (image .entry)) (now (log .entry)) r (now (image .exit)) (now (log .exit)) ⌝ }
 {
-    if op / 512 % 8 == 3 {
+    let opc = format9_code(op);
+    if opc == 3 {
         return Went::Done(sob(s, op));
     }
-    if op / 512 % 8 == 0 {
+    if opc == 0 {
         let t = s.with_flags(shift::signed::preset());
         return jsr(t, image, map, log, out, op);
     }
-    let t = s;
-    let o = out;
-    let m = map;
-    if op < 0x7600 {
-        return state::apart(preset_code(t, image, m, log, o, op));
-    }
-    state::apart(preset_code(t, image, m, log, o, op))
+    seldom(s, image, map, log, out, op)
 }

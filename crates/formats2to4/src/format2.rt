@@ -1,6 +1,8 @@
 // Formats 2 and 3, 0010 to 003F.
 use board::Kept;
 use board::Word;
+use opcodes::fields::format2_code;
+use opcodes::fields::only_register;
 use state::Outside;
 use state::State;
 use state::Went;
@@ -67,8 +69,8 @@ pub(crate) fn format2(
     requires { ⌜ Board (now map) (beside (now image) (now log)) ⌝ }
     ensures { λ r. ⌜ Works (now (map .entry)) (Spec.format2 out s op) (now (image .entry)) (now (log .entry)) r (now (image .exit)) (now (log .exit)) ⌝ }
 {
-    let k = op % 8;
-    match op / 8 {
+    let k = only_register(op);
+    match format2_code(op) {
         2 => Went::Done(iak(s, out, k)),
         3 => rtn(s, image, map, k),
         4 => msko(s, image, map, log, k),

@@ -1,6 +1,8 @@
 // Format 4, 0040 to 00FF: supervisor calls.
 use board::Word;
 use format1::save;
+use opcodes::fields::argument;
+use opcodes::fields::format4_code;
 use state::Outside;
 use state::State;
 use state::Went;
@@ -69,11 +71,12 @@ pub(crate) fn format4(
     requires { ⌜ Board (now map) (beside (now image) (now log)) ⌝ }
     ensures { λ r. ⌜ Works (now (map .entry)) (Spec.format4 out s op) (now (image .entry)) (now (log .entry)) r (now (image .exit)) (now (log .exit)) ⌝ }
 {
-    let n = op % 64;
-    if op / 64 == 1 {
+    let n = argument(op);
+    let opc = format4_code(op);
+    if opc == 1 {
         return svca(s, image, map, log, out, n);
     }
-    if op / 64 == 2 {
+    if opc == 2 {
         return svc(s, image, map, log, out, n, 0x24);
     }
     svc(s, image, map, log, out, n, 0x26)

@@ -1,4 +1,7 @@
 // Format 6: immediates and shifts of registers; format 5 beside it: the op codes without an operand in memory.
+use opcodes::fields::count;
+use opcodes::fields::format6_code;
+use opcodes::fields::register;
 use state::State;
 use wordmath::Done;
 use wordmath::Pair;
@@ -11,9 +14,10 @@ pub mod format5;
 fn immediate(s: State, op: u16) -> State
     ensures { λ r. ⌜ r ≡ Spec.immediate s op ⌝ }
 {
-    let k = op / 64 % 8;
-    let kind = opcodes::immediate_at(op / 16 % 4);
-    let done = arith::immediate::immediate(kind, op % 16 + 1, s.reg(k), s.flags);
+    let k = register(op);
+    let n = count(op);
+    let kind = opcodes::immediate_at(format6_code(op));
+    let done = arith::immediate::immediate(kind, n, s.reg(k), s.flags);
     s.with_done(k, done)
 }
 
@@ -21,9 +25,10 @@ fn immediate(s: State, op: u16) -> State
 fn single(s: State, op: u16) -> State
     ensures { λ r. ⌜ r ≡ Spec.single s op ⌝ }
 {
-    let k = op / 64 % 8;
-    let way = opcodes::way_at(op / 16 % 4);
-    let done = shift::counted::single(way, op % 16 + 1, s.reg(k), s.flags);
+    let k = register(op);
+    let n = count(op);
+    let way = opcodes::way_at(format6_code(op));
+    let done = shift::counted::single(way, n, s.reg(k), s.flags);
     s.with_done(k, done)
 }
 
@@ -31,9 +36,10 @@ fn single(s: State, op: u16) -> State
 fn double(s: State, op: u16) -> State
     ensures { λ r. ⌜ r ≡ Spec.double s op ⌝ }
 {
-    let k = op / 64 % 8;
-    let way = opcodes::way_at(op / 16 % 4);
-    let pair = shift::counted::double(way, op % 16 + 1, s.reg(k), s.reg(state::next(k)), s.flags);
+    let k = register(op);
+    let n = count(op);
+    let way = opcodes::way_at(format6_code(op));
+    let pair = shift::counted::double(way, n, s.reg(k), s.reg(state::next(k)), s.flags);
     s.with_pair(k, pair)
 }
 

@@ -2,6 +2,8 @@
 ghost use mathlib.Core.Path.{_≡_};
 ghost use Rattle.opcodes.specs.Codes.{immediateAt, wayAt, unaryAt, binaryAt, byteBinaryAt};
 
+pub mod fields;
+
 // The op codes of format 6 with a number, in the order of bits 5 and 4.
 pub enum Immediate {
     Addi,

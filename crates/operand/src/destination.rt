@@ -9,6 +9,8 @@ use super::read_byte;
 use super::read_word;
 use board::Byte;
 use board::Word;
+use opcodes::fields::destination_mode;
+use opcodes::fields::destination_register;
 use state::State;
 use state::Went;
 ghost use mathlib.Core.Path.{_≡_};
@@ -51,8 +53,9 @@ pub fn destination_word(s: State, image: &[u8], map: &[u8], op: u16) -> Held
     requires { ⌜ Lent (now map) (now image) ⌝ }
     ensures { λ r. ⌜ Saw (now (map .entry)) (Spec.destination word s op) (now (image .entry)) (heldAs r) ⌝ }
 {
-    let k = op % 8;
-    let found = locate(image, map, 2, k, s.reg(k), s.regs.pc, op / 8 % 8);
+    let k = destination_register(op);
+    let mode = destination_mode(op);
+    let found = locate(image, map, 2, k, s.reg(k), s.regs.pc, mode);
     let Found::At(to) = found else {
         return nowhere(found);
     };
@@ -68,8 +71,9 @@ pub fn destination_byte(s: State, image: &[u8], map: &[u8], op: u16) -> Held
     requires { ⌜ Lent (now map) (now image) ⌝ }
     ensures { λ r. ⌜ Saw (now (map .entry)) (Spec.destination byte s op) (now (image .entry)) (heldAs r) ⌝ }
 {
-    let k = op % 8;
-    let found = locate(image, map, byte_step(k), k, s.reg(k), s.regs.pc, op / 8 % 8);
+    let k = destination_register(op);
+    let mode = destination_mode(op);
+    let found = locate(image, map, byte_step(k), k, s.reg(k), s.regs.pc, mode);
     let Found::At(to) = found else {
         return nowhere(found);
     };

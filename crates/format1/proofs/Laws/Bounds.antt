@@ -7,21 +7,25 @@ use Rattle.board.proofs.Laws.Bounded.{bounded-then, bounded-load, bounded-store
 use Rattle.state.specs.declared.State.{State}
 use Rattle.state.specs.declared.Outside.{Outside}
 use Rattle.state.proofs.Laws.Bounds.{bounded-push, bounded-pushReg, bounded-pop, bounded-popReg, bounded-popStatus, bounded-fetch, bounded-fromLoc, bounded-pushBoth}
-use Rattle.format1.specs.Format1.{bpt, save, savs, rest, rtt, rrtn, rrtt, rsts, rsvc, format1}
+use Rattle.format1.specs.Format1.{bpt, pushThree, popThree, save, savs, rest, rtt, rrtn, rrtt, rsts, rsvc, format1}
 
-bounded-bpt : (out : Outside) (s : State) → Bounded 2 (bpt out s)
-unfolding bpt
-bounded-bpt out s = bounded-then {k = 0} (omega arith) (bounded-pushBoth s _) (λ s. bounded-fromLoc s _)
+bounded-pushThree : (s : State) (i j k : ℕ) → Bounded 3 (pushThree s i j k)
+unfolding pushThree
+bounded-pushThree s i j k =
+    bounded-then {k = 2} (omega arith) (bounded-pushReg s i) λ s.
+    bounded-then {k = 1} (omega arith) (bounded-pushReg s j) λ s.
+    bounded-pushReg s k
+
+bounded-popThree : (s : State) (i j k : ℕ) → Bounded 0 (popThree s i j k)
+unfolding popThree
+bounded-popThree s i j k =
+    bounded-then {k = 0} (omega arith) (bounded-popReg s i) λ s.
+    bounded-then {k = 0} (omega arith) (bounded-popReg s j) λ s.
+    bounded-popReg s k
 
 pub bounded-save : (s : State) → Bounded 6 (save s)
 unfolding save
-bounded-save s =
-    bounded-then {k = 5} (omega arith) (bounded-pushReg s 5) λ s.
-    bounded-then {k = 4} (omega arith) (bounded-pushReg s 4) λ s.
-    bounded-then {k = 3} (omega arith) (bounded-pushReg s 3) λ s.
-    bounded-then {k = 2} (omega arith) (bounded-pushReg s 2) λ s.
-    bounded-then {k = 1} (omega arith) (bounded-pushReg s 1) λ s.
-    bounded-pushReg s 0
+bounded-save s = bounded-then {k = 3} (omega arith) (bounded-pushThree s 5 4 3) (λ s. bounded-pushThree s 2 1 0)
 
 bounded-savs : (s : State) → Bounded 8 (savs s)
 unfolding savs
@@ -35,39 +39,14 @@ bounded-savs s =
 
 bounded-rest : (s : State) → Bounded 0 (rest s)
 unfolding rest
-bounded-rest s =
-    bounded-then {k = 0} (omega arith) (bounded-popReg s 0) λ s.
-    bounded-then {k = 0} (omega arith) (bounded-popReg s 1) λ s.
-    bounded-then {k = 0} (omega arith) (bounded-popReg s 2) λ s.
-    bounded-then {k = 0} (omega arith) (bounded-popReg s 3) λ s.
-    bounded-then {k = 0} (omega arith) (bounded-popReg s 4) λ s.
-    bounded-popReg s 5
+bounded-rest s = bounded-then {k = 0} (omega arith) (bounded-popThree s 0 1 2) (λ s. bounded-popThree s 3 4 5)
 
 bounded-rtt : (s : State) → Bounded 0 (rtt s)
 unfolding rtt
 bounded-rtt s = bounded-then {k = 0} (omega arith) (bounded-popReg s 7) (λ s. bounded-popStatus s)
 
-bounded-rrtn : (s : State) → Bounded 0 (rrtn s)
-unfolding rrtn
-bounded-rrtn s = bounded-then {k = 0} (omega arith) (bounded-rest s) (λ s. bounded-popReg s 7)
-
-bounded-rrtt : (s : State) → Bounded 0 (rrtt s)
-unfolding rrtt
-bounded-rrtt s = bounded-then {k = 0} (omega arith) (bounded-rest s) (λ s. bounded-rtt s)
-
-bounded-rsts : (s : State) → Bounded 1 (rsts s)
-unfolding rsts
-bounded-rsts s =
-    bounded-then {k = 1} (omega arith) (bounded-pop s) λ mask.
-    bounded-then {k = 0} (omega arith) (bounded-store word _ _) λ _.
-    bounded-rrtt _
-
-bounded-rsvc : (s : State) → Bounded 0 (rsvc s)
-unfolding rsvc
-bounded-rsvc s = bounded-then {k = 0} (omega arith) (bounded-rest s) (λ s. bounded-rtt _)
-
 pub bounded-format1 : (out : Outside) (s : State) (op : ℕ) → Bounded 9 (format1 out s op)
-unfolding format1
+unfolding format1 bpt rsvc rrtt rrtn rsts
 bounded-format1 out s op =
     bounded-getD op
     (also (gives _)
@@ -76,15 +55,15 @@ bounded-format1 out s op =
     (also (gives _)
     (also (gives _)
     (also (gives _)
-    (also (bounded-more (omega arith) (bounded-bpt out s))
+    (also (bounded-then {k = 0} (omega arith) (bounded-pushBoth s _) (λ s. bounded-fromLoc s _))
     (also (gives _)
-    (also (bounded-more (omega arith) (bounded-rsvc s))
-    (also (bounded-more (omega arith) (bounded-rrtt s))
+    (also (bounded-then {k = 0} (omega arith) (bounded-rest s) (λ s. bounded-rtt _))
+    (also (bounded-then {k = 0} (omega arith) (bounded-rest s) (λ s. bounded-rtt s))
     (also (bounded-more (omega arith) (bounded-save s))
     (also (bounded-more (omega arith) (bounded-savs s))
     (also (bounded-more (omega arith) (bounded-rest s))
-    (also (bounded-more (omega arith) (bounded-rrtn s))
-    (also (bounded-more (omega arith) (bounded-rsts s))
+    (also (bounded-then {k = 0} (omega arith) (bounded-rest s) (λ s. bounded-popReg s 7))
+    (also (bounded-then {k = 1} (omega arith) (bounded-pop s) (λ mask. bounded-then {k = 0} (omega arith) (bounded-store word _ _) (λ _. bounded-then {k = 0} (omega arith) (bounded-rest _) (λ s. bounded-rtt s))))
     (also (bounded-more (omega arith) (bounded-rtt s))
     none))))))))))))))))
     (bounded-more (omega arith) (bounded-rtt s))

@@ -34,30 +34,6 @@ returns-3 c =
     rw (c .before .before .if3 .taken)
     (record { got = c .rtt .ensures .got; board = c .before .before .before .before .before .before .before .pre })
 
-by-number-requires : tie.Need-by-number-requires
-by-number-requires c κs = c .before .before .before .before .before .before .before .before .pre
-
-same-length-4 : tie.Need-same-length-4
-same-length-4 c = c .before .before .before .by-number .ensures .board .lent .size ∙ sym (c .before .before .before .before .before .before .before .before .before .before .before .before .pre .lent .size)
-
-returns-4 : tie.Need-returns-4
-unfolding format1
-returns-4 c =
-    rw (c .apart2 .ensures)
-    (record { got = c .before .before .before .by-number .ensures .got; board = c .before .before .before .by-number .ensures .board })
-
-by-number-requires-2 : tie.Need-by-number-requires-2
-by-number-requires-2 c κs = c .before .before .before .before .before .before .before .before .pre
-
-same-length-5 : tie.Need-same-length-5
-same-length-5 c = c .before .before .before .by-number2 .ensures .board .lent .size ∙ sym (c .before .before .before .before .before .before .before .before .before .before .before .before .pre .lent .size)
-
-returns-5 : tie.Need-returns-5
-unfolding format1
-returns-5 c =
-    rw (c .apart3 .ensures)
-    (record { got = c .before .before .before .by-number2 .ensures .got; board = c .before .before .before .by-number2 .ensures .board })
-
 pub format1-spec : {M : Type 1} → statement M
 format1-spec =
     tie.close
@@ -72,11 +48,6 @@ format1-spec =
     rtt-requires
     (λ c. search needs)
     returns-3
-    by-number-requires
     (λ c κs. search needs)
-    same-length-4
-    returns-4
-    by-number-requires-2
-    (λ c κs. search needs)
-    same-length-5
-    returns-5)
+    (λ c. search needs)
+    (λ c. search needs))

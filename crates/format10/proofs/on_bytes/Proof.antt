@@ -19,7 +19,7 @@ reg-requires : tie.Need-reg-requires
 reg-requires c κs = search needs
 
 locate-requires : tie.Need-locate-requires
-locate-requires c κs = c .before .before .before .before .before .pre .lent
+locate-requires c κs = c .before .before .before .before .before .before .before .pre .lent
 
 enum-known-found : tie.Need-enum-known-found
 enum-known-found c = search needs
@@ -35,7 +35,9 @@ same-length c = search needs
 
 returns : tie.Need-returns
 unfolding onOperands
-returns c = did (went-store (c .unfound .result)) (c .before .before .before .before .before .before .before .before .before .pre) (got-gone _ (never-found byte _ _ _ (c .before .before .before .before .before .before .byte-step .ensures) (c .before .before .before .before .reg .ensures) (c .before .before .before .locate .ensures) (c .before .enum-told .given .1)) refl (found-lost (c .unfound .ensures) (c .before .enum-told .given .1)))
+returns c =
+    rw (← c .before .before .before .before .before .before .before .before .source-register .ensures, ← c .before .before .before .before .before .before .before .source-mode .ensures)
+    (did (went-store (c .unfound .result)) (c .before .before .before .before .before .before .before .before .before .before .before .pre) (got-gone _ (never-found byte _ _ _ (c .before .before .before .before .before .before .byte-step .ensures) (c .before .before .before .before .reg .ensures) (c .before .before .before .locate .ensures) (c .before .enum-told .given .1)) refl (found-lost (c .unfound .ensures) (c .before .enum-told .given .1))))
 
 moved-requires : tie.Need-moved-requires
 moved-requires c κs = search needs
@@ -44,7 +46,7 @@ reg-requires-2 : tie.Need-reg-requires-2
 reg-requires-2 c κs = search needs
 
 read-byte-requires : tie.Need-read-byte-requires
-read-byte-requires c κs = c .before .before .before .before .before .before .before .before .before .before .before .before .pre .lent
+read-byte-requires c κs = c .before .before .before .before .before .before .before .before .before .before .before .before .before .before .pre .lent
 
 enum-known-x : tie.Need-enum-known-x
 enum-known-x c = search needs
@@ -60,25 +62,31 @@ same-length-2 c = search needs
 
 returns-2 : tie.Need-returns-2
 unfolding onOperands
-returns-2 c = did (went-store (c .unanswered .result)) (c .before .before .before .before .before .before .before .before .before .before .before .before .before .before .before .before .pre) (got-gone _ (never-read byte _ _ _ (c .before .before .before .before .before .before .before .before .before .before .before .before .before .byte-step .ensures) (c .before .before .before .before .before .before .before .before .before .before .before .reg .ensures) (c .before .before .before .before .before .before .before .before .before .before .locate .ensures) (c .before .before .before .before .before .before .before .before .found .given .1) (c .before .before .before .before .before .before .moved .ensures) (c .before .before .before .before .reg2 .ensures) (c .before .before .before .read-byte .ensures) (byte-none (c .before .enum-told2 .given .1))) refl (went-none (c .unanswered .ensures)))
+returns-2 c =
+    rw (← c .before .before .before .before .before .before .before .before .before .before .before .before .before .before .before .source-register .ensures, ← c .before .before .before .before .before .before .before .before .before .before .before .before .before .before .source-mode .ensures)
+    (did (went-store (c .unanswered .result)) (c .before .before .before .before .before .before .before .before .before .before .before .before .before .before .before .before .before .before .pre) (got-gone _ (never-read byte _ _ _ (c .before .before .before .before .before .before .before .before .before .before .before .before .before .byte-step .ensures) (c .before .before .before .before .before .before .before .before .before .before .before .reg .ensures) (c .before .before .before .before .before .before .before .before .before .before .locate .ensures) (c .before .before .before .before .before .before .before .before .found .given .1) (c .before .before .before .before .before .before .moved .ensures) (c .before .before .before .before .reg2 .ensures) (c .before .before .before .read-byte .ensures) (byte-none (c .before .enum-told2 .given .1))) refl (went-none (c .unanswered .ensures))))
 
 onto-bytes-requires : tie.Need-onto-bytes-requires
-onto-bytes-requires c κs = search needs
+onto-bytes-requires c κs = c .before .before .before .before .before .before .before .before .before .before .before .before .before .before .before .before .before .before .before .before .pre
 
 same-length-3 : tie.Need-same-length-3
 same-length-3 c = search needs
 
 returns-3 : tie.Need-returns-3
 unfolding onOperands onto
-returns-3 c = record {
-  got = got-then _ (held byte _ _ _ (c .before .before .before .before .before .before .before .before .before .before .before .before .before .before .before .before .before .before .byte-step .ensures) (c .before .before .before .before .before .before .before .before .before .before .before .before .before .before .before .before .reg .ensures) (c .before .before .before .before .before .before .before .before .before .before .before .before .before .before .before .locate .ensures) (c .before .before .before .before .before .before .before .before .before .before .before .before .before .found .given .1) (c .before .before .before .before .before .before .before .before .before .before .before .moved .ensures) (c .before .before .before .before .before .before .before .before .before .reg2 .ensures) (c .before .before .before .before .before .before .before .before .read-byte .ensures) (byte-is (c .before .before .before .before .before .before .x .given .1))) refl (c .before .before .onto-bytes .ensures .got);
-  board = c .before .before .onto-bytes .ensures .board;
-}
+returns-3 c =
+    rw (← c .before .before .before .before .before .before .before .before .before .before .before .before .before .before .before .before .before .before .before .before .source-register .ensures, ← c .before .before .before .before .before .before .before .before .before .before .before .before .before .before .before .before .before .before .before .source-mode .ensures)
+    (record {
+      got = got-then _ (held byte _ _ _ (c .before .before .before .before .before .before .before .before .before .before .before .before .before .before .before .before .before .before .byte-step .ensures) (c .before .before .before .before .before .before .before .before .before .before .before .before .before .before .before .before .reg .ensures) (c .before .before .before .before .before .before .before .before .before .before .before .before .before .before .before .locate .ensures) (c .before .before .before .before .before .before .before .before .before .before .before .before .before .found .given .1) (c .before .before .before .before .before .before .before .before .before .before .before .moved .ensures) (c .before .before .before .before .before .before .before .before .before .reg2 .ensures) (c .before .before .before .before .before .before .before .before .read-byte .ensures) (byte-is (c .before .before .before .before .before .before .x .given .1))) refl (c .before .before .onto-bytes .ensures .got);
+      board = c .before .before .onto-bytes .ensures .board;
+    })
 
 pub on-bytes-spec : {M : Type 1} → statement M
 on-bytes-spec =
     tie.close
     (tie.spec
+    (λ c κs. search needs)
+    (λ c κs. search needs)
     byte-step-requires
     reg-requires
     locate-requires

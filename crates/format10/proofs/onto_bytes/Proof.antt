@@ -20,7 +20,7 @@ reg-requires : tie.Need-reg-requires
 reg-requires c κs = search needs
 
 locate-requires : tie.Need-locate-requires
-locate-requires c κs = c .before .before .before .before .before .pre .lent
+locate-requires c κs = c .before .before .before .before .before .before .before .before .pre .lent
 
 enum-known-found : tie.Need-enum-known-found
 enum-known-found c = search needs
@@ -36,7 +36,9 @@ same-length c = search needs
 
 returns : tie.Need-returns
 unfolding onto
-returns c = did (went-store (c .unfound .result)) (c .before .before .before .before .before .before .before .before .before .pre) (got-gone _ (never-found byte _ _ _ (c .before .before .before .before .before .before .byte-step .ensures) (c .before .before .before .before .reg .ensures) (c .before .before .before .locate .ensures) (c .before .enum-told .given .1)) refl (found-lost (c .unfound .ensures) (c .before .enum-told .given .1)))
+returns c =
+    rw (← c .before .before .before .before .before .before .before .before .before .destination-register .ensures, ← c .before .before .before .before .before .before .before .before .destination-mode .ensures)
+    (did (went-store (c .unfound .result)) (c .before .before .before .before .before .before .before .before .before .before .before .before .pre) (got-gone _ (never-found byte _ _ _ (c .before .before .before .before .before .before .byte-step .ensures) (c .before .before .before .before .reg .ensures) (c .before .before .before .locate .ensures) (c .before .enum-told .given .1)) refl (found-lost (c .unfound .ensures) (c .before .enum-told .given .1))))
 
 moved-requires : tie.Need-moved-requires
 moved-requires c κs = search needs
@@ -48,24 +50,26 @@ with-flags-requires : tie.Need-with-flags-requires
 with-flags-requires c κs = search needs
 
 move-byte-requires : tie.Need-move-byte-requires
-move-byte-requires c κs = c .before .before .before .before .before .before .before .before .before .before .before .before .before .before .before .pre
+move-byte-requires c κs = c .before .before .before .before .before .before .before .before .before .before .before .before .before .before .before .before .before .before .pre
 
 same-length-2 : tie.Need-same-length-2
-same-length-2 c = c .before .before .move-byte .ensures .board .lent .size ∙ sym (c .before .before .before .before .before .before .before .before .before .before .before .before .before .before .before .before .before .before .pre .lent .size)
+same-length-2 c = c .before .before .move-byte .ensures .board .lent .size ∙ sym (c .before .before .before .before .before .before .before .before .before .before .before .before .before .before .before .before .before .before .before .before .before .pre .lent .size)
 
 returns-2 : tie.Need-returns-2
 unfolding onto settleByte
-returns-2 c = rw (movb-code _ (c .before .before .before .before .before .before .before .if1 .taken))
+returns-2 c =
+    rw (← c .before .before .before .before .before .before .before .before .before .before .before .before .before .before .before .before .before .before .destination-register .ensures, ← c .before .before .before .before .before .before .before .before .before .before .before .before .before .before .before .before .before .destination-mode .ensures)
+    (rw (movb-code _ (sym (c .before .before .before .before .before .before .before .before .before .before .before .before .before .before .before .before .high-digit .ensures) ∙ c .before .before .before .before .before .before .before .if1 .taken))
     (record {
       got = placed byte _ _ _ _ _ _ _ _ (decoded byte _ _ _ (located byte _ _ _ (c .before .before .before .before .before .before .before .before .before .before .before .before .locate .result) (c .before .before .before .before .before .before .before .before .before .before .before .before .before .before .before .byte-step .ensures) (c .before .before .before .before .before .before .before .before .before .before .before .before .before .reg .ensures) (c .before .before .before .before .before .before .before .before .before .before .before .before .locate .ensures)) (c .before .before .before .before .before .before .before .before .before .before .found .given .1) (c .before .before .before .before .before .before .before .before .moved .ensures)) (λ y. refl) (λ a which w e. byte-there _ _ _ a which w _ e) ((rw (c .before .before .before .before .before .with-flags .ensures, c .before .before .before .before .before .before .mov8 .ensures) at (c .before .before .move-byte .ensures)) .got);
       board = c .before .before .move-byte .ensures .board;
-    })
+    }))
 
 reg-requires-2 : tie.Need-reg-requires-2
 reg-requires-2 c κs = search needs
 
 read-byte-requires : tie.Need-read-byte-requires
-read-byte-requires c κs = c .before .before .before .before .before .before .before .before .before .before .before .before .before .pre .lent
+read-byte-requires c κs = c .before .before .before .before .before .before .before .before .before .before .before .before .before .before .before .before .pre .lent
 
 enum-known-y : tie.Need-enum-known-y
 enum-known-y c = search needs
@@ -81,7 +85,9 @@ same-length-3 c = search needs
 
 returns-3 : tie.Need-returns-3
 unfolding onto
-returns-3 c = did (went-store (c .unanswered .result)) (c .before .before .before .before .before .before .before .before .before .before .before .before .before .before .before .before .before .pre) (got-gone _ (never-read byte _ _ _ (c .before .before .before .before .before .before .before .before .before .before .before .before .before .before .byte-step .ensures) (c .before .before .before .before .before .before .before .before .before .before .before .before .reg .ensures) (c .before .before .before .before .before .before .before .before .before .before .before .locate .ensures) (c .before .before .before .before .before .before .before .before .before .found .given .1) (c .before .before .before .before .before .before .before .moved .ensures) (c .before .before .before .before .reg2 .ensures) (c .before .before .before .read-byte .ensures) (byte-none (c .before .enum-told2 .given .1))) refl (went-none (c .unanswered .ensures)))
+returns-3 c =
+    rw (← c .before .before .before .before .before .before .before .before .before .before .before .before .before .before .before .before .before .destination-register .ensures, ← c .before .before .before .before .before .before .before .before .before .before .before .before .before .before .before .before .destination-mode .ensures)
+    (did (went-store (c .unanswered .result)) (c .before .before .before .before .before .before .before .before .before .before .before .before .before .before .before .before .before .before .before .before .pre) (got-gone _ (never-read byte _ _ _ (c .before .before .before .before .before .before .before .before .before .before .before .before .before .before .byte-step .ensures) (c .before .before .before .before .before .before .before .before .before .before .before .before .reg .ensures) (c .before .before .before .before .before .before .before .before .before .before .before .locate .ensures) (c .before .before .before .before .before .before .before .before .before .found .given .1) (c .before .before .before .before .before .before .before .moved .ensures) (c .before .before .before .before .reg2 .ensures) (c .before .before .before .read-byte .ensures) (byte-none (c .before .enum-told2 .given .1))) refl (went-none (c .unanswered .ensures))))
 
 minus-requires : tie.Need-minus-requires
 minus-requires c κs = search needs
@@ -96,23 +102,28 @@ with-flags-requires-2 : tie.Need-with-flags-requires-2
 with-flags-requires-2 c κs = search needs
 
 settle-byte-requires : tie.Need-settle-byte-requires
-settle-byte-requires c κs = c .before .before .before .before .before .before .before .before .before .before .before .before .before .before .before .before .before .before .before .before .before .before .before .pre
+settle-byte-requires c κs = c .before .before .before .before .before .before .before .before .before .before .before .before .before .before .before .before .before .before .before .before .before .before .before .before .before .before .pre
 
 same-length-4 : tie.Need-same-length-4
-same-length-4 c = c .before .before .settle-byte .ensures .board .lent .size ∙ sym (c .before .before .before .before .before .before .before .before .before .before .before .before .before .before .before .before .before .before .before .before .before .before .before .before .before .before .pre .lent .size)
+same-length-4 c = c .before .before .settle-byte .ensures .board .lent .size ∙ sym (c .before .before .before .before .before .before .before .before .before .before .before .before .before .before .before .before .before .before .before .before .before .before .before .before .before .before .before .before .before .pre .lent .size)
 
 returns-4 : tie.Need-returns-4
 unfolding onto
-returns-4 c = record {
-  got = got-then _ (held byte _ _ _ (c .before .before .before .before .before .before .before .before .before .before .before .before .before .before .before .before .before .before .before .before .before .before .before .byte-step .ensures) (c .before .before .before .before .before .before .before .before .before .before .before .before .before .before .before .before .before .before .before .before .before .reg .ensures) (c .before .before .before .before .before .before .before .before .before .before .before .before .before .before .before .before .before .before .before .before .locate .ensures) (c .before .before .before .before .before .before .before .before .before .before .before .before .before .before .before .before .before .before .found .given .1) (c .before .before .before .before .before .before .before .before .before .before .before .before .before .before .before .before .moved .ensures) (c .before .before .before .before .before .before .before .before .before .before .before .before .before .reg2 .ensures) (c .before .before .before .before .before .before .before .before .before .before .before .before .read-byte .ensures) (byte-is (c .before .before .before .before .before .before .before .before .before .before .y .given .1))) refl
-      ((rw (c .before .before .before .before .before .with-flags2 .ensures, c .before .before .before .before .before .before .byte-binary .ensures, c .before .before .before .before .before .before .before .byte-binary-at .ensures, c .before .before .before .before .before .before .before .before .minus .ensures) at (c .before .before .settle-byte .ensures)) .got);
-  board = c .before .before .settle-byte .ensures .board;
-}
+returns-4 c =
+    rw (← c .before .before .before .before .before .before .before .before .before .before .before .before .before .before .before .before .before .before .before .before .before .before .before .before .before .before .destination-register .ensures, ← c .before .before .before .before .before .before .before .before .before .before .before .before .before .before .before .before .before .before .before .before .before .before .before .before .before .destination-mode .ensures)
+    (record {
+      got = got-then _ (held byte _ _ _ (c .before .before .before .before .before .before .before .before .before .before .before .before .before .before .before .before .before .before .before .before .before .before .before .byte-step .ensures) (c .before .before .before .before .before .before .before .before .before .before .before .before .before .before .before .before .before .before .before .before .before .reg .ensures) (c .before .before .before .before .before .before .before .before .before .before .before .before .before .before .before .before .before .before .before .before .locate .ensures) (c .before .before .before .before .before .before .before .before .before .before .before .before .before .before .before .before .before .before .found .given .1) (c .before .before .before .before .before .before .before .before .before .before .before .before .before .before .before .before .moved .ensures) (c .before .before .before .before .before .before .before .before .before .before .before .before .before .reg2 .ensures) (c .before .before .before .before .before .before .before .before .before .before .before .before .read-byte .ensures) (byte-is (c .before .before .before .before .before .before .before .before .before .before .y .given .1))) refl
+          ((rw (c .before .before .before .before .before .with-flags2 .ensures, c .before .before .before .before .before .before .byte-binary .ensures, c .before .before .before .before .before .before .before .byte-binary-at .ensures, c .before .before .before .before .before .before .before .before .minus .ensures, c .before .before .before .before .before .before .before .before .before .before .before .before .before .before .before .before .before .before .before .before .before .before .before .before .high-digit .ensures) at (c .before .before .settle-byte .ensures)) .got);
+      board = c .before .before .settle-byte .ensures .board;
+    })
 
 pub onto-bytes-spec : {M : Type 1} → statement M
 onto-bytes-spec =
     tie.close
     (tie.spec
+    (λ c κs. search needs)
+    (λ c κs. search needs)
+    (λ c κs. search needs)
     byte-step-requires
     reg-requires
     locate-requires

@@ -17,7 +17,7 @@ reg-requires : tie.Need-reg-requires
 reg-requires c κs = search needs
 
 locate-requires : tie.Need-locate-requires
-locate-requires c κs = c .before .before .before .before .pre .lent
+locate-requires c κs = c .before .before .before .before .before .before .before .pre .lent
 
 enum-known-found : tie.Need-enum-known-found
 enum-known-found c = search needs
@@ -33,7 +33,9 @@ same-length c = search needs
 
 returns : tie.Need-returns
 unfolding onto
-returns c = did (went-store (c .unfound .result)) (c .before .before .before .before .before .before .before .before .pre) (got-gone _ (never-found word _ _ _ refl (c .before .before .before .before .reg .ensures) (c .before .before .before .locate .ensures) (c .before .enum-told .given .1)) refl (found-lost (c .unfound .ensures) (c .before .enum-told .given .1)))
+returns c =
+    rw (← c .before .before .before .before .before .before .before .before .destination-register .ensures, ← c .before .before .before .before .before .before .before .destination-mode .ensures)
+    (did (went-store (c .unfound .result)) (c .before .before .before .before .before .before .before .before .before .before .before .pre) (got-gone _ (never-found word _ _ _ refl (c .before .before .before .before .reg .ensures) (c .before .before .before .locate .ensures) (c .before .enum-told .given .1)) refl (found-lost (c .unfound .ensures) (c .before .enum-told .given .1))))
 
 moved-requires : tie.Need-moved-requires
 moved-requires c κs = search needs
@@ -45,24 +47,26 @@ with-flags-requires : tie.Need-with-flags-requires
 with-flags-requires c κs = search needs
 
 write-word-requires : tie.Need-write-word-requires
-write-word-requires c κs = c .before .before .before .before .before .before .before .before .before .before .before .before .before .before .pre
+write-word-requires c κs = c .before .before .before .before .before .before .before .before .before .before .before .before .before .before .before .before .before .pre
 
 same-length-2 : tie.Need-same-length-2
-same-length-2 c = c .before .before .write-word .ensures .board .lent .size ∙ sym (c .before .before .before .before .before .before .before .before .before .before .before .before .before .before .before .before .before .pre .lent .size)
+same-length-2 c = c .before .before .write-word .ensures .board .lent .size ∙ sym (c .before .before .before .before .before .before .before .before .before .before .before .before .before .before .before .before .before .before .before .before .pre .lent .size)
 
 returns-2 : tie.Need-returns-2
 unfolding onto
-returns-2 c = rw (mov-code _ (c .before .before .before .before .before .before .before .if1 .taken))
+returns-2 c =
+    rw (← c .before .before .before .before .before .before .before .before .before .before .before .before .before .before .before .before .before .destination-register .ensures, ← c .before .before .before .before .before .before .before .before .before .before .before .before .before .before .before .before .destination-mode .ensures)
+    (rw (mov-code _ (sym (c .before .before .before .before .before .before .before .before .before .before .before .before .before .before .before .high-digit .ensures) ∙ c .before .before .before .before .before .before .before .if1 .taken))
     (record {
       got = placed word _ _ _ _ _ _ _ _ (decoded word _ _ _ (located word _ _ _ (c .before .before .before .before .before .before .before .before .before .before .before .before .locate .result) refl (c .before .before .before .before .before .before .before .before .before .before .before .before .before .reg .ensures) (c .before .before .before .before .before .before .before .before .before .before .before .before .locate .ensures)) (c .before .before .before .before .before .before .before .before .before .before .found .given .1) (c .before .before .before .before .before .before .before .before .moved .ensures)) (λ y. settle-yes Mov _ _ _ _ refl) (λ a which w e. word-there _ _ _ a which w _ e) ((rw (c .before .before .before .before .before .with-flags .ensures, c .before .before .before .before .before .before .mov16 .ensures) at (c .before .before .write-word .ensures)) .got);
       board = c .before .before .write-word .ensures .board;
-    })
+    }))
 
 reg-requires-2 : tie.Need-reg-requires-2
 reg-requires-2 c κs = search needs
 
 read-word-requires : tie.Need-read-word-requires
-read-word-requires c κs = c .before .before .before .before .before .before .before .before .before .before .before .before .pre .lent
+read-word-requires c κs = c .before .before .before .before .before .before .before .before .before .before .before .before .before .before .before .pre .lent
 
 enum-known-y : tie.Need-enum-known-y
 enum-known-y c = search needs
@@ -78,7 +82,9 @@ same-length-3 c = search needs
 
 returns-3 : tie.Need-returns-3
 unfolding onto
-returns-3 c = did (went-store (c .unanswered .result)) (c .before .before .before .before .before .before .before .before .before .before .before .before .before .before .before .before .pre) (got-gone _ (never-read word _ _ _ refl (c .before .before .before .before .before .before .before .before .before .before .before .before .reg .ensures) (c .before .before .before .before .before .before .before .before .before .before .before .locate .ensures) (c .before .before .before .before .before .before .before .before .before .found .given .1) (c .before .before .before .before .before .before .before .moved .ensures) (c .before .before .before .before .reg2 .ensures) (c .before .before .before .read-word .ensures) (word-none (c .before .enum-told2 .given .1))) refl (went-none (c .unanswered .ensures)))
+returns-3 c =
+    rw (← c .before .before .before .before .before .before .before .before .before .before .before .before .before .before .before .before .destination-register .ensures, ← c .before .before .before .before .before .before .before .before .before .before .before .before .before .before .before .destination-mode .ensures)
+    (did (went-store (c .unanswered .result)) (c .before .before .before .before .before .before .before .before .before .before .before .before .before .before .before .before .before .before .before .pre) (got-gone _ (never-read word _ _ _ refl (c .before .before .before .before .before .before .before .before .before .before .before .before .reg .ensures) (c .before .before .before .before .before .before .before .before .before .before .before .locate .ensures) (c .before .before .before .before .before .before .before .before .before .found .given .1) (c .before .before .before .before .before .before .before .moved .ensures) (c .before .before .before .before .reg2 .ensures) (c .before .before .before .read-word .ensures) (word-none (c .before .enum-told2 .given .1))) refl (went-none (c .unanswered .ensures))))
 
 binary-number-requires : tie.Need-binary-number-requires
 binary-number-requires c κs = search needs
@@ -93,23 +99,28 @@ with-flags-requires-2 : tie.Need-with-flags-requires-2
 with-flags-requires-2 c κs = search needs
 
 settle-requires : tie.Need-settle-requires
-settle-requires c κs = c .before .before .before .before .before .before .before .before .before .before .before .before .before .before .before .before .before .before .before .before .before .before .pre
+settle-requires c κs = c .before .before .before .before .before .before .before .before .before .before .before .before .before .before .before .before .before .before .before .before .before .before .before .before .before .pre
 
 same-length-4 : tie.Need-same-length-4
-same-length-4 c = c .before .before .settle .ensures .board .lent .size ∙ sym (c .before .before .before .before .before .before .before .before .before .before .before .before .before .before .before .before .before .before .before .before .before .before .before .before .before .pre .lent .size)
+same-length-4 c = c .before .before .settle .ensures .board .lent .size ∙ sym (c .before .before .before .before .before .before .before .before .before .before .before .before .before .before .before .before .before .before .before .before .before .before .before .before .before .before .before .before .pre .lent .size)
 
 returns-4 : tie.Need-returns-4
 unfolding onto
-returns-4 c = record {
-  got = got-then _ (held word _ _ _ refl (c .before .before .before .before .before .before .before .before .before .before .before .before .before .before .before .before .before .before .before .before .before .reg .ensures) (c .before .before .before .before .before .before .before .before .before .before .before .before .before .before .before .before .before .before .before .before .locate .ensures) (c .before .before .before .before .before .before .before .before .before .before .before .before .before .before .before .before .before .before .found .given .1) (c .before .before .before .before .before .before .before .before .before .before .before .before .before .before .before .before .moved .ensures) (c .before .before .before .before .before .before .before .before .before .before .before .before .before .reg2 .ensures) (c .before .before .before .before .before .before .before .before .before .before .before .before .read-word .ensures) (word-is (c .before .before .before .before .before .before .before .before .before .before .y .given .1))) refl
-      ((rw (c .before .before .before .before .before .with-flags2 .ensures, c .before .before .before .before .before .before .binary .ensures, c .before .before .before .before .before .before .before .binary-at .ensures, c .before .before .before .before .before .before .before .before .binary-number .ensures) at (c .before .before .settle .ensures)) .got);
-  board = c .before .before .settle .ensures .board;
-}
+returns-4 c =
+    rw (← c .before .before .before .before .before .before .before .before .before .before .before .before .before .before .before .before .before .before .before .before .before .before .before .before .before .destination-register .ensures, ← c .before .before .before .before .before .before .before .before .before .before .before .before .before .before .before .before .before .before .before .before .before .before .before .before .destination-mode .ensures)
+    (record {
+      got = got-then _ (held word _ _ _ refl (c .before .before .before .before .before .before .before .before .before .before .before .before .before .before .before .before .before .before .before .before .before .reg .ensures) (c .before .before .before .before .before .before .before .before .before .before .before .before .before .before .before .before .before .before .before .before .locate .ensures) (c .before .before .before .before .before .before .before .before .before .before .before .before .before .before .before .before .before .before .found .given .1) (c .before .before .before .before .before .before .before .before .before .before .before .before .before .before .before .before .moved .ensures) (c .before .before .before .before .before .before .before .before .before .before .before .before .before .reg2 .ensures) (c .before .before .before .before .before .before .before .before .before .before .before .before .read-word .ensures) (word-is (c .before .before .before .before .before .before .before .before .before .before .y .given .1))) refl
+          ((rw (c .before .before .before .before .before .with-flags2 .ensures, c .before .before .before .before .before .before .binary .ensures, c .before .before .before .before .before .before .before .binary-at .ensures, c .before .before .before .before .before .before .before .before .binary-number .ensures) at (c .before .before .settle .ensures)) .got);
+      board = c .before .before .settle .ensures .board;
+    })
 
 pub onto-words-spec : {M : Type 1} → statement M
 onto-words-spec =
     tie.close
     (tie.spec
+    (λ c κs. search needs)
+    (λ c κs. search needs)
+    (λ c κs. search needs)
     reg-requires
     locate-requires
     enum-known-found

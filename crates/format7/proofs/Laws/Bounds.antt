@@ -1,4 +1,4 @@
--- How often each op code of format 7 writes, at most.
+-- An op code of format 7 writes at most twice.
 use Prim.Native.Nat.{ℕ}
 use native.Mathlib.Omega.{arith}
 use mathlib.Core.List.{List, [], _∷_}
@@ -24,25 +24,6 @@ bounded-test : (z : Size) (s : State) (op : ℕ) → Bounded 2 (test z s op)
 unfolding test
 bounded-test z s op = bounded-then {k = 0} (omega arith) (bounded-operand z s _ _) (λ o. gives _)
 
-bounded-tcall : (s : State) (op : ℕ) → Bounded 2 (tcall s op)
-unfolding tcall
-bounded-tcall s op =
-    bounded-then {k = 1} (omega arith) (bounded-operand word s _ _) λ o.
-    bounded-then {k = 0} (omega arith) (bounded-push _ _) λ s.
-    bounded-tabled s _
-
-bounded-tjmp : (s : State) (op : ℕ) → Bounded 2 (tjmp s op)
-unfolding tjmp
-bounded-tjmp s op = bounded-then {k = 0} (omega arith) (bounded-operand word s _ _) (λ o. bounded-tabled _ _)
-
-bounded-lsts : (s : State) (op : ℕ) → Bounded 2 (lsts s op)
-unfolding lsts
-bounded-lsts s op = bounded-then {k = 0} (omega arith) (bounded-operand word s _ _) (λ o. gives _)
-
-bounded-ssts : (out : Outside) (s : State) (op : ℕ) → Bounded 2 (ssts out s op)
-unfolding ssts
-bounded-ssts out s op = bounded-then {k = 1} (omega arith) (bounded-operand word s _ _) (λ o. bounded-write word _ _ _ _)
-
 -- the twelve op codes that both columns have first
 bounded-common : (z : Size) (s : State) (op : ℕ) {ws : List (Work State)} → AllBounded 2 ws → AllBounded 2 (
     on z Ror s op ∷ on z Rol s op ∷ test z s op ∷ on z Asl s op ∷ on z Set s op ∷ on z Clr s op ∷ on z Asr s op ∷ on z Swap s op ∷ on z Com s op ∷ on z Neg s op ∷ on z Inc s op ∷ on z Dec s op ∷ ws)
@@ -62,14 +43,22 @@ bounded-common z s op more =
     more)))))))))))
 
 pub bounded-format7 : (out : Outside) (s : State) (op : ℕ) → Bounded 2 (format7 out s op)
-unfolding format7
+unfolding format7 tcall tjmp lsts ssts
 bounded-format7 out s op =
     bounded-cond (ltb op 0x8000)
     (bounded-getD (columnRow op)
     (bounded-common word s op
-    (also (bounded-modify word _ s op) (also (bounded-modify word _ s op) (also (bounded-tcall s op) (also (bounded-tjmp s op) none)))))
-    (bounded-tjmp s op))
+    (also (bounded-modify word _ s op)
+    (also (bounded-modify word _ s op)
+    (also (bounded-then {k = 1} (omega arith) (bounded-operand word s _ _) (λ o. bounded-then {k = 0} (omega arith) (bounded-push _ _) (λ s. bounded-tabled s _)))
+    (also (bounded-then {k = 0} (omega arith) (bounded-operand word s _ _) (λ o. bounded-tabled _ _))
+    none)))))
+    (bounded-then {k = 0} (omega arith) (bounded-operand word s _ _) (λ o. bounded-tabled _ _)))
     (bounded-getD (columnRow op)
     (bounded-common byte s op
-    (also (bounded-lsts s op) (also (bounded-ssts out s op) (also (bounded-modify word _ s op) (also (bounded-modify word _ s op) none)))))
+    (also (bounded-then {k = 0} (omega arith) (bounded-operand word s _ _) (λ o. gives _))
+    (also (bounded-then {k = 1} (omega arith) (bounded-operand word s _ _) (λ o. bounded-write word _ _ _ _))
+    (also (bounded-modify word _ s op)
+    (also (bounded-modify word _ s op)
+    none)))))
     (bounded-modify word _ s op))

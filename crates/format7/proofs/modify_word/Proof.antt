@@ -10,42 +10,47 @@ use Rattle.format7.proofs.modify_word.Statement.{statement}
 use Rattle.format7.proofs.modify_word.Tie as tie
 
 locate-requires : tie.Need-locate-requires
-locate-requires c κs = c .before .before .before .before .pre .lent
+locate-requires c κs = c .before .before .before .before .before .before .pre .lent
 
 returns : tie.Need-returns
 unfolding modifyAt
 returns c =
-    did (went-store (c .unfound .result)) (c .before .before .before .before .before .before .before .before .pre)
-    (got-gone _ (never-found word _ _ _ refl (c .before .before .before .before .reg .ensures) (c .before .before .before .locate .ensures) (c .before .enum-told .given .1)) refl (found-lost (c .unfound .ensures) (c .before .enum-told .given .1)))
+    rw (← c .before .before .before .before .before .before .before .destination-register .ensures, ← c .before .before .before .before .before .before .destination-mode .ensures)
+    (did (went-store (c .unfound .result)) (c .before .before .before .before .before .before .before .before .before .before .pre)
+    (got-gone _ (never-found word _ _ _ refl (c .before .before .before .before .reg .ensures) (c .before .before .before .locate .ensures) (c .before .enum-told .given .1)) refl (found-lost (c .unfound .ensures) (c .before .enum-told .given .1))))
 
 read-word-requires : tie.Need-read-word-requires
-read-word-requires c κs = c .before .before .before .before .before .before .before .before .before .before .before .pre .lent
+read-word-requires c κs = c .before .before .before .before .before .before .before .before .before .before .before .before .before .pre .lent
 
 returns-2 : tie.Need-returns-2
 unfolding modifyAt
 returns-2 c =
-    did (went-store (c .unanswered .result)) (c .before .before .before .before .before .before .before .before .before .before .before .before .before .before .before .pre)
-    (got-gone _ (never-read word _ _ _ refl (c .before .before .before .before .before .before .before .before .before .before .before .reg .ensures) (c .before .before .before .before .before .before .before .before .before .before .locate .ensures) (c .before .before .before .before .before .before .before .before .found .given .1) (c .before .before .before .before .before .before .moved .ensures) (c .before .before .before .before .reg2 .ensures) (c .before .before .before .read-word .ensures) (word-none (c .before .enum-told2 .given .1))) refl (went-none (c .unanswered .ensures)))
+    rw (← c .before .before .before .before .before .before .before .before .before .before .before .before .before .before .destination-register .ensures, ← c .before .before .before .before .before .before .before .before .before .before .before .before .before .destination-mode .ensures)
+    (did (went-store (c .unanswered .result)) (c .before .before .before .before .before .before .before .before .before .before .before .before .before .before .before .before .before .pre)
+    (got-gone _ (never-read word _ _ _ refl (c .before .before .before .before .before .before .before .before .before .before .before .reg .ensures) (c .before .before .before .before .before .before .before .before .before .before .locate .ensures) (c .before .before .before .before .before .before .before .before .found .given .1) (c .before .before .before .before .before .before .moved .ensures) (c .before .before .before .before .reg2 .ensures) (c .before .before .before .read-word .ensures) (word-none (c .before .enum-told2 .given .1))) refl (went-none (c .unanswered .ensures))))
 
 stored-word-requires : tie.Need-stored-word-requires
-stored-word-requires c κs = c .before .before .before .before .before .before .before .before .before .before .before .before .before .before .before .before .before .before .before .pre
+stored-word-requires c κs = c .before .before .before .before .before .before .before .before .before .before .before .before .before .before .before .before .before .before .before .before .before .pre
 
 same-length-3 : tie.Need-same-length-3
-same-length-3 c = c .before .before .stored-word .ensures .board .lent .size ∙ sym (c .before .before .before .before .before .before .before .before .before .before .before .before .before .before .before .before .before .before .before .before .before .before .pre .lent .size)
+same-length-3 c = c .before .before .stored-word .ensures .board .lent .size ∙ sym (c .before .before .before .before .before .before .before .before .before .before .before .before .before .before .before .before .before .before .before .before .before .before .before .before .pre .lent .size)
 
 returns-3 : tie.Need-returns-3
 unfolding modifyAt
 returns-3 c =
-    record {
+    rw (← c .before .before .before .before .before .before .before .before .before .before .before .before .before .before .before .before .before .before .before .before .before .destination-register .ensures, ← c .before .before .before .before .before .before .before .before .before .before .before .before .before .before .before .before .before .before .before .before .destination-mode .ensures)
+    (record {
       got = got-then _ (held word _ _ _ refl (c .before .before .before .before .before .before .before .before .before .before .before .before .before .before .before .before .before .before .reg .ensures) (c .before .before .before .before .before .before .before .before .before .before .before .before .before .before .before .before .before .locate .ensures) (c .before .before .before .before .before .before .before .before .before .before .before .before .before .before .before .found .given .1) (c .before .before .before .before .before .before .before .before .before .before .before .before .before .moved .ensures) (c .before .before .before .before .before .before .before .before .before .before .before .reg2 .ensures) (c .before .before .before .before .before .before .before .before .before .before .read-word .ensures) (word-is (c .before .before .before .before .before .before .before .before .d .given .1))) refl
           ((rw (c .before .before .before .before .before .with-flags .ensures, c .before .before .before .before .before .before .word-result .ensures) at (c .before .before .stored-word .ensures)) .got);
       board = c .before .before .stored-word .ensures .board;
-    }
+    })
 
 pub modify-word-spec : {M : Type 1} → statement M
 modify-word-spec =
     tie.close
     (tie.spec
+    (λ c κs. search needs)
+    (λ c κs. search needs)
     (λ c κs. search needs)
     locate-requires
     (λ c. search needs)

@@ -6,25 +6,28 @@ use Rattle.format9.proofs.ash.Statement.{statement}
 use Rattle.format9.proofs.ash.Tie as tie
 
 destination-byte-requires : tie.Need-destination-byte-requires
-destination-byte-requires c κs = c .before .before .pre
+destination-byte-requires c κs = c .before .before .before .pre
 
 returns : tie.Need-returns
 unfolding ash
 returns c =
-    record { got = got-gone _ (c .before .before .before .destination-byte .ensures .got) (held-none (c .before .enum-told .given .1)) (held-lost (c .unheld .ensures) (c .before .enum-told .given .1)) }
+    rw (← c .before .before .before .before .register .ensures)
+    (record { got = got-gone _ (c .before .before .before .destination-byte .ensures .got) (held-none (c .before .enum-told .given .1)) (held-lost (c .unheld .ensures) (c .before .enum-told .given .1)) })
 
 returns-2 : tie.Need-returns-2
 unfolding ash
 returns-2 c =
-    record {
+    rw (← c .before .before .before .before .before .before .before .register .ensures)
+    (record {
       got = got-then _ (c .before .before .before .before .before .before .destination-byte .ensures .got) (held-is (c .before .before .before .before .held .given .1))
           (got-give (rw (c .with-done .ensures, c .before .ash .ensures, c .before .before .reg .ensures)));
-    }
+    })
 
 pub ash-spec : {M : Type 1} → statement M
 ash-spec =
     tie.close
     (tie.spec
+    (λ c κs. search needs)
     destination-byte-requires
     (λ c. search needs)
     (λ c. search needs)

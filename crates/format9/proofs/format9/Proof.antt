@@ -8,50 +8,30 @@ use Rattle.format9.proofs.format9.Tie as tie
 returns : tie.Need-returns
 unfolding format9
 returns c =
-    rw (c .before .if1 .taken)
-    (did refl (c .before .before .before .before .pre)
+    rw (← c .before .before .format9-code .ensures, c .before .if1 .taken)
+    (did refl (c .before .before .before .before .before .pre)
     (got-give (rw (c .sob .ensures))))
 
 jsr-requires : tie.Need-jsr-requires
-jsr-requires c κs = c .before .before .before .before .before .before .before .before .pre
+jsr-requires c κs = c .before .before .before .before .before .before .before .before .before .pre
 
 same-length : tie.Need-same-length
-same-length c = c .before .before .jsr .ensures .board .lent .size ∙ sym (c .before .before .before .before .before .before .before .before .before .before .before .pre .lent .size)
+same-length c = c .before .before .jsr .ensures .board .lent .size ∙ sym (c .before .before .before .before .before .before .before .before .before .before .before .before .pre .lent .size)
 
 returns-2 : tie.Need-returns-2
 unfolding format9
 returns-2 c =
-    rw (c .before .before .before .before .before .before .before .if2 .taken)
+    rw (← c .before .before .before .before .before .before .before .before .before .format9-code .ensures, c .before .before .before .before .before .before .before .if2 .taken)
     (record { got = (rw (c .before .before .before .before .before .with-flags .ensures, c .before .before .before .before .before .before .preset .ensures) at (c .before .before .jsr .ensures)) .got; board = c .before .before .jsr .ensures .board })
 
-preset-code-requires : tie.Need-preset-code-requires
-preset-code-requires c κs = (c .before .before .before .before .before .before .before .pre, record { not-jsr = c .before .before .before .if2 .left; not-sob = c .before .before .before .before .if1 .left })
-
-same-length-2 : tie.Need-same-length-2
-same-length-2 c = c .before .before .before .preset-code .ensures .board .lent .size ∙ sym (c .before .before .before .before .before .before .before .before .before .before .before .pre .lent .size)
-
-returns-3 : tie.Need-returns-3
-unfolding format9
-returns-3 c =
-    rw (c .apart .ensures)
-    (record { got = c .before .before .before .preset-code .ensures .got; board = c .before .before .before .preset-code .ensures .board })
-
-preset-code-requires-2 : tie.Need-preset-code-requires-2
-preset-code-requires-2 c κs = (c .before .before .before .before .before .before .before .pre, record { not-jsr = c .before .before .before .if2 .left; not-sob = c .before .before .before .before .if1 .left })
-
-same-length-3 : tie.Need-same-length-3
-same-length-3 c = c .before .before .before .preset-code2 .ensures .board .lent .size ∙ sym (c .before .before .before .before .before .before .before .before .before .before .before .pre .lent .size)
-
-returns-4 : tie.Need-returns-4
-unfolding format9
-returns-4 c =
-    rw (c .apart2 .ensures)
-    (record { got = c .before .before .before .preset-code2 .ensures .got; board = c .before .before .before .preset-code2 .ensures .board })
+seldom-requires : tie.Need-seldom-requires
+seldom-requires c κs = let e = c .before .before .before .before .format9-code .ensures in (c .before .before .before .before .before .before .before .pre, record { not-jsr = λ d. c .before .before .if2 .left (e ∙ d); not-sob = λ d. c .before .before .before .if1 .left (e ∙ d) })
 
 pub format9-spec : {M : Type 1} → statement M
 format9-spec =
     tie.close
     (tie.spec
+    (λ c κs. search needs)
     (λ c κs. search needs)
     returns
     (λ c κs. search needs)
@@ -59,11 +39,6 @@ format9-spec =
     jsr-requires
     same-length
     returns-2
-    preset-code-requires
-    (λ c κs. search needs)
-    same-length-2
-    returns-3
-    preset-code-requires-2
-    (λ c κs. search needs)
-    same-length-3
-    returns-4)
+    seldom-requires
+    (λ c. search needs)
+    (λ c. search needs))

@@ -6,25 +6,28 @@ use Rattle.format9.proofs.mul.Statement.{statement}
 use Rattle.format9.proofs.mul.Tie as tie
 
 destination-word-requires : tie.Need-destination-word-requires
-destination-word-requires c κs = c .before .before .pre
+destination-word-requires c κs = c .before .before .before .pre
 
 returns : tie.Need-returns
 unfolding mul
 returns c =
-    record { got = got-gone _ (c .before .before .before .destination-word .ensures .got) (held-none (c .before .enum-told .given .1)) (held-lost (c .unheld .ensures) (c .before .enum-told .given .1)) }
+    rw (← c .before .before .before .before .register .ensures)
+    (record { got = got-gone _ (c .before .before .before .destination-word .ensures .got) (held-none (c .before .enum-told .given .1)) (held-lost (c .unheld .ensures) (c .before .enum-told .given .1)) })
 
 returns-2 : tie.Need-returns-2
 unfolding mul
 returns-2 c =
-    record {
+    rw (← c .before .before .before .before .before .before .before .register .ensures)
+    (record {
       got = got-then _ (c .before .before .before .before .before .before .destination-word .ensures .got) (held-is (c .before .before .before .before .held .given .1))
           (got-give (rw (c .with-pair .ensures, c .before .mul .ensures, c .before .before .reg .ensures)));
-    }
+    })
 
 pub mul-spec : {M : Type 1} → statement M
 mul-spec =
     tie.close
     (tie.spec
+    (λ c κs. search needs)
     destination-word-requires
     (λ c. search needs)
     (λ c. search needs)

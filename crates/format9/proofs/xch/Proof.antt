@@ -8,33 +8,37 @@ use Rattle.format9.proofs.xch.Statement.{statement}
 use Rattle.format9.proofs.xch.Tie as tie
 
 destination-word-requires : tie.Need-destination-word-requires
-destination-word-requires c κs = c .before .before .before .pre .lent
+destination-word-requires c κs = c .before .before .before .before .before .pre .lent
 
 returns : tie.Need-returns
 unfolding xch
 returns c =
-    did (went-store (c .unheld .result)) (c .before .before .before .before .before .before .before .pre)
-    (got-gone _ (c .before .before .before .destination-word .ensures .got) (held-none (c .before .enum-told .given .1)) (held-lost (c .unheld .ensures) (c .before .enum-told .given .1)))
+    rw (← c .before .before .before .before .before .before .register .ensures)
+    (did (went-store (c .unheld .result)) (c .before .before .before .before .before .before .before .before .before .pre)
+    (got-gone _ (c .before .before .before .destination-word .ensures .got) (held-none (c .before .enum-told .given .1)) (held-lost (c .unheld .ensures) (c .before .enum-told .given .1))))
 
 write-word-requires : tie.Need-write-word-requires
-write-word-requires c κs = c .before .before .before .before .before .before .before .before .before .before .before .pre
+write-word-requires c κs = c .before .before .before .before .before .before .before .before .before .before .before .before .before .pre
 
 same-length-2 : tie.Need-same-length-2
-same-length-2 c = c .before .before .write-word .ensures .board .lent .size ∙ sym (c .before .before .before .before .before .before .before .before .before .before .before .before .before .before .pre .lent .size)
+same-length-2 c = c .before .before .write-word .ensures .board .lent .size ∙ sym (c .before .before .before .before .before .before .before .before .before .before .before .before .before .before .before .before .pre .lent .size)
 
 returns-2 : tie.Need-returns-2
 unfolding xch
 returns-2 c =
-    record {
+    rw (← c .before .before .before .before .before .before .before .before .before .before .before .before .before .register .ensures)
+    (record {
       got = got-then _ (c .before .before .before .before .before .before .before .before .before .before .destination-word .ensures .got) (held-is (c .before .before .before .before .before .before .before .before .held .given .1))
-          ((rw (c .before .before .before .before .before .with-reg .ensures, c .before .before .before .before .before .before .reg .ensures) at (c .before .before .write-word .ensures)) .got);
+          ((rw (c .before .before .before .before .before .with-reg .ensures, c .before .before .before .before .before .before .reg .ensures, c .before .before .before .before .before .before .before .before .before .before .before .before .destination-register .ensures) at (c .before .before .write-word .ensures)) .got);
       board = c .before .before .write-word .ensures .board;
-    }
+    })
 
 pub xch-spec : {M : Type 1} → statement M
 xch-spec =
     tie.close
     (tie.spec
+    (λ c κs. search needs)
+    (λ c κs. search needs)
     destination-word-requires
     (λ c. search needs)
     (λ c. search needs)

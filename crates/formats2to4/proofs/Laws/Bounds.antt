@@ -14,25 +14,13 @@ use Rattle.formats2to4.specs.Format2.{rtn, msko, prtn, format2}
 use Rattle.formats2to4.specs.Format4.{svca, svc, format4}
 use Rattle.formats2to4.specs.Low.{formats2to4, lowCodes}
 
-bounded-rtn : (s : State) (k : ℕ) → Bounded 0 (rtn s k)
-unfolding rtn
-bounded-rtn s k = bounded-popReg _ k
-
-bounded-msko : (s : State) (k : ℕ) → Bounded 1 (msko s k)
-unfolding msko
-bounded-msko s k = bounded-then {k = 0} (omega arith) (bounded-store word _ _) (λ _. gives _)
-
-bounded-prtn : (s : State) (k : ℕ) → Bounded 0 (prtn s k)
-unfolding prtn
-bounded-prtn s k = bounded-then {k = 0} (omega arith) (bounded-load {n = 0} word _) (λ tmp. bounded-rtn _ k)
-
 bounded-format2 : (out : Outside) (s : State) (op : ℕ) → Bounded 9 (format2 out s op)
-unfolding format2
+unfolding format2 rtn msko prtn
 bounded-format2 out s op =
     bounded-cond (eqb (format2Code op) 2) (gives _)
-    (bounded-cond (eqb (format2Code op) 3) (bounded-more (omega arith) (bounded-rtn s _))
-    (bounded-cond (eqb (format2Code op) 4) (bounded-more (omega arith) (bounded-msko s _))
-    (bounded-more (omega arith) (bounded-prtn s _))))
+    (bounded-cond (eqb (format2Code op) 3) (bounded-more (omega arith) (bounded-popReg _ _))
+    (bounded-cond (eqb (format2Code op) 4) (bounded-then {k = 0} (omega arith) (bounded-store word _ _) (λ _. gives _))
+    (bounded-then {k = 0} (omega arith) (bounded-load {n = 0} word _) (λ tmp. bounded-popReg _ _))))
 
 bounded-svca : (out : Outside) (s : State) (n : ℕ) → Bounded 2 (svca out s n)
 unfolding svca

@@ -7,37 +7,47 @@ use Rattle.formats2to4.proofs.format2.format2.Statement.{statement}
 use Rattle.formats2to4.proofs.format2.format2.Tie as tie
 
 rtn-requires : tie.Need-rtn-requires
-rtn-requires c κs = c .before .before .before .before .pre .lent
+rtn-requires c κs = c .before .before .before .before .before .before .pre .lent
 
 msko-requires : tie.Need-msko-requires
-msko-requires c κs = c .before .before .before .before .before .pre
+msko-requires c κs = c .before .before .before .before .before .before .before .pre
 
 prtn-requires : tie.Need-prtn-requires
-prtn-requires c κs = c .before .before .before .before .pre .lent
+prtn-requires c κs = c .before .before .before .before .before .before .pre .lent
 
 returns : tie.Need-returns
 unfolding format2
-returns c = rw (c .before .match .keys1) (did refl (c .before .before .before .before .pre) (got-give (rw (c .iak .ensures))))
+returns c =
+    rw (← c .before .before .before .only-register .ensures, ← c .before .before .format2-code .ensures)
+    (rw (c .before .match .keys1) (did refl (c .before .before .before .before .before .before .pre) (got-give (rw (c .iak .ensures)))))
 
 returns-2 : tie.Need-returns-2
 unfolding format2
-returns-2 c = rw (c .before .before .match .keys2) (record { got = c .rtn .ensures .got; board = c .before .before .before .before .before .pre })
+returns-2 c =
+    rw (← c .before .before .before .before .only-register .ensures, ← c .before .before .before .format2-code .ensures)
+    (rw (c .before .before .match .keys2) (record { got = c .rtn .ensures .got; board = c .before .before .before .before .before .before .before .pre }))
 
 same-length-2 : tie.Need-same-length-2
-same-length-2 c = c .before .before .msko .ensures .board .lent .size ∙ sym (c .before .before .before .before .before .before .before .before .pre .lent .size)
+same-length-2 c = c .before .before .msko .ensures .board .lent .size ∙ sym (c .before .before .before .before .before .before .before .before .before .before .pre .lent .size)
 
 returns-3 : tie.Need-returns-3
 unfolding format2
-returns-3 c = rw (c .before .before .before .before .before .match .keys3) (record { got = c .before .before .msko .ensures .got; board = c .before .before .msko .ensures .board })
+returns-3 c =
+    rw (← c .before .before .before .before .before .before .before .only-register .ensures, ← c .before .before .before .before .before .before .format2-code .ensures)
+    (rw (c .before .before .before .before .before .match .keys3) (record { got = c .before .before .msko .ensures .got; board = c .before .before .msko .ensures .board }))
 
 returns-4 : tie.Need-returns-4
 unfolding format2
-returns-4 c = rw (ne-eqb _ _ (c .before .before .match .rest .0 .0 .1), ne-eqb _ _ (c .before .before .match .rest .0 .1), ne-eqb _ _ (c .before .before .match .rest .1)) (record { got = c .prtn .ensures .got; board = c .before .before .before .before .before .pre })
+returns-4 c =
+    rw (← c .before .before .before .before .only-register .ensures, ← c .before .before .before .format2-code .ensures)
+    (rw (ne-eqb _ _ (c .before .before .match .rest .0 .0 .1), ne-eqb _ _ (c .before .before .match .rest .0 .1), ne-eqb _ _ (c .before .before .match .rest .1)) (record { got = c .prtn .ensures .got; board = c .before .before .before .before .before .before .before .pre }))
 
 pub format2-spec : {M : Type 1} → statement M
 format2-spec =
     tie.close
     (tie.spec
+    (λ c κs. search needs)
+    (λ c κs. search needs)
     (λ c κs. search needs)
     rtn-requires
     msko-requires

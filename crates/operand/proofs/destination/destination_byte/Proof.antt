@@ -6,27 +6,32 @@ use Rattle.operand.proofs.destination.destination_byte.Statement.{state
 use Rattle.operand.proofs.destination.destination_byte.Tie as tie
 
 locate-requires : tie.Need-locate-requires
-locate-requires c κs = c .before .before .before .before .pre
+locate-requires c κs = c .before .before .before .before .before .before .pre
 
 returns : tie.Need-returns
 returns c =
-    record { got = got-as (never-found byte _ _ _ (c .before .before .before .before .before .byte-step .ensures) (c .before .before .before .before .reg .ensures) (c .before .before .before .locate .ensures) (c .before .enum-told .given .1)) (found-nowhere (c .nowhere .ensures) (c .before .enum-told .given .1)) }
+    rw (← c .before .before .before .before .before .before .before .destination-register .ensures, ← c .before .before .before .before .before .before .destination-mode .ensures)
+    (record { got = got-as (never-found byte _ _ _ (c .before .before .before .before .before .byte-step .ensures) (c .before .before .before .before .reg .ensures) (c .before .before .before .locate .ensures) (c .before .enum-told .given .1)) (found-nowhere (c .nowhere .ensures) (c .before .enum-told .given .1)) })
 
 read-byte-requires : tie.Need-read-byte-requires
-read-byte-requires c κs = c .before .before .before .before .before .before .before .before .before .before .pre
+read-byte-requires c κs = c .before .before .before .before .before .before .before .before .before .before .before .before .pre
 
 returns-2 : tie.Need-returns-2
 returns-2 c =
-    record { got = got-as (never-read byte _ _ _ (c .before .before .before .before .before .before .before .before .before .before .before .byte-step .ensures) (c .before .before .before .before .before .before .before .before .before .before .reg .ensures) (c .before .before .before .before .before .before .before .before .before .locate .ensures) (c .before .before .before .before .before .before .before .found .given .1) (c .before .before .before .before .before .moved .ensures) (c .before .before .before .before .reg2 .ensures) (c .before .before .before .read-byte .ensures) (byte-none (c .before .enum-told2 .given .1))) (held-none (c .absent .ensures)) }
+    rw (← c .before .before .before .before .before .before .before .before .before .before .before .before .before .destination-register .ensures, ← c .before .before .before .before .before .before .before .before .before .before .before .before .destination-mode .ensures)
+    (record { got = got-as (never-read byte _ _ _ (c .before .before .before .before .before .before .before .before .before .before .before .byte-step .ensures) (c .before .before .before .before .before .before .before .before .before .before .reg .ensures) (c .before .before .before .before .before .before .before .before .before .locate .ensures) (c .before .before .before .before .before .before .before .found .given .1) (c .before .before .before .before .before .moved .ensures) (c .before .before .before .before .reg2 .ensures) (c .before .before .before .read-byte .ensures) (byte-none (c .before .enum-told2 .given .1))) (held-none (c .absent .ensures)) })
 
 returns-3 : tie.Need-returns-3
 returns-3 c =
-    record { got = held byte _ _ _ (c .before .before .before .before .before .before .before .before .before .before .before .byte-step .ensures) (c .before .before .before .before .before .before .before .before .before .before .reg .ensures) (c .before .before .before .before .before .before .before .before .before .locate .ensures) (c .before .before .before .before .before .before .before .found .given .1) (c .before .before .before .before .before .moved .ensures) (c .before .before .before .before .reg2 .ensures) (c .before .before .before .read-byte .ensures) (byte-is (c .before .v .given .1)) }
+    rw (← c .before .before .before .before .before .before .before .before .before .before .before .before .before .destination-register .ensures, ← c .before .before .before .before .before .before .before .before .before .before .before .before .destination-mode .ensures)
+    (record { got = held byte _ _ _ (c .before .before .before .before .before .before .before .before .before .before .before .byte-step .ensures) (c .before .before .before .before .before .before .before .before .before .before .reg .ensures) (c .before .before .before .before .before .before .before .before .before .locate .ensures) (c .before .before .before .before .before .before .before .found .given .1) (c .before .before .before .before .before .moved .ensures) (c .before .before .before .before .reg2 .ensures) (c .before .before .before .read-byte .ensures) (byte-is (c .before .v .given .1)) })
 
 pub destination-byte-spec : {M : Type 1} → statement M
 destination-byte-spec =
     tie.close
     (tie.spec
+    (λ c κs. search needs)
+    (λ c κs. search needs)
     (λ c κs. search needs)
     (λ c κs. search needs)
     locate-requires
