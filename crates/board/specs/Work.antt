@@ -104,3 +104,10 @@ Agree map m n = (a : ℕ) → fitted map a ≡ true → getD m a 0 ≡ getD n a 
 -- the byte at every address that can't be written, of an unfitted or a read-only page, is the same in both
 abbrev pub Untouched : List ℕ → List ℕ → List ℕ → Type 0
 Untouched map m n = (a : ℕ) → writable map a ≡ false → getD n a 0 ≡ getD m a 0
+
+-- what two calls come to, whose images agreed on fitted bytes: the same answer, fitted bytes that agree, unfitted bytes as lent
+pub record Blind {A : Type 0} (map m n : List ℕ) (r q : A) (m′ n′ : List ℕ) : Type 0 where
+  pub answer : r ≡ q
+  pub fittedAgree : Agree map m′ n′
+  pub unfittedStay : Untouched map m m′
+  pub unfittedStayToo : Untouched map n n′

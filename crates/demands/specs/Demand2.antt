@@ -18,8 +18,7 @@ use Rattle.machine.specs.declared.Stepped.{Stepped}
 use Rattle.machine.specs.declared.Finished.{Finished}
 use Rattle.machine.specs.Numbers.{StatePage, statePage, nowhere, toldOf, TurnPage, placePage, RanPage}
 use Rattle.machine.specs.Entry.{poweredPage, powered, powerUpPage, steppedPage, turned, stepPage, finishedPage, runPage}
-use Rattle.machine.specs.Trail.{trailOf, lastAfter, blanksIn, firstBlankIn}
-use Rattle.machine.specs.Answered.{runShown}
+use Rattle.machine.specs.Trail.{trailOf, lastAfter, blanksIn, firstBlankIn, runShown}
 use Rattle.machine_c.specs.Layout.{stateBytes, tallyBytes, stateFrom, settingsFrom}
 use Rattle.machine_c.specs.Calls.{powerUpCall, stepCall, runCall}
 use Rattle.optext.specs.declared.Written.{Written}

@@ -4,7 +4,7 @@ use mathlib.Core.Bool.{true, false}
 use mathlib.Core.List.{List}
 use mathlib.Core.Path.{_≡_}
 use lib.ListN.{length}
-use Rattle.board.specs.Work.{Agree}
+use Rattle.board.specs.Work.{Agree, Blind}
 use Rattle.state.specs.declared.State.{State}
 use Rattle.state.specs.declared.Settings.{Settings}
 use Rattle.state.specs.State.{heard}
@@ -19,7 +19,6 @@ use Rattle.machine.specs.Numbers.{TurnPage, RanPage}
 use Rattle.machine.specs.Entry.{poweredPage, powerUpPage, steppedPage, stepPage, finishedPage, runPage}
 use Rattle.machine.specs.Same.{runSamePage}
 use Rattle.machine.specs.Until.{stoppedPage, runUntilPage}
-use Rattle.machine.specs.Blind.{Blind}
 use Rattle.machine_c.specs.Layout.{stateFrom, settingsFrom}
 use Rattle.machine_c.specs.Calls.{powerUpCall, stepCall, runCall}
 use Rattle.machine_c.specs.Runs.{runSameCall, runUntilCall}

@@ -4,12 +4,11 @@ use mathlib.Core.Bool.{cond}
 use mathlib.Core.List.{List}
 use mathlib.Core.Path.{_≡_}
 use lib.ListN.{length}
-use Rattle.board.specs.Work.{Agree}
+use Rattle.board.specs.Work.{Agree, Blind}
 use Rattle.state.specs.declared.Settings.{Settings}
 use Rattle.wordbytes.specs.Words.{byteAt}
 use Rattle.refusal.specs.Numbers.{noState}
 use Rattle.refusal.specs.Page.{answered, left, nothing, first, told}
-use Rattle.machine.specs.Blind.{Blind}
 use Rattle.machine_c.specs.Layout.{stateFrom, settingsFrom}
 use Rattle.plugs.specs.declared.Channel.{Channel}
 use Rattle.recorder.specs.declared.Recorder.{Recorder}

@@ -1,8 +1,9 @@
 -- What the writer of one line of a listing must answer and leave.
 use Prim.Native.Nat.{ℕ, _%_}
 use mathlib.Core.Bool.{Bool, _||_, cond}
-use mathlib.Core.List.{List}
-use lib.ListN.{length}
+use mathlib.Core.List.{List, [], _∷_}
+use mathlib.Core.Path.{_≡_}
+use lib.ListN.{length, take}
 use lib.Dec.{eqb, ltb}
 use Rattle.hexdigits.specs.Over.{inFrontOf}
 use Rattle.refusal.specs.Numbers.{noStretch, textShort}
@@ -58,3 +59,11 @@ lineIn image map a last b =
 
 unfoldable pub lineCall : List ℕ → List ℕ → ℕ → ℕ → List ℕ → Left Lined (List ℕ)
 lineCall image map a last b = call (lineWhy (length image) map a last (length b)) (lineIn image map a last b) b
+
+-- ---- calls one after the other
+
+module _ (image map : List ℕ) (last : ℕ) where
+  -- the lines of calls one after the other, from the address a on: each into any text
+  pub data Lines : ℕ → List (List ℕ) → Type 0 where
+    final : (a n : ℕ) (b e : List ℕ) → left (answered (lined n ends)) e ≡ lineCall image map a last b → Lines a (take n e ∷ [])
+    more : (a n a′ : ℕ) (b e : List ℕ) (ls : List (List ℕ)) → left (answered (lined n (goesOn a′))) e ≡ lineCall image map a last b → Lines a′ ls → Lines a (take n e ∷ ls)

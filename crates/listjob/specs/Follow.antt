@@ -5,8 +5,7 @@ use mathlib.Core.List.{List}
 use mathlib.Core.Path.{_≡_}
 use lib.ListN.{length}
 use Rattle.refusal.specs.Page.{answered, left}
-use Rattle.listing.specs.Calls.{goesOn, lined, lineRoom, lineWhy, lineCall}
-use Rattle.listing.specs.Joined.{Lines}
+use Rattle.listing.specs.Calls.{goesOn, lined, lineRoom, lineWhy, lineCall, Lines}
 
 -- the next address is not refused, in any text that has room for a line
 abbrev pub NextTaken : Type 0

@@ -3,10 +3,8 @@ pub mod Run
 pub mod Entry
 pub mod Door
 pub mod Back
-pub mod Blind
 pub mod Trail
 pub mod Counted
-pub mod Answered
 pub mod Block
 pub mod Same
 pub mod Until

@@ -11,11 +11,12 @@ use Rattle.step.specs.declared.Cause.{Cause}
 use Rattle.step.specs.declared.Cause.the-variants as Cause
 use Rattle.step.specs.declared.Told.{Told}
 use Rattle.step.specs.declared.Told.the-variants as Told
-use Rattle.step.specs.Step.{After, stepOf, blankAt, isBlank}
+use Rattle.step.specs.Step.{After, after, stepOf, blankAt, isBlank}
+use Rattle.refusal.specs.Page.{answered, Left, left}
 use Rattle.machine.specs.declared.First.{First}
 use Rattle.machine.specs.declared.First.the-variants.{At, Never}
 use Rattle.machine.specs.declared.Tally.{Tally}
-use Rattle.machine.specs.Numbers.{Place, place, none}
+use Rattle.machine.specs.Numbers.{Place, place, none, statePage, RanPage, placePage}
 
 -- the state, the image and the cause after each step
 unfoldable pub trailOf : Settings → List ℕ → List ℕ → State → List ℕ → List After
@@ -61,3 +62,10 @@ causeAt (a ∷ rs) (suc k) = causeAt rs k
 pub data Least (rs : List After) : Place → Type 0 where
   least : {p a : ℕ} → p < length rs → blankAt (causeAt rs p) ≡ Told.At a → ((k : ℕ) → k < p → isBlank (causeAt rs k) ≡ false) → Least rs (place p a)
   nowhere : ((k : ℕ) → k < length rs → isBlank (causeAt rs k) ≡ false) → Least rs none
+
+-- what a run shows that went along a trail from b
+abbrev pub runShown : Settings → List ℕ → List ℕ → State → List ℕ → Left RanPage (List ℕ)
+runShown settings map lines s m =
+    let rs = trailOf settings map lines s m in
+    let b = lastAfter (after s m Cause.Nothing) rs in
+    left (answered (record { state = statePage (b .state); blanks = blanksIn rs; first = placePage (firstBlankIn rs) })) (b .image)

@@ -2,9 +2,8 @@
 use Prim.Native.Nat.{ℕ, zero, suc}
 use mathlib.Core.List.{List}
 use mathlib.Core.Path.{_≡_, refl}
-use Rattle.board.specs.Work.{Agree, Untouched}
+use Rattle.board.specs.Work.{Agree, Untouched, Blind}
 use Rattle.refusal.specs.Page.{Page, refused, refusedAt, answered, Left, call, Told, tells, reading}
-use Rattle.machine.specs.Blind.{Blind}
 use Rattle.machine.proofs.Laws.Blind.{SameLeft}
 
 -- ---- demand 3

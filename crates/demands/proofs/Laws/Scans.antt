@@ -5,7 +5,7 @@ use mathlib.Core.List.{List}
 use mathlib.Core.Path.{_≡_, refl, sym, ap, _∙_}
 use native.Mathlib.Omega.{arith}
 use lib.ListN.{length, getD}
-use Rattle.board.specs.Work.{Agree, Untouched}
+use Rattle.board.specs.Work.{Agree, Untouched, Blind}
 use Rattle.state.specs.declared.State.{State}
 use Rattle.state.specs.declared.Settings.{Settings}
 use Rattle.step.specs.declared.Cause.the-variants as Cause
@@ -17,7 +17,6 @@ use Rattle.refusal.proofs.Laws.Page.{answered-one, call-right}
 use Rattle.machine.specs.Run.{End, end, runOf}
 use Rattle.machine.specs.Trail.{trailOf, tallyIn}
 use Rattle.machine.proofs.Laws.Counted.{run-trail}
-use Rattle.machine.specs.Blind.{Blind}
 use Rattle.machine_c.specs.Layout.{tallyBytes, stateFrom, settingsFrom}
 use Rattle.plugs.specs.declared.Channel.{Channel}
 use Rattle.plugs.specs.Plugs.{newPlug}

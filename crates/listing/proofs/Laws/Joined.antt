@@ -19,8 +19,7 @@ use Rattle.board.specs.Work.{fitted}
 use Rattle.optext.specs.Line.{taken}
 use Rattle.listing.specs.declared.Found.the-variants.{Nothing, Cut, Whole}
 use Rattle.listing.specs.Listing.{allStand, foundAt, movesOn, lineAt, nextAt, linesFrom, listingOf}
-use Rattle.listing.specs.Calls.{Next, goesOn, ends, Lined, lined, badStretch, lineWhy, nextOf, lineIn, lineCall}
-use Rattle.listing.specs.Joined.{Lines, final, more}
+use Rattle.listing.specs.Calls.{Next, goesOn, ends, Lined, lined, badStretch, lineWhy, nextOf, lineIn, lineCall, Lines, final, more}
 
 -- ---- the listing, line by line
 

@@ -13,8 +13,7 @@ use Rattle.refusal.specs.Page.{answered, left, first}
 use Rattle.refusal.specs.Refusal.{boardRefusal}
 use Rattle.refusal.proofs.Laws.Page.{first-both, call-right}
 use Rattle.listing.specs.Listing.{lineAt, nextAt, linesFrom, listingOf}
-use Rattle.listing.specs.Calls.{Next, goesOn, ends, lined, lineRoom, badStretch, lineWhy, nextOf, lineIn, lineCall}
-use Rattle.listing.specs.Joined.{Lines, final, more}
+use Rattle.listing.specs.Calls.{Next, goesOn, ends, lined, lineRoom, badStretch, lineWhy, nextOf, lineIn, lineCall, Lines, final, more}
 use Rattle.listing.proofs.Laws.Joined.{Good, good, next-further, goes-on, called, joined}
 use Rattle.listing.proofs.Laws.{why-none}
 use Rattle.listjob.specs.Follow.{NextTaken, Ends, FollowEnds, LinesFew}

@@ -16,7 +16,7 @@ use Rattle.machine.specs.Run.{End, end, runOf, ranOf}
 use Rattle.machine.proofs.Laws.Counted.{run-trail}
 use Rattle.machine.proofs.Laws.Back.{ran-one}
 use Rattle.machine.specs.Entry.{powerWhy, stepWhy, runWhy, powered, powerUpPage, turned, stepPage, finishedPage, runEnd, runPage}
-use Rattle.machine.specs.Answered.{runShown}
+use Rattle.machine.specs.Trail.{runShown}
 
 pub power-answer : (settings : Settings) (m map : List ℕ) {p : StatePage} {m′ : List ℕ} → left (answered p) m′ ≡ powerUpPage settings m map
     → (powerWhy settings m map ≡ 0) × (left (answered p) m′ ≡ powered (powerUpOf settings map m))

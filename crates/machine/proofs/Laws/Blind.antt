@@ -3,7 +3,7 @@ use Prim.Native.Nat.{ℕ, zero, suc}
 use mathlib.Core.List.{List}
 use mathlib.Core.Path.{_≡_, refl, sym, ap, _∙_}
 use lib.ListN.{length, getD}
-use Rattle.board.specs.Work.{Agree, Untouched}
+use Rattle.board.specs.Work.{Agree, Untouched, Blind}
 use Rattle.state.specs.declared.State.{State}
 use Rattle.state.specs.declared.Settings.{Settings}
 use Rattle.state.specs.State.{heard}
@@ -13,7 +13,6 @@ use Rattle.refusal.specs.Page.{Page, Left, left, call}
 use Rattle.machine.specs.Run.{End, end, runOf, noBlanks}
 use Rattle.machine.proofs.Laws.Alike.{Ends, ends, run-alike, imageOf, run-untouched}
 use Rattle.machine.specs.Entry.{powerWhy, stepWhy, runWhy, powered, powerUpPage, runEnd, turned, stepPage, runPage}
-use Rattle.machine.specs.Blind.{Blind}
 
 -- ---- two pages
 
