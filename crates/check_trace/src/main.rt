@@ -1,6 +1,6 @@
 // Checks another shop's trace of a job and says in words what it is found to be: check_trace JOB TRACE, two files by name. Where the
 // answer could not be written standard error says so. Each function that prints answers whether all was written.
-use hexdigits::hex;
+use hexdigits::put_hex4;
 ghost use mathlib.Core.Path.{_≡_};
 ghost use lib.ListN.{length};
 use libc::STDERR_FILENO;
@@ -18,12 +18,8 @@ fn put_decimal(n: u16) -> bool {
 }
 
 fn put_word(w: u16) -> bool {
-    let digits = [
-        hex(w / 4096),
-        hex(w / 256 % 16),
-        hex(w / 16 % 16),
-        hex(w % 16),
-    ];
+    let mut digits = [0u8; 4];
+    put_hex4(&mut digits, w);
     put(&digits)
 }
 
