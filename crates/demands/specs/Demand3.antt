@@ -33,6 +33,8 @@ use Rattle.listjob.specs.Stretch.{listWhy, listOf}
 use Rattle.listing.specs.declared.Listed.{Listed}
 use Rattle.listing.specs.Calls.{listedPage, lineCall}
 use Rattle.listing_c.specs.Calls.{listCall}
+use Rattle.stepline.specs.declared.Shown.{Shown}
+use Rattle.stepline.specs.Shown.{shownPage, showOf}
 use Rattle.trace.specs.declared.Checked.{Checked}
 use Rattle.trace.specs.declared.Made.{Made}
 use Rattle.trace.specs.Trace.{checkedPage, whyCheck, checkOf, madePage, whyMake, makeOf}
@@ -60,6 +62,12 @@ module _ (settings : Settings) (map m n : List ℕ) (l : length m ≡ length n) 
   abbrev pub RunUntilBlind : Type 0
   RunUntilBlind = (lines : List ℕ) (u : Until) (s : State) (r q : Stopped) (m′ n′ : List ℕ)
       → left (stoppedPage r) m′ ≡ runUntilPage settings m map lines u s → left (stoppedPage q) n′ ≡ runUntilPage settings n map lines u s → Blind map m n r q m′ n′
+
+  -- a step and its line: the text too is the same
+  abbrev pub WriteStepBlind : Type 0
+  WriteStepBlind = (line number : ℕ) (s : State) (text : List ℕ) (r q : Shown) (m′ n′ text₁ text₂ : List ℕ)
+      → left (shownPage r) (m′, text₁) ≡ showOf settings m map line number s text → left (shownPage q) (n′, text₂) ≡ showOf settings n map line number s text
+      → Blind {A = Shown × List ℕ} map m n (r, text₁) (q, text₂) m′ n′
 
 -- the same for C: the number, the state's bytes, the tally's; w are the settings' bytes
 module _ (w map m n : List ℕ) (l : length m ≡ length n) (g : Agree map m n) where

@@ -39,9 +39,10 @@ use Rattle.trace.proofs.Laws.Right.{checked-one, made-one}
 use Rattle.demands.proofs.Laws.Pages.{same-call}
 use Rattle.demands.proofs.Laws.Calls.{call-blind}
 use Rattle.demands.proofs.Laws.Runs.{same-same, same-kept, until-same, until-kept, stopped-one}
+use Rattle.demands.proofs.Laws.StepLines.{show-alike, line-blind}
 use Rattle.demands.proofs.Laws.Blanks.{blanked, fitted, counted}
 use Rattle.demands.proofs.Laws.Demand2.{step-is, run-is, wd16-step-is, wd16-run-is}
-use Rattle.demands.specs.Demand3.{PowerUpBlind, StepBlind, RunBlind, RunSameBlind, RunUntilBlind, Wd16PowerUpBlind, Wd16StepBlind, Wd16RunBlind, Wd16RunSameBlind, Wd16RunUntilBlind, ListLineBlind, Wd16ListLineBlind, JobBlind, Wd16ReadJobBlind, JobRunBlind, BenchBlind, ListBlind, CheckBlind, MakeBlind, StepBlanked, StepFitted, Wd16StepBlanked, Wd16StepFitted, RunCounted, Wd16RunCounted}
+use Rattle.demands.specs.Demand3.{PowerUpBlind, StepBlind, RunBlind, RunSameBlind, RunUntilBlind, WriteStepBlind, Wd16PowerUpBlind, Wd16StepBlind, Wd16RunBlind, Wd16RunSameBlind, Wd16RunUntilBlind, ListLineBlind, Wd16ListLineBlind, JobBlind, Wd16ReadJobBlind, JobRunBlind, BenchBlind, ListBlind, CheckBlind, MakeBlind, StepBlanked, StepFitted, Wd16StepBlanked, Wd16StepFitted, RunCounted, Wd16RunCounted}
 
 -- ---- TWO CALLS OVER IMAGES THAT AGREE ON FITTED BYTES: the same answer, fitted bytes that agree again, and every byte that
 -- can't be written, of an unfitted or a read-only page, as lent
@@ -61,6 +62,10 @@ module _ (settings : Settings) (map m n : List ℕ) (l : length m ≡ length n) 
 
   pub run-until-blind : RunUntilBlind settings map m n l g
   run-until-blind lines u s r q m′ n′ e d = blind stoppedPage r q (stopped-one r q) e d (until-same settings map lines u s m n l g) (until-kept settings map lines u s m) (until-kept settings map lines u s n)
+
+  -- a step and its line: the text too is the same
+  pub write-step-blind : WriteStepBlind settings map m n l g
+  write-step-blind line number s text r q m′ n′ text₁ text₂ e d = line-blind r q e d (show-alike settings map m n l g line number s text)
 
 -- the same for C: the number, the state's bytes, the tally's; w are the settings' bytes
 module _ (w map m n : List ℕ) (l : length m ≡ length n) (g : Agree map m n) where
