@@ -10,5 +10,6 @@ pub mod Programs
 pub mod Runs
 pub mod Scans
 pub mod Sources
+pub mod StepLines
 pub mod Texts
 pub mod Took

@@ -25,9 +25,15 @@ use Rattle.machine_c.specs.Runs.{runSameCall, runUntilCall}
 use Rattle.job.specs.declared.Answer.{Answer}
 use Rattle.job.specs.Job.{jobPage, whyRead, jobOf}
 use Rattle.job_c.specs.Calls.{readCall}
+use Rattle.benchline.specs.declared.Printed.{Printed}
+use Rattle.benchline.specs.Line.{printedPage}
+use Rattle.runjob.specs.Bench.{jobRun, benchWhy, benchOf}
+use Rattle.listjob.specs.Stretch.{listWhy, listOf}
 use Rattle.listing.specs.declared.Listed.{Listed}
 use Rattle.listing.specs.Calls.{listedPage, lineCall}
 use Rattle.listing_c.specs.Calls.{listCall}
+use Rattle.stepline.specs.declared.Shown.{Shown}
+use Rattle.stepline.specs.Shown.{shownPage, showOf}
 use Rattle.trace.specs.declared.Checked.{Checked}
 use Rattle.trace.specs.declared.Made.{Made}
 use Rattle.trace.specs.Trace.{checkedPage, whyCheck, checkOf, madePage, whyMake, makeOf}
@@ -55,6 +61,12 @@ module _ (settings : Settings) (map m n : List ℕ) (l : length m ≡ length n) 
   abbrev pub RunUntilBlind : Type 0
   RunUntilBlind = (lines : List ℕ) (u : Until) (s : State) (r q : Stopped) (m′ n′ : List ℕ)
       → left (stoppedPage r) m′ ≡ runUntilPage settings m map lines u s → left (stoppedPage q) n′ ≡ runUntilPage settings n map lines u s → Blind map m n r q m′ n′
+
+  -- a step and its line: the text too is the same
+  abbrev pub WriteStepBlind : Type 0
+  WriteStepBlind = (line number : ℕ) (s : State) (text : List ℕ) (r q : Shown) (m′ n′ text₁ text₂ : List ℕ)
+      → left (shownPage r) (m′, text₁) ≡ showOf settings m map line number s text → left (shownPage q) (n′, text₂) ≡ showOf settings n map line number s text
+      → Blind {A = Shown × List ℕ} map m n (r, text₁) (q, text₂) m′ n′
 
 -- the same for C: the number, the state's bytes, the tally's; w are the settings' bytes
 module _ (w map m n : List ℕ) (l : length m ≡ length n) (g : Agree map m n) where
@@ -88,8 +100,8 @@ abbrev pub Wd16ListLineBlind : Type 0
 Wd16ListLineBlind = (map m n : List ℕ) → length m ≡ length n → Agree map m n → (x last : ℕ) (text a : List ℕ) (k j : ℕ) (text₁ text₂ a₁ a₂ : List ℕ)
     → told k (text₁, a₁) ≡ listCall m map x last text a → told j (text₂, a₂) ≡ listCall n map x last text a → (k ≡ j) × (text₁ ≡ text₂) × (a₁ ≡ a₂)
 
--- ---- A JOB FILLS the lent image, the map and the line words from its own bytes, and a trace is of a job: whatever stands in them before,
--- the answer is the same, and where nothing is refused, so is what is left in them
+-- ---- A JOB FILLS the lent image, the map and the line words from its own bytes, and a run, a listing and a trace are of a job: whatever stands
+-- in them before, the answer is the same, and where nothing is refused, so is what is left in them
 
 module _ (input i₁ i₂ m₁ m₂ l₁ l₂ : List ℕ) (hi : length i₁ ≡ length i₂) (hm : length m₁ ≡ length m₂) (hl : length l₁ ≡ length l₂) where
   abbrev pub JobBlind : Type 0
@@ -102,6 +114,22 @@ module _ (input i₁ i₂ m₁ m₂ l₁ l₂ : List ℕ) (hi : length i₁ ≡ 
   Wd16ReadJobBlind = (a : List ℕ) (k j : ℕ) (i₁′ m₁′ l₁′ a₁ i₂′ m₂′ l₂′ a₂ : List ℕ)
       → told k (i₁′, m₁′, l₁′, a₁) ≡ readCall input i₁ m₁ l₁ a → told j (i₂′, m₂′, l₂′, a₂) ≡ readCall input i₂ m₂ l₂ a
       → (k ≡ j) × (a₁ ≡ a₂) × (k ≡ 0 → (i₁′ ≡ i₂′) × (m₁′ ≡ m₂′) × (l₁′ ≡ l₂′))
+
+  abbrev pub JobRunBlind : Type 0
+  JobRunBlind = (r q : Finished) (i₁′ m₁′ l₁′ i₂′ m₂′ l₂′ : List ℕ)
+      → left (finishedPage r) (i₁′, m₁′, l₁′) ≡ jobRun input i₁ m₁ l₁ → left (finishedPage q) (i₂′, m₂′, l₂′) ≡ jobRun input i₂ m₂ l₂
+      → (r ≡ q) × (whyRead (length i₁) (length m₁) (length l₁) input ≡ 0 → (i₁′ ≡ i₂′) × (m₁′ ≡ m₂′) × (l₁′ ≡ l₂′))
+
+  -- of bench's line and of a listing the text too is the same
+  abbrev pub BenchBlind : Type 0
+  BenchBlind = (text : List ℕ) (r q : Printed) (text₁ text₂ i₁′ m₁′ l₁′ i₂′ m₂′ l₂′ : List ℕ)
+      → left (printedPage r) (text₁, i₁′, m₁′, l₁′) ≡ benchOf input text i₁ m₁ l₁ → left (printedPage q) (text₂, i₂′, m₂′, l₂′) ≡ benchOf input text i₂ m₂ l₂
+      → (r ≡ q) × (text₁ ≡ text₂) × (benchWhy input text i₁ m₁ l₁ ≡ 0 → (i₁′ ≡ i₂′) × (m₁′ ≡ m₂′) × (l₁′ ≡ l₂′))
+
+  abbrev pub ListBlind : Type 0
+  ListBlind = (text : List ℕ) (r q : Printed) (text₁ text₂ i₁′ m₁′ l₁′ i₂′ m₂′ l₂′ : List ℕ)
+      → left (printedPage r) (text₁, i₁′, m₁′, l₁′) ≡ listOf input text i₁ m₁ l₁ → left (printedPage q) (text₂, i₂′, m₂′, l₂′) ≡ listOf input text i₂ m₂ l₂
+      → (r ≡ q) × (text₁ ≡ text₂) × (listWhy input (length text) (length i₁) (length m₁) (length l₁) ≡ 0 → (i₁′ ≡ i₂′) × (m₁′ ≡ m₂′) × (l₁′ ≡ l₂′))
 
   abbrev pub CheckBlind : Type 0
   CheckBlind = (t : List ℕ) (r q : Checked) (i₁′ m₁′ l₁′ i₂′ m₂′ l₂′ : List ℕ)

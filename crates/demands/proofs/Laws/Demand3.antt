@@ -27,6 +27,10 @@ use Rattle.machine_c.specs.Runs.{untilFrom, refusedUntil, stopIn, runSameCall, 
 use Rattle.job.specs.Job.{linesAt, buffersOf, whyRead, jobOf}
 use Rattle.job.proofs.Laws.{one-answer}
 use Rattle.job_c.specs.Calls.{JobBuffers, jobLaid, readCall}
+use Rattle.benchline.proofs.Laws.Printed.{printed-one}
+use Rattle.runjob.specs.Bench.{ranAt, jobRun, endLine, benchWhy, benchOf}
+use Rattle.runjob.specs.Bench as Bench
+use Rattle.listjob.specs.Stretch.{listWhy, listedIn, listOf}
 use Rattle.listing_c.specs.Calls.{nextWordsOf, listCall}
 use Rattle.listing.proofs.Laws.Calls.{one-listed}
 use Rattle.listing.proofs.Laws.Alike.{call-alike}
@@ -35,9 +39,10 @@ use Rattle.trace.proofs.Laws.Right.{checked-one, made-one}
 use Rattle.demands.proofs.Laws.Pages.{same-call}
 use Rattle.demands.proofs.Laws.Calls.{call-blind}
 use Rattle.demands.proofs.Laws.Runs.{same-same, same-kept, until-same, until-kept, stopped-one}
+use Rattle.demands.proofs.Laws.StepLines.{show-alike, line-blind}
 use Rattle.demands.proofs.Laws.Blanks.{blanked, fitted, counted}
 use Rattle.demands.proofs.Laws.Demand2.{step-is, run-is, wd16-step-is, wd16-run-is}
-use Rattle.demands.specs.Demand3.{PowerUpBlind, StepBlind, RunBlind, RunSameBlind, RunUntilBlind, Wd16PowerUpBlind, Wd16StepBlind, Wd16RunBlind, Wd16RunSameBlind, Wd16RunUntilBlind, ListLineBlind, Wd16ListLineBlind, JobBlind, Wd16ReadJobBlind, CheckBlind, MakeBlind, StepBlanked, StepFitted, Wd16StepBlanked, Wd16StepFitted, RunCounted, Wd16RunCounted}
+use Rattle.demands.specs.Demand3.{PowerUpBlind, StepBlind, RunBlind, RunSameBlind, RunUntilBlind, WriteStepBlind, Wd16PowerUpBlind, Wd16StepBlind, Wd16RunBlind, Wd16RunSameBlind, Wd16RunUntilBlind, ListLineBlind, Wd16ListLineBlind, JobBlind, Wd16ReadJobBlind, JobRunBlind, BenchBlind, ListBlind, CheckBlind, MakeBlind, StepBlanked, StepFitted, Wd16StepBlanked, Wd16StepFitted, RunCounted, Wd16RunCounted}
 
 -- ---- TWO CALLS OVER IMAGES THAT AGREE ON FITTED BYTES: the same answer, fitted bytes that agree again, and every byte that
 -- can't be written, of an unfitted or a read-only page, as lent
@@ -57,6 +62,10 @@ module _ (settings : Settings) (map m n : List ℕ) (l : length m ≡ length n) 
 
   pub run-until-blind : RunUntilBlind settings map m n l g
   run-until-blind lines u s r q m′ n′ e d = blind stoppedPage r q (stopped-one r q) e d (until-same settings map lines u s m n l g) (until-kept settings map lines u s m) (until-kept settings map lines u s n)
+
+  -- a step and its line: the text too is the same
+  pub write-step-blind : WriteStepBlind settings map m n l g
+  write-step-blind line number s text r q m′ n′ text₁ text₂ e d = line-blind r q e d (show-alike settings map m n l g line number s text)
 
 -- the same for C: the number, the state's bytes, the tally's; w are the settings' bytes
 module _ (w map m n : List ℕ) (l : length m ≡ length n) (g : Agree map m n) where
@@ -99,8 +108,8 @@ wd16-list-line-blind map m n l g x last text a k j text₁ text₂ a₁ a₂ e d
     let h = e ∙ ap (λ z. answering nextWordsOf a (call (answerWhy a) z text)) (call-alike map m n g last l x text) ∙ sym d in
     (ap (λ z. z .number) h, ap (λ z. z .lent .0) h, ap (λ z. z .lent .1) h)
 
--- ---- A JOB FILLS the lent image, the map and the line words from its own bytes, and a trace is of a job: whatever stands in them before,
--- the answer is the same, and where nothing is refused, so is what is left in them
+-- ---- A JOB FILLS the lent image, the map and the line words from its own bytes, and a run, a listing and a trace are of a job: whatever stands
+-- in them before, the answer is the same, and where nothing is refused, so is what is left in them
 
 module _ (a : List ℕ) where
   abbrev kept : List ℕ × List ℕ × List ℕ → JobBuffers
@@ -137,6 +146,27 @@ module _ (input i₁ i₂ m₁ m₂ l₁ l₂ : List ℕ) (hi : length i₁ ≡ 
       let right = left (answered (wordAt input (linesAt input))) (buffersOf input) in
       let h = job-read a (answerWhy a) why right (i₁, m₁, l₁) (i₂, m₂, l₂) e (rw (← hi, ← hm, ← hl) at d) in
       (h .0, h .1, λ z. (ap (λ z. z .lent .0) (h .2 z), ap (λ z. z .lent .1) (h .2 z), ap (λ z. z .lent .2) (h .2 z)))
+
+  pub job-run-blind : JobRunBlind input i₁ i₂ m₁ m₂ l₁ l₂ hi hm hl
+  unfolding jobRun
+  job-run-blind r q i₁′ m₁′ l₁′ i₂′ m₂′ l₂′ e d =
+      let why = whyRead (length i₁) (length m₁) (length l₁) input in
+      let h = same-call {C = ℕ} (λ z. 0) why (ranAt input (Bench.runIn input)) (i₁, m₁, l₁) (i₂, m₂, l₂) refl e (rw (← hi, ← hm, ← hl) at d) in
+      (finished-one r q (h .0), λ z. (ap (λ z. z .lent .0) (h .2 z), ap (λ z. z .lent .1) (h .2 z), ap (λ z. z .lent .2) (h .2 z)))
+
+  pub bench-blind : BenchBlind input i₁ i₂ m₁ m₂ l₁ l₂ hi hm hl
+  unfolding benchOf
+  bench-blind text r q text₁ text₂ i₁′ m₁′ l₁′ i₂′ m₂′ l₂′ e d =
+      let why = benchWhy input text i₁ m₁ l₁ in
+      let h = same-call (λ z. z .0) why (endLine input text (Bench.runIn input)) (text, i₁, m₁, l₁) (text, i₂, m₂, l₂) refl e (rw (← hi, ← hm, ← hl) at d) in
+      (printed-one r q (h .0), h .1, λ z. (ap (λ z. z .lent .1) (h .2 z), ap (λ z. z .lent .2) (h .2 z), ap (λ z. z .lent .3) (h .2 z)))
+
+  pub list-blind : ListBlind input i₁ i₂ m₁ m₂ l₁ l₂ hi hm hl
+  unfolding listOf
+  list-blind text r q text₁ text₂ i₁′ m₁′ l₁′ i₂′ m₂′ l₂′ e d =
+      let why = listWhy input (length text) (length i₁) (length m₁) (length l₁) in
+      let h = same-call (λ z. z .0) why (listedIn input text) (text, i₁, m₁, l₁) (text, i₂, m₂, l₂) refl e (rw (← hi, ← hm, ← hl) at d) in
+      (printed-one r q (h .0), h .1, λ z. (ap (λ z. z .lent .1) (h .2 z), ap (λ z. z .lent .2) (h .2 z), ap (λ z. z .lent .3) (h .2 z)))
 
   pub check-blind : CheckBlind input i₁ i₂ m₁ m₂ l₁ l₂ hi hm hl
   unfolding checkOf
