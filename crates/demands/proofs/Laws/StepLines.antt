@@ -7,7 +7,7 @@ use mathlib.Core.Path.{_≡_, refl, sym, ap, _∙_}
 use lib.ListN.{length, getD}
 use lib.Dec.{eqb, leb}
 use Rattle.wordbytes.specs.Words.{wordAt}
-use Rattle.board.specs.Work.{Work, give, readAt, writeAt, Size, Came, value, blank, fitted, writable, get, put, run, write, Agree, Untouched}
+use Rattle.board.specs.Work.{Work, give, readAt, writeAt, Size, Came, value, blank, fitted, writable, get, put, run, write, Agree, Untouched, Blind}
 use Rattle.board.proofs.Laws.Alike.{Alike, both, neither, alike, found-value, unfitted-unwritable}
 use Rattle.state.specs.declared.State.{State}
 use Rattle.state.specs.declared.Settings.{Settings}
@@ -18,7 +18,6 @@ use Rattle.step.specs.Told.{Access, reads, writes, accesses}
 use Rattle.step.specs.Written.{writesOf, writtenBy, orElseWrites, errorWrites, stepWrites}
 use Rattle.step.proofs.Laws.Alike.{step-alike, step-untouched}
 use Rattle.refusal.specs.Page.{Left, left, call}
-use Rattle.machine.specs.Blind.{Blind}
 use Rattle.machine.proofs.Laws.Blind.{SameLeft, blind}
 use Rattle.benchline.specs.Line.{fields}
 use Rattle.listing.specs.declared.Found.the-variants.{Nothing, Cut}
