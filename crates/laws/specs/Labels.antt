@@ -6,11 +6,9 @@ use Prim.Native.Nat.{ℕ, _%_, _<_}
 use mathlib.Core.Bool.{Bool, true, false}
 use mathlib.Core.List.{List}
 use mathlib.Core.Path.{_≡_}
-use lib.Dec.{eqb}
 use Rattle.board.specs.Work.{Size, value, run, wordAt}
 use Rattle.wordmath.specs.Address.{plus, minus}
 use Rattle.opcodes.specs.Fields.{highByte, register}
-use Rattle.plate.specs.Plate.{formatOf}
 use Rattle.state.specs.declared.State.{State}
 use Rattle.state.specs.declared.Settings.{Settings}
 use Rattle.state.specs.declared.Mode.the-variants.{Running}
@@ -65,8 +63,3 @@ abbrev pub OperandStands : Type 0
 OperandStands = (z : Size) (v : ℕ) (map : List ℕ) (s : State) (m : List ℕ) (o : Seen) (n : List ℕ) → Label v → wordAt m (s .regs .pc) ≡ minus v (plus (s .regs .pc) 2)
     → (run map (decode z s 6 7) m ≡ value o n → o .place ≡ Mem v 7 (plus (s .regs .pc) 2))
     × (run map (decode z s 7 7) m ≡ value o n → o .place ≡ Mem (wordAt m v) 7 (plus (s .regs .pc) 2))
-
--- ---- what a label is put into: the branches are the plate's format 5, SOB is 7600 to 77FF
-
-abbrev pub BranchesArePlates : Type 0
-BranchesArePlates = (w : ℕ) → isBranch w ≡ eqb (formatOf (highByte w)) 5

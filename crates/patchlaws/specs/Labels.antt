@@ -85,7 +85,7 @@ abbrev pub LastRead : Type 0
 LastRead = (s t : List ℕ) (h : ℕ) → saidOf t .how ≡ Relative → takesOne (saidOf t .op .a) ≡ true → labelIn (firstIn t) ≡ [] → 0 < length (labelIn (secondIn t))
     → (ws : List ℕ) × ReadsLine t (offsetDigits 4 (valueOf s (labelIn (secondIn t))) h) ws × (lineOp s h t ≡ opOf ws)
 
--- what a label is put into as SOB is the text's row of that name. (As a branch, the plate's format 5: laws Labels `branches-are-plates`.)
+-- what a label is put into as SOB is the text's row of that name
 abbrev pub SobIsRow : Type 0
 SobIsRow = (nameOf 94 ≡ letters "SOB") × ((w : ℕ) → w < 65536 → (isSob w ≡ true → rowOf w ≡ 94) × (rowOf w ≡ 94 → isSob w ≡ true))
 

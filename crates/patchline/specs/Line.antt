@@ -1,13 +1,14 @@
 -- What the rest of a line says. A label in it stands for digits: the text with zeros in its place is read by 01's reader, and what the label comes to is put in later.
-use mathlib.Core.Bool.{Bool, true, false, cond, _&&_, _||_}
+use mathlib.Core.Bool.{Bool, true, false, cond, _&&_}
 use mathlib.Core.List.{List, [], _∷_, _++_}
 use Prim.Native.Nat.{ℕ, _+_, _/_, _%_}
-use lib.Dec.{ltb, leb, eqb}
+use lib.Dec.{ltb, eqb}
 use lib.ListN.{length, drop, getD}
 use Rattle.hexdigits.specs.Digits.{letters, hex4}
 use Rattle.optext.specs.declared.Op.{Op}
 use Rattle.optext.specs.Digits.{unHex4}
 use Rattle.optext.specs.Read.{sameText, wordsOfText, opOf}
+use Rattle.plate.specs.Plate.{formatOf}
 use Rattle.wordmath.specs.Address.{plus, minus}
 use Rattle.patchline.specs.Text.{slice, findFrom, isName}
 use Rattle.patchline.specs.declared.oneline.How.{How}
@@ -63,9 +64,9 @@ isNumber t = sameText t (hex4 (unHex4 t))
 unfoldable pub isDirective : List ℕ → List ℕ → Bool
 isDirective name t = sameText (slice 0 (length name) t) name && isNumber (drop (length name) t)
 
--- format 5, and SOB
+-- the plate's format 5, and SOB
 abbrev pub isBranch : ℕ → Bool
-isBranch w = (leb 1 (w / 256) && leb (w / 256) 7) || (leb 128 (w / 256) && leb (w / 256) 135)
+isBranch w = eqb (formatOf (w / 256)) 5
 
 abbrev pub isSob : ℕ → Bool
 isSob w = eqb (w / 512) 59

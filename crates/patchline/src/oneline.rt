@@ -212,7 +212,7 @@ fn is_directive(name: &[u8], t: &[u8]) -> bool
 fn is_branch(w: u16) -> bool
     ensures { λ r. ⌜ r ≡ isBranch w ⌝ }
 {
-    ((1 <= w / 256) & (w / 256 <= 7)) | ((128 <= w / 256) & (w / 256 <= 135))
+    plate::format(w) == 5
 }
 
 fn is_sob(w: u16) -> bool

@@ -1,19 +1,20 @@
 -- The theorem that specs/Branches.antt states.
-use Prim.Native.Nat.{ℕ, _+_, _*_, _/_, _%_, _<_, _≤_, _-_}
+use Prim.Native.Nat.{ℕ, _+_, _*_, _/_, _%_, _≤_, _-_}
 use native.Mathlib.Omega.{arith}
-use mathlib.Core.Bool.{Bool, true, false, _&&_, cond}
+use mathlib.Core.Bool.{Bool, true, false, cond}
 use mathlib.Core.List.{List}
 use mathlib.Core.List as List
 use mathlib.Core.Path.{_≡_, refl, sym, ap, _∙_, subst}
-use lib.Dec.{eqb, leb}
+use lib.Dec.{eqb}
 use lib.ListN.{getD}
-use borrow.Author.Tests.{leb-true, ne-eqb}
+use borrow.Author.Tests.{ne-eqb}
 use Rattle.wordmath.specs.declared.Flags.{Flags}
 use Rattle.wordmath.specs.Address.{plus}
 use Rattle.arith.specs.Branch.{branchTaken}
 use Rattle.arith.proofs.Laws.Printed.{numbers, printed, as-printed}
 use Rattle.board.specs.Work.{value, wordAt, run}
 use Rattle.plate.specs.Plate.{formatOf}
+use Rattle.plate.proofs.Laws.Plate.{Five, low, high, five}
 use Rattle.opcodes.specs.Fields.{highByte}
 use Rattle.formats5to6.specs.Format5.{displacement, branchNumber, branch}
 use Rattle.state.specs.declared.State.{State}
@@ -29,51 +30,6 @@ use Rattle.step.proofs.Laws.Late.{begins}
 use Rattle.laws.proofs.Laws.Mark.{turn-is}
 use Rattle.machine_c.specs.Layout.{stateFrom, settingsFrom}
 use Rattle.laws.proofs.Laws.Calls.{step-done, cause-0}
-
--- ---- the high bytes of format 5
-
--- by the plate's rule, case by case
-walk : (a b c d e f g h i j k l : Bool)
-    → _≡_ {A = ℕ} (cond a 1 (cond b 5 (cond c 5 (cond d 6 (cond e 6 (cond f 6 (cond g 7 (cond h 7 (cond i 8 (cond j 9 (cond k 10 (cond l 10 11)))))))))))) 5
-    → cond b true c ≡ true
-walk true b c d e f g h i j k l q = absurd (omega arith)
-walk false true c d e f g h i j k l q = refl
-walk false false true d e f g h i j k l q = refl
-walk false false false true e f g h i j k l q = absurd (omega arith)
-walk false false false false true f g h i j k l q = absurd (omega arith)
-walk false false false false false true g h i j k l q = absurd (omega arith)
-walk false false false false false false true h i j k l q = absurd (omega arith)
-walk false false false false false false false true i j k l q = absurd (omega arith)
-walk false false false false false false false false true j k l q = absurd (omega arith)
-walk false false false false false false false false false true k l q = absurd (omega arith)
-walk false false false false false false false false false false true l q = absurd (omega arith)
-walk false false false false false false false false false false false true q = absurd (omega arith)
-walk false false false false false false false false false false false false q = absurd (omega arith)
-
--- 01 to 07, or 80 to 87
-pub data Five (h : ℕ) : Type 0 where
-  low : 1 ≤ h → h < 8 → Five h
-  high : (j : ℕ) → h ≡ 0x80 + j → j < 8 → Five h
-
-bounds : (x y z w : Bool) (h : ℕ) → leb 1 h ≡ x → leb h 7 ≡ y → leb 0x80 h ≡ z → leb h 0x87 ≡ w → cond (x && y) true (z && w) ≡ true → Five h
-bounds true true z w h a b c d e = let k = leb-true 1 h a in let l = leb-true h 7 b in low (omega arith) (omega arith)
-bounds true false true true h a b c d e = let k = leb-true 0x80 h c in let l = leb-true h 0x87 d in high (h - 0x80) (omega arith) (omega arith)
-bounds false y true true h a b c d e = let k = leb-true 0x80 h c in let l = leb-true h 0x87 d in high (h - 0x80) (omega arith) (omega arith)
-bounds true false true false h a b c d e = let z : _≡_ {A = ℕ} 0 1 = cc in absurd (omega arith)
-bounds true false false w h a b c d e = let z : _≡_ {A = ℕ} 0 1 = cc in absurd (omega arith)
-bounds false y true false h a b c d e = let z : _≡_ {A = ℕ} 0 1 = cc in absurd (omega arith)
-bounds false y false w h a b c d e = let z : _≡_ {A = ℕ} 0 1 = cc in absurd (omega arith)
-
-abbrev pub within : ℕ → ℕ → ℕ → Bool
-within from to h = leb from h && leb h to
-
-pub plate-five : (h : ℕ) → formatOf h ≡ 5 → cond (within 0x01 0x07 h) true (within 0x80 0x87 h) ≡ true
-unfolding formatOf
-plate-five h e =
-    walk (eqb h 0) (within 0x01 0x07 h) (within 0x80 0x87 h) (within 0x08 0x09 h) (within 0x88 0x89 h) (within 0x8e 0x8f h) (within 0x0a 0x0d h) (within 0x8a 0x8d h) (within 0x0e 0x0f h) (within 0x70 0x7f h) (within 0x10 0x6f h) (within 0x90 0xef h) e
-
-five : (h : ℕ) → formatOf h ≡ 5 → Five h
-five h e = bounds (leb 1 h) (leb h 7) (leb 0x80 h) (leb h 0x87) h refl refl refl refl (plate-five h e)
 
 -- ---- each printed line, by its number
 

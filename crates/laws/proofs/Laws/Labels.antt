@@ -2,16 +2,17 @@
 use Prim.Native.Nat.{ℕ, _+_, _-_, _*_, _/_, _%_, _<_, _≤_}
 use native.Mathlib.Omega.{arith}
 use native.Mathlib.Decide.{ℕ-discrete, decLt}
-use mathlib.Core.Bool.{Bool, true, false, _&&_, _||_, cond}
+use mathlib.Core.Bool.{true, false, cond}
 use mathlib.Core.List.{List}
 use mathlib.Core.Path.{_≡_, refl, sym, ap, _∙_, subst}
-use lib.Dec.{eqb, ltb, leb}
-use borrow.Author.Tests.{eqb-true, ne-eqb, ltb-true, lt-ltb, le-ltb, leb-true}
+use lib.Dec.{eqb}
+use borrow.Author.Tests.{eqb-true, ne-eqb, ltb-true, lt-ltb}
 use Rattle.wordmath.specs.Address.{plus, minus}
 use Rattle.board.specs.Work.{value, wordAt, fitted, writable, run, _>>=_}
 use Rattle.board.proofs.Laws.Alike.{found-value}
 use Rattle.opcodes.specs.Fields.{highByte, register, format9Code, offset}
 use Rattle.plate.specs.Plate.{formatOf}
+use Rattle.plate.proofs.Laws.Plate.{Five, low, high, five}
 use Rattle.state.specs.declared.State.{State}
 use Rattle.state.specs.declared.Outside.{Outside}
 use Rattle.state.specs.Registers.{regOf, setReg}
@@ -27,33 +28,11 @@ use Rattle.step.specs.Step.{stepOf}
 use Rattle.step.proofs.Laws.Late.{begins}
 use Rattle.patchline.specs.Line.{isBranch, ahead, behind}
 use Rattle.laws.specs.Branches.{lines, whenIn}
-use Rattle.laws.proofs.Laws.Branches.{plate-five, branches-as-printed}
+use Rattle.laws.proofs.Laws.Branches.{branches-as-printed}
 use Rattle.opcodes.proofs.Laws.Past.{Below, below}
 use Rattle.laws.proofs.Laws.Marked.{code-work, plain-run}
 use Rattle.laws.proofs.Laws.Mark.{turn-is}
-use Rattle.laws.specs.Labels.{BranchComes, SobComes, JumpComes, OperandStands, BranchesArePlates}
-
--- ---- the branches are the plate's
-
-unlike : {A : Type 0} → false ≡ true → A
-unlike e = let z : _≡_ {A = ℕ} 0 1 = cc in absurd (omega arith)
-
-both-true : (x y : Bool) → (x && y) ≡ true → x ≡ true
-both-true true y e = refl
-both-true false y e = unlike e
-
-pub branches-are-plates : BranchesArePlates
-unfolding formatOf
-branches-are-plates w = by (leb 1 (w / 256) && leb (w / 256) 7) refl (leb 128 (w / 256) && leb (w / 256) 135) refl
-  where
-    not-five : (x : Bool) → eqb (formatOf (w / 256)) 5 ≡ x → (formatOf (w / 256) ≡ 5 → ⊥) → false ≡ x
-    not-five true e h = absurd (h (eqb-true _ 5 e))
-    not-five false e h = refl
-
-    by : (x : Bool) → (leb 1 (w / 256) && leb (w / 256) 7) ≡ x → (y : Bool) → (leb 128 (w / 256) && leb (w / 256) 135) ≡ y → (x || y) ≡ eqb (formatOf (w / 256)) 5
-    by true e y f = let l = leb-true 1 (w / 256) (both-true _ _ e) in rw (ne-eqb (w / 256) 0 (λ z. omega arith), e)
-    by false e true f = let l = leb-true 128 (w / 256) (both-true _ _ f) in rw (ne-eqb (w / 256) 0 (λ z. omega arith), e, f)
-    by false e false f = not-five (eqb (formatOf (w / 256)) 5) refl (λ q. unlike (sym (ap (λ z. cond z true (leb 128 (w / 256) && leb (w / 256) 135)) e ∙ f) ∙ plate-five (w / 256) q))
+use Rattle.laws.specs.Labels.{BranchComes, SobComes, JumpComes, OperandStands}
 
 -- ---- numbers
 
@@ -89,7 +68,7 @@ pub branch-comes : BranchComes
 unfolding withReg setReg withMark
 branch-comes h v w third settings m map line s t n at label is empty near word yes-it-is =
     let d = ahead v h in
-    let plate : formatOf (highByte w) ≡ 5 = eqb-true _ 5 (sym (branches-are-plates w) ∙ is) in
+    let plate : formatOf (highByte w) ≡ 5 = eqb-true _ 5 is in
     let low = high-few w is in
     let op = plus w (d / 2 % 256) in
     let there : wordAt m (s .regs .pc) ≡ op = ap (λ z. wordAt m z) (at .here) ∙ word in
@@ -109,17 +88,12 @@ branch-comes h v w third settings m map line s t n at label is empty near word y
     low-byte : (x : ℕ) → x % 256 < 256
     low-byte x = omega arith
 
-    few : (x y z u : Bool) (k : ℕ) → leb k 7 ≡ y → leb k 135 ≡ u → ((x && y) || (z && u)) ≡ true → k < 136
-    few true true z u k e f q = let l = leb-true k 7 e in omega arith
-    few true false true true k e f q = let l = leb-true k 135 f in omega arith
-    few false y true true k e f q = let l = leb-true k 135 f in omega arith
-    few true false true false k e f q = unlike q
-    few true false false u k e f q = unlike q
-    few false y true false k e f q = unlike q
-    few false y false u k e f q = unlike q
+    few : (h : ℕ) → Five h → h < 136
+    few h (low a b) = omega (arith, b)
+    few h (high j e l) = omega (arith, e, l)
 
     high-few : (w : ℕ) → isBranch w ≡ true → w / 256 < 136
-    high-few w e = few (leb 1 (w / 256)) (leb (w / 256) 7) (leb 128 (w / 256)) (leb (w / 256) 135) (w / 256) refl refl e
+    high-few w e = few (w / 256) (five (w / 256) (eqb-true _ 5 e))
 
     field-high : (w x : ℕ) → w % 256 ≡ 0 → w / 256 < 136 → x < 256 → plus w x / 256 ≡ w / 256
     field-high w x e l k = let z : plus w x ≡ w + x = omega arith in rw z (omega arith)

@@ -1,13 +1,13 @@
 -- The theorems that specs/Labels.antt states.
 use mathlib.Core.Path.{_≡_, refl, ap, sym, _∙_, subst}
-use mathlib.Core.Bool.{Bool, true, false, cond, _&&_, _||_}
+use mathlib.Core.Bool.{Bool, true, false, cond}
 use mathlib.Core.Logic.{⊎-elim}
 use mathlib.Core.List.{List, [], _∷_, _++_, append-nil, append-assoc}
 use Prim.Native.Nat.{ℕ, zero, suc, _+_, _-_, _*_, _/_, _%_, _≤_, _<_}
 use native.Mathlib.Omega.{arith}
 use native.Mathlib.Decide.{ℕ-discrete}
-use borrow.Author.Tests.{le-ltb, lt-ltb, ltb-true, leb-true, eqb-true, eq-eqb, ne-eqb}
-use lib.Dec.{ltb, leb, eqb}
+use borrow.Author.Tests.{le-ltb, lt-ltb, eqb-true, eq-eqb, ne-eqb}
+use lib.Dec.{ltb, eqb}
 use lib.ListN.{length, drop, getD, length-append, length-drop}
 use Rattle.hexdigits.specs.Digits.{letters, digits, hexOf, hex2}
 use Rattle.wordmath.specs.Address.{plus}
@@ -22,13 +22,14 @@ use Rattle.optext.proofs.Laws.Back.{hex2-back}
 use Rattle.optext.proofs.Laws.Inside.{inside}
 use Rattle.optext.proofs.Laws.Reserved.{word-back}
 use Rattle.optext.proofs.Laws.Reader.{read-of-words}
+use Rattle.plate.specs.Plate.{formatOf}
+use Rattle.plate.proofs.Laws.Plate.{Five, low, high, five}
 use Rattle.patchline.specs.Text.{slice, pastOf, isName}
 use Rattle.patchline.specs.declared.oneline.How.{How}
 use Rattle.patchline.specs.declared.oneline.How.the-variants.{Unknown, Origin, Plain, Branch, Sob, Relative}
-use Rattle.patchline.specs.declared.oneline.Said.{Said}
-use Rattle.patchline.specs.Line.{operandsAt, commaAt, firstIn, secondIn, atOf, bareOperand, labelIn, filledIn, aliasOf, tailOf, filled, isDirective, isBranch, isSob, says, op, opIn, saidWith, saidOf, ahead, behind, withA, withLabel}
+use Rattle.patchline.specs.Line.{operandsAt, commaAt, firstIn, secondIn, atOf, bareOperand, labelIn, filledIn, aliasOf, tailOf, filled, isDirective, isBranch, isSob, says, op, opIn, saidWith, saidOf, ahead, behind, withLabel}
 use Rattle.assembler.specs.Source.{valueOf, withLabels, lineOp}
-use Rattle.patchlaws.specs.Labels.{ReadsLine, branchDigits, sobDigits, BranchRead, SobRead, SobIsRow}
+use Rattle.patchlaws.specs.Labels.{ReadsLine, BranchRead, SobRead, SobIsRow}
 
 -- ---- texts with two digits at their end
 
@@ -96,30 +97,19 @@ record Numbered (h : ℕ) : Type 0 where
   back : highOf (numberOf h) ≡ h
 
 numbered : (w : ℕ) → isBranch w ≡ true → Numbered (w / 256)
-numbered w e = by (leb 1 (w / 256) && leb (w / 256) 7) refl (leb 128 (w / 256) && leb (w / 256) 135) refl e
+numbered w e = by (five (w / 256) (eqb-true _ 5 e))
   where
-    both : (a b : Bool) → (a && b) ≡ true → (a ≡ true) × (b ≡ true)
-    both true b q = (refl, q)
-    both false b q = differ q
-
-    by : (p : Bool) → (leb 1 (w / 256) && leb (w / 256) 7) ≡ p → (q : Bool) → (leb 128 (w / 256) && leb (w / 256) 135) ≡ q → (p || q) ≡ true → Numbered (w / 256)
-    by true p q g r =
-        let c = both (leb 1 (w / 256)) (leb (w / 256) 7) p in
-        let lo = leb-true 1 (w / 256) (c .0) in
-        let hi = leb-true (w / 256) 7 (c .1) in
+    by : Five (w / 256) → Numbered (w / 256)
+    by (low a b) =
         record {
-          few = rw (lt-ltb (w / 256) 8 (omega (arith, hi))) (omega (arith, hi));
-          back = rw (lt-ltb (w / 256) 8 (omega (arith, hi)), lt-ltb (w / 256 - 1) 7 (omega (arith, lo, hi))) (omega (arith, lo));
+          few = rw (lt-ltb (w / 256) 8 b) (omega (arith, b));
+          back = rw (lt-ltb (w / 256) 8 b, lt-ltb (w / 256 - 1) 7 (omega (arith, a, b))) (omega (arith, a));
         }
-    by false p true g r =
-        let c = both (leb 128 (w / 256)) (leb (w / 256) 135) g in
-        let lo = leb-true 128 (w / 256) (c .0) in
-        let hi = leb-true (w / 256) 135 (c .1) in
+    by (high j q l) =
         record {
-          few = rw (le-ltb (w / 256) 8 (omega (arith, lo))) (omega (arith, hi));
-          back = rw (le-ltb (w / 256) 8 (omega (arith, lo)), le-ltb (w / 256 - 121) 7 (omega (arith, lo))) (omega (arith, lo));
+          few = rw (le-ltb (w / 256) 8 (omega (arith, q))) (omega (arith, q, l));
+          back = rw (le-ltb (w / 256) 8 (omega (arith, q)), le-ltb (w / 256 - 121) 7 (omega (arith, q))) (omega (arith, q));
         }
-    by false p false g r = differ r
 
 branch-tailed : (w : ℕ) → w < 65536 → isBranch w ≡ true → Tailed w 256
 unfolding opText taken
@@ -339,7 +329,7 @@ has-comma t h =
 -- ---- THE STATEMENTS
 
 pub branch-read : BranchRead
-unfolding opIn lineOp
+unfolding opIn lineOp formatOf
 branch-read s t h how comma label =
     let sb = said-branch t how in
     let vs = wordsOfText (zeros t) in
