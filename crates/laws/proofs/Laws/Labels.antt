@@ -23,7 +23,7 @@ use Rattle.operand.specs.Operand.{Seen, locate, indexed, indexedDeferred, defer
 use Rattle.formats5to6.specs.Format5.{displacement}
 use Rattle.formats5to6.proofs.Laws.Format5 as Twice
 use Rattle.format9.specs.Format9.{call, jsrTo, jsr, leaTo, lea, sob, format9}
-use Rattle.step.specs.Execute.{execute, byFormat, further}
+use Rattle.step.specs.Execute.{execute, byFormat}
 use Rattle.step.specs.Step.{stepOf}
 use Rattle.step.proofs.Laws.Late.{begins}
 use Rattle.patchline.specs.Line.{isBranch, ahead, behind}
@@ -114,7 +114,7 @@ given : {x y : State} {k l : List ℕ} → value x k ≡ value y l → y ≡ x
 given {x} {y} h = cc
 
 sob-given : (map : List ℕ) (out : Outside) (s : State) (m : List ℕ) (t : State) (n : List ℕ) (op : ℕ) → op / 512 ≡ 59 → run map (execute out s op) m ≡ value t n → t ≡ sob s op
-unfolding run byFormat further format9
+unfolding run byFormat format9
 sob-given map out s m t n op e h =
     let three : format9Code op ≡ 3 = omega (arith, e) in
     given (rw (nine-is op e, three) at h)
@@ -205,11 +205,11 @@ sob-comes h v w third settings m map line s t n at label is empty near word not-
 -- ---- JMP and CALL
 
 lea-pc : (map : List ℕ) (out : Outside) (s : State) (m : List ℕ) (t : State) (n : List ℕ) → run map (execute out s 0x73F7) m ≡ value t n → t .regs .pc ≡ plus (plus (s .regs .pc) 2) (wordAt m (s .regs .pc))
-unfolding run byFormat further formatOf format9 lea leaTo decode locate indexed moved _>>=_ withReg setReg withFlags
+unfolding run byFormat formatOf format9 lea leaTo decode locate indexed moved _>>=_ withReg setReg withFlags
 lea-pc map out s m t n h = ap (λ z. z .regs .pc) (given (found-value (fitted map (s .regs .pc)) (s .regs .pc) _ t n h .1))
 
 jsr-pc : (map : List ℕ) (out : Outside) (s : State) (m : List ℕ) (t : State) (n : List ℕ) → run map (execute out s 0x71F7) m ≡ value t n → t .regs .pc ≡ plus (plus (s .regs .pc) 2) (wordAt m (s .regs .pc))
-unfolding run byFormat further formatOf format9 jsr jsrTo call pushReg decode locate indexed moved _>>=_ withReg setReg withFlags
+unfolding run byFormat formatOf format9 jsr jsrTo call pushReg decode locate indexed moved _>>=_ withReg setReg withFlags
 jsr-pc map out s m t n h =
     let one = found-value (fitted map (s .regs .pc)) (s .regs .pc) _ t n h .1 in
     ap (λ z. z .regs .pc) (given (found-value (writable map (minus (s .regs .sp) 2)) (minus (s .regs .sp) 2) _ t n one .1))

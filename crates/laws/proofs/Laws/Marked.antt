@@ -44,7 +44,7 @@ use Rattle.format9.specs.Format9.{call, jsrTo, jsr, leaTo, lea, ash, sob, xch, 
 use Rattle.shift.specs.Shifted.{preset}
 use Rattle.format10.specs.Format10.{stores, settle, moveByte, settleByte, onOperands, onWords, onBytes, binaryCode, byteCode, format10}
 use Rattle.arith.specs.Binary.{binaryOf, byteBinaryOf}
-use Rattle.step.specs.Execute.{moves, execute, further, byFormat}
+use Rattle.step.specs.Execute.{moves, execute, byFormat}
 use Rattle.step.specs.Xct.{code, abort, forbidden, trapsAlone, chosen, beginXct, begun, trace, traced, carry, opWork}
 use Rattle.laws.proofs.Laws.Always.{Always, AlwaysEach, run-give, always-value, always-then, always-after, always-less, always-cond, always-pick}
 use Rattle.laws.specs.Mark.{enables, executed, isRunning, markAfter, fromInterrupt, fromSwitch, runsOrWaits}
@@ -247,15 +247,15 @@ ten-unmarked s op e =
 -- ---- an op code from 0010 on leaves no mark
 
 high-unmarked : (out : Outside) (f : ℕ) (s : State) (op : ℕ) → ltb op 0x10 ≡ false → Unmarked s → Always Unmarked (byFormat out f s op)
-unfolding Always byFormat further lowCodes
+unfolding Always byFormat lowCodes
 high-unmarked out f s op h e =
-    always-cond Unmarked (eqb f 10) (format10 s op) _ (ten-unmarked s op e)
-    (always-cond Unmarked (eqb f 7) (format7 out s op) _ (seven-unmarked out s op e)
+    always-cond Unmarked (eqb f 1) (lowCodes out s op) _ (rw h (low-unmarked out s op e))
     (always-cond Unmarked (eqb f 5) (give (branch s op)) _ (branch-unmarked s op e)
     (always-cond Unmarked (eqb f 6) (give (format6 s op)) _ (six-unmarked s op e)
-    (always-cond Unmarked (eqb f 9) (format9 out s op) _ (nine-unmarked out s op e)
-    (always-cond Unmarked (eqb f 1) (lowCodes out s op) _ (rw h (low-unmarked out s op e))
+    (always-cond Unmarked (eqb f 7) (format7 out s op) _ (seven-unmarked out s op e)
     (always-cond Unmarked (moves out f) (format8 s op) _ (eight-unmarked s op e)
+    (always-cond Unmarked (eqb f 9) (format9 out s op) _ (nine-unmarked out s op e)
+    (always-cond Unmarked (eqb f 10) (format10 s op) _ (ten-unmarked s op e)
     (trap-unmarked s (psOf out false s) 0x1a)))))))
 
 -- ---- formats 1 one by one: IEN and SAVS say whether I2 was clear, the others leave no mark
@@ -271,7 +271,7 @@ none : {A : Type 0} → false ≡ true → A
 none e = let z : _≡_ {A = ℕ} 0 1 = cc in absurd (omega arith)
 
 low-marks : (out : Outside) (s : State) → Unmarked s → Below (λ op. Always (MarkOf op s) (execute out s op)) 16
-unfolding Always Below byFormat further lowCodes format1 formatOf bpt save savs rest rtt rrtn rrtt rsts rsvc push pushReg pop popReg popStatus fetch fromLoc pushBoth _>>=_ withReg withI2 withMode withMark withStatus
+unfolding Always Below byFormat lowCodes format1 formatOf bpt save savs rest rtt rrtn rrtt rsts rsvc push pushReg pop popReg popStatus fetch fromLoc pushBoth _>>=_ withReg withI2 withMode withMark withStatus
 low-marks out s e = (
   (
     (

@@ -27,7 +27,7 @@ use Rattle.step.specs.declared.Kind.{Kind}
 use Rattle.step.specs.declared.Kind.the-variants.{OpCode, HaltEnd, Boots, Saves, LocksUp, Restarts, Restores, NonVectored, Vectored, Waits, Stuck}
 use Rattle.step.specs.declared.Cause.{Cause}
 use Rattle.step.specs.declared.Cause.the-variants as Cause
-use Rattle.step.specs.Execute.{execute, byFormat, further}
+use Rattle.step.specs.Execute.{execute, byFormat}
 use Rattle.step.specs.Xct.{code, trapsAlone, chosen, beginXct, begun, trace, traced, carry, opWork}
 use Rattle.step.specs.Step.{kindIn, after, orAt, causeNumber, isBlank, kindOf, workOf, past, busError, errorCauseOf, errorOf, stepOf}
 use Rattle.step.specs.Block.{Unheard}
@@ -225,7 +225,7 @@ eight-is op h = elim (ℕ-discrete (op / 256) 14) [ yes e ↦ at (op / 256) 14 e
     at a b e q = rw e q
 
 pub executes : (out : Outside) (s : State) (op : ℕ) → out .settings .blocks ≡ true → op / 512 ≡ 7 → execute out s op ≡ format8 s op
-unfolding byFormat further
+unfolding byFormat
 executes out s op e h = rw (eight-is op h, e)
 
 chosen-eight : (out : Outside) (s : State) (op : ℕ) → out .settings .blocks ≡ true → op / 512 ≡ 7 → chosen out s op ≡ code s op true

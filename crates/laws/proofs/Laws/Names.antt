@@ -27,7 +27,7 @@ use Rattle.format10.specs.Format10.{format10}
 use Rattle.optext.specs.Rows.{Row, rows, noRow, theRow}
 use Rattle.optext.specs.Line.{rowOf}
 use Rattle.optext.proofs.Laws.Reserved.{word-back, has-row}
-use Rattle.step.specs.Execute.{execute, byFormat, further}
+use Rattle.step.specs.Execute.{execute, byFormat}
 use Rattle.step.specs.Xct.{begun}
 use Rattle.laws.proofs.Laws.Rows.{two, three, four, five, six-is, immediates, singles, doubles, seven, eight, nine, ten}
 use Rattle.laws.specs.Names.{Named, noName, mnemonics, executedRows, In, As, Beside, NamesExecuted, rowPlace, TextExecuted, XctNamed}
@@ -37,7 +37,7 @@ turned : (b op : ℕ) → b + op / 64 % 8 * 64 + op % 16 ≡ op → b + op % 16 
 turned b op i = omega (arith, i)
 
 pub names-executed : NamesExecuted
-unfolding Beside executedRows rows formatOf byFormat further lowCodes format1 modify test
+unfolding Beside executedRows rows formatOf byFormat lowCodes format1 modify test
 names-executed out s fit = ((refl, λ op i. rw (← i) (refl, refl)), ((refl, λ op i. rw (← i) (refl, refl)), ((refl, λ op i. rw (← i) (refl, refl)), ((refl, λ op i. rw (← i) (refl, refl)), ((refl, λ op i. rw (← i) (refl, refl)), ((refl, λ op i. rw (← i) (refl, refl)), ((refl, λ op i. rw (← i) (refl, refl)), ((refl, λ op i. rw (← i) (refl, refl)), ((refl, λ op i. rw (← i) (refl, refl)), ((refl, λ op i. rw (← i) (refl, refl)), ((refl, λ op i. rw (← i) (refl, refl)), ((refl, λ op i. rw (← i) (refl, refl)), ((refl, λ op i. rw (← i) (refl, refl)), ((refl, λ op i. rw (← i) (refl, refl)), ((refl, λ op i. rw (← i) (refl, refl)), ((refl, λ op i. two out s 0x0010 op (omega arith) (omega arith) refl i), ((refl, λ op i. two out s 0x0018 op (omega arith) (omega arith) refl i), ((refl, λ op i. two out s 0x0020 op (omega arith) (omega arith) refl i), ((refl, λ op i. two out s 0x0028 op (omega arith) (omega arith) refl i), ((refl, λ op i. three out s op i), ((refl, λ op i. four out s 0x0040 op (omega arith) (omega arith) refl i), ((refl, λ op i. four out s 0x0080 op (omega arith) (omega arith) refl i), ((refl, λ op i. four out s 0x00C0 op (omega arith) (omega arith) refl i), ((refl, λ op i. five out s 0x0100 op refl refl i), ((refl, λ op i. five out s 0x0200 op refl refl i), ((refl, λ op i. five out s 0x0300 op refl refl i), ((refl, λ op i. five out s 0x0400 op refl refl i), ((refl, λ op i. five out s 0x0500 op refl refl i), ((refl, λ op i. five out s 0x0600 op refl refl i), ((refl, λ op i. five out s 0x0700 op refl refl i), ((refl, λ op i. five out s 0x8000 op refl refl i), ((refl, λ op i. five out s 0x8100 op refl refl i), ((refl, λ op i. five out s 0x8200 op refl refl i), ((refl, λ op i. five out s 0x8300 op refl refl i), ((refl, λ op i. five out s 0x8400 op refl refl i), ((refl, λ op i. five out s 0x8500 op refl refl i), ((refl, λ op i. five out s 0x8600 op refl refl i), ((refl, λ op i. five out s 0x8700 op refl refl i), ((refl, λ op i. immediates out s 0x0800 op (six-is out s 0x0800 op refl refl i) refl refl), ((refl, λ op i. immediates out s 0x0810 op (six-is out s 0x0810 op refl refl i) refl refl), ((refl, λ op i. immediates out s 0x0820 op (six-is out s 0x0820 op refl refl i) refl refl), ((refl, λ op i. immediates out s 0x0830 op (six-is out s 0x0830 op refl refl i) refl refl), ((refl, λ op i. singles out s 0x8800 op (six-is out s 0x8800 op refl refl (turned 0x8800 op i)) refl refl), ((refl, λ op i. singles out s 0x8810 op (six-is out s 0x8810 op refl refl (turned 0x8810 op i)) refl refl), ((refl, λ op i. singles out s 0x8820 op (six-is out s 0x8820 op refl refl (turned 0x8820 op i)) refl refl), ((refl, λ op i. singles out s 0x8830 op (six-is out s 0x8830 op refl refl (turned 0x8830 op i)) refl refl), ((refl, λ op i. doubles out s 0x8E00 op (six-is out s 0x8E00 op refl refl (turned 0x8E00 op i)) refl refl), ((refl, λ op i. doubles out s 0x8E10 op (six-is out s 0x8E10 op refl refl (turned 0x8E10 op i)) refl refl), ((refl, λ op i. doubles out s 0x8E20 op (six-is out s 0x8E20 op refl refl (turned 0x8E20 op i)) refl refl), ((refl, λ op i. doubles out s 0x8E30 op (six-is out s 0x8E30 op refl refl (turned 0x8E30 op i)) refl refl), ((refl, λ op i. seven out s 0x0A00 op refl refl i), ((refl, λ op i. seven out s 0x0A40 op refl refl i), ((refl, λ op i. seven out s 0x0A80 op refl refl i), ((refl, λ op i. seven out s 0x0AC0 op refl refl i), ((refl, λ op i. seven out s 0x0B00 op refl refl i), ((refl, λ op i. seven out s 0x0B40 op refl refl i), ((refl, λ op i. seven out s 0x0B80 op refl refl i), ((refl, λ op i. seven out s 0x0BC0 op refl refl i), ((refl, λ op i. seven out s 0x0C00 op refl refl i), ((refl, λ op i. seven out s 0x0C40 op refl refl i), ((refl, λ op i. seven out s 0x0C80 op refl refl i), ((refl, λ op i. seven out s 0x0CC0 op refl refl i), ((refl, λ op i. seven out s 0x0D00 op refl refl i), ((refl, λ op i. seven out s 0x0D40 op refl refl i), ((refl, λ op i. seven out s 0x0D80 op refl refl i), ((refl, λ op i. seven out s 0x0DC0 op refl refl i), ((refl, λ op i. seven out s 0x8A00 op refl refl i), ((refl, λ op i. seven out s 0x8A40 op refl refl i), ((refl, λ op i. seven out s 0x8A80 op refl refl i), ((refl, λ op i. seven out s 0x8AC0 op refl refl i), ((refl, λ op i. seven out s 0x8B00 op refl refl i), ((refl, λ op i. seven out s 0x8B40 op refl refl i), ((refl, λ op i. seven out s 0x8B80 op refl refl i), ((refl, λ op i. seven out s 0x8BC0 op refl refl i), ((refl, λ op i. seven out s 0x8C00 op refl refl i), ((refl, λ op i. seven out s 0x8C40 op refl refl i), ((refl, λ op i. seven out s 0x8C80 op refl refl i), ((refl, λ op i. seven out s 0x8CC0 op refl refl i), ((refl, λ op i. seven out s 0x8D00 op refl refl i), ((refl, λ op i. seven out s 0x8D40 op refl refl i), ((refl, λ op i. seven out s 0x8D80 op refl refl i), ((refl, λ op i. seven out s 0x8DC0 op refl refl i), ((refl, λ op i. eight out s fit 0x0E00 op refl refl refl i), ((refl, λ op i. eight out s fit 0x0E40 op refl refl refl i), ((refl, λ op i. eight out s fit 0x0E80 op refl refl refl i), ((refl, λ op i. eight out s fit 0x0EC0 op refl refl refl i), ((refl, λ op i. eight out s fit 0x0F00 op refl refl refl i), ((refl, λ op i. eight out s fit 0x0F40 op refl refl refl i), ((refl, λ op i. eight out s fit 0x0F80 op refl refl refl i), ((refl, λ op i. eight out s fit 0x0FC0 op refl refl refl i), ((refl, λ op i. nine out s 0x7000 op _ refl refl refl (omega arith) i), ((refl, λ op i. nine out s 0x7200 op _ refl refl refl (omega arith) i), ((refl, λ op i. nine out s 0x7400 op _ refl refl refl (omega arith) i), ((refl, λ op i. nine out s 0x7600 op _ refl refl refl (omega arith) i), ((refl, λ op i. nine out s 0x7800 op _ refl refl refl (omega arith) i), ((refl, λ op i. nine out s 0x7A00 op _ refl refl refl (omega arith) i), ((refl, λ op i. nine out s 0x7C00 op _ refl refl refl (omega arith) i), ((refl, λ op i. nine out s 0x7E00 op _ refl refl refl (omega arith) i), ((refl, λ op i. ten out s 0x1000 op refl refl i), ((refl, λ op i. ten out s 0x2000 op refl refl i), ((refl, λ op i. ten out s 0x3000 op refl refl i), ((refl, λ op i. ten out s 0x4000 op refl refl i), ((refl, λ op i. ten out s 0x5000 op refl refl i), ((refl, λ op i. ten out s 0x6000 op refl refl i), ((refl, λ op i. ten out s 0x9000 op refl refl i), ((refl, λ op i. ten out s 0xA000 op refl refl i), ((refl, λ op i. ten out s 0xB000 op refl refl i), ((refl, λ op i. ten out s 0xC000 op refl refl i), ((refl, λ op i. ten out s 0xD000 op refl refl i), ((refl, λ op i. ten out s 0xE000 op refl refl i), tt))))))))))))))))))))))))))))))))))))))))))))))))))))))))))))))))))))))))))))))))))))))))))))))))))))))))))))))
 
 -- ---- by the row of an op code

@@ -28,7 +28,7 @@ use Rattle.format7.proofs.Laws.Columns.{row-is}
 use Rattle.format8.specs.Format8.{rowAt, element}
 use Rattle.format9.specs.Format9.{div, codes9, format9}
 use Rattle.format10.specs.Format10.{onWords, onBytes, format10}
-use Rattle.step.specs.Execute.{execute, byFormat, further}
+use Rattle.step.specs.Execute.{execute, byFormat}
 use Rattle.laws.proofs.Laws.Branches.{taken-printed}
 use Rattle.laws.proofs.Laws.Moves.{executes}
 use Rattle.laws.specs.Branches.{lines, whenIn}
@@ -71,14 +71,14 @@ module _ (out : Outside) (s : State) where
   twoAt k op = let r = onlyRegister op in cond (eqb k 2) (give (iak out s r)) (cond (eqb k 3) (rtn s r) (cond (eqb k 4) (msko s r) (prtn s r)))
 
   pub two : (b op : ℕ) → 2 ≤ b / 8 → b / 8 < 6 → b % 8 ≡ 0 → b + op % 8 + 0 ≡ op → (formatOf (highByte op) ≡ 1) × (execute out s op ≡ twoAt (b / 8) op)
-  unfolding formatOf byFormat further lowCodes formats2to4 format2
+  unfolding formatOf byFormat lowCodes formats2to4 format2
   two b op l u z i =
       let k : op / 8 ≡ b / 8 = omega (arith, z, i) in
       let h : op / 256 ≡ 0 = omega (arith, u, k) in
       (rw h refl, rw (h, le-ltb op 0x10 (omega (arith, l, k)), lt-ltb op 0x30 (omega (arith, u, k)), k) refl)
 
   pub three : (op : ℕ) → 0x30 + op % 16 + 0 ≡ op → (formatOf (highByte op) ≡ 1) × (execute out s op ≡ give (lcc s op))
-  unfolding formatOf byFormat further lowCodes formats2to4
+  unfolding formatOf byFormat lowCodes formats2to4
   three op i =
       let h : op / 256 ≡ 0 = omega (arith, i) in
       (rw h refl, rw (h, le-ltb op 0x10 (omega (arith, i)), le-ltb op 0x30 (omega (arith, i)), lt-ltb op 0x40 (omega (arith, i))) refl)
@@ -87,7 +87,7 @@ module _ (out : Outside) (s : State) where
   fourAt k op = cond (eqb k 1) (svca out s (argument op)) (cond (eqb k 2) (svc out s (argument op) 0x24) (svc out s (argument op) 0x26))
 
   pub four : (b op : ℕ) → 1 ≤ b / 64 → b / 64 < 4 → b % 64 ≡ 0 → b + op % 64 + 0 ≡ op → (formatOf (highByte op) ≡ 1) × (execute out s op ≡ fourAt (b / 64) op)
-  unfolding formatOf byFormat further lowCodes formats2to4 format4
+  unfolding formatOf byFormat lowCodes formats2to4 format4
   four b op l u z i =
       let k : op / 64 ≡ b / 64 = omega (arith, z, i) in
       let h : op / 256 ≡ 0 = omega (arith, u, k) in
@@ -197,7 +197,7 @@ module _ (out : Outside) (s : State) where
   nineAt k op = getD (codes9 out s (withFlags s preset) op) (k % 8) (div (withFlags s preset) op)
 
   pub nine : (b op x : ℕ) → b / 4096 ≡ 7 → Group 16 7 9 → b % 512 ≡ 0 → x < 64 → b + op / 64 % 8 * 64 + x ≡ op → (formatOf (highByte op) ≡ 9) × (execute out s op ≡ nineAt (b / 512) op)
-  unfolding byFormat further format9
+  unfolding byFormat format9
   nine b op x q g z l i =
       let k : op / 512 ≡ b / 512 = half b op (op / 64 % 8) x z (omega arith) l i in
       let e = group 16 7 9 (op / 256) (op / 256 % 16) (digit op b k q) (omega arith) g in

@@ -24,7 +24,7 @@ use Rattle.opcodes.specs.Fields.{blockSource, blockDestination}
 use Rattle.format8.specs.Page.{Plain, elementCount, along, blockMoved, imageMoved, stateMoved}
 use Rattle.format8.proofs.Laws.Moved.{onceMore, once-after, once-pc, once-count, once-source, once-destination, last-after, counted-count, past-source, past-destination}
 use Rattle.step.specs.declared.Kind.the-variants.{OpCode}
-use Rattle.step.specs.Execute.{further, byFormat, execute, reserved}
+use Rattle.step.specs.Execute.{byFormat, execute, reserved}
 use Rattle.step.specs.Xct.{code, begun, traced, carry, opWork}
 use Rattle.step.specs.declared.Cause.the-variants as Cause
 use Rattle.step.specs.Step.{after, hears, kindIn, kindOf, workOf, stepOf}
@@ -51,12 +51,12 @@ format-eight op h = elim (ℕ-discrete (op / 256) 14) [ yes e ↦ eight (op / 25
     eight a b e q = rw e q
 
 executes : (out : Outside) (s : State) (op : ℕ) → out .settings .blocks ≡ true → op / 512 ≡ 7 → execute out s op ≡ format8 s op
-unfolding byFormat further
+unfolding byFormat
 executes out s op e h = rw (format-eight op h, e)
 
 -- without the microm 01's step stands: the trap through 1A
 pub unfitted : (out : Outside) (s : State) (op : ℕ) → out .settings .blocks ≡ false → op / 512 ≡ 7 → execute out s op ≡ reserved out s
-unfolding byFormat further
+unfolding byFormat
 unfitted out s op e h = rw (format-eight op h, e)
 
 fetched : (map : List ℕ) (s : State) (m : List ℕ) (op : ℕ) → fitted map (s .regs .pc) ≡ true → wordAt m (s .regs .pc) ≡ op → run map (fetch s) m ≡ value (takenWord (withPc s (plus (s .regs .pc) 2)) op) m

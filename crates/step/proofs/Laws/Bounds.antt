@@ -18,24 +18,22 @@ use Rattle.format9.proofs.Laws.Bounds.{bounded-format9}
 use Rattle.format10.proofs.Laws.Bounds.{bounded-format10}
 use Rattle.step.specs.declared.Kind.{Kind}
 use Rattle.step.specs.declared.Kind.the-variants.{OpCode, HaltEnd, Boots, Saves, LocksUp, Restarts, Restores, NonVectored, Vectored, Waits, Stuck}
-use Rattle.step.specs.Execute.{moves, further, byFormat}
+use Rattle.step.specs.Execute.{moves, byFormat}
 use Rattle.step.specs.Xct.{Begin, code, abort, beginXct, begun, trace, traced, carry, opWork}
 use Rattle.step.specs.Places.{keep, pickUp, keepRegisters, pickUpRegisters, save, restore}
 use Rattle.step.specs.Step.{vectored, workOf, busError}
 
-bounded-further : (out : Outside) (f : ℕ) (s : State) (op : ℕ) → Bounded 9 (further out f s op)
-unfolding further
-bounded-further out f s op =
-    bounded-cond (eqb f 9) (bounded-more (omega arith) (bounded-format9 out s op))
-    (bounded-cond (eqb f 1) (bounded-lowCodes out s op)
-    (bounded-cond (moves out f) (bounded-more (omega arith) (bounded-format8 s op)) (bounded-more (omega arith) (bounded-trap s _ _))))
-
 bounded-byFormat : (out : Outside) (f : ℕ) (s : State) (op : ℕ) → Bounded 9 (byFormat out f s op)
 unfolding byFormat
 bounded-byFormat out f s op =
-    bounded-cond (eqb f 10) (bounded-more (omega arith) (bounded-format10 s op))
+    bounded-cond (eqb f 1) (bounded-lowCodes out s op)
+    (bounded-cond (eqb f 5) (gives _)
+    (bounded-cond (eqb f 6) (gives _)
     (bounded-cond (eqb f 7) (bounded-more (omega arith) (bounded-format7 out s op))
-    (bounded-cond (eqb f 5) (gives _) (bounded-cond (eqb f 6) (gives _) (bounded-further out f s op))))
+    (bounded-cond (moves out f) (bounded-more (omega arith) (bounded-format8 s op))
+    (bounded-cond (eqb f 9) (bounded-more (omega arith) (bounded-format9 out s op))
+    (bounded-cond (eqb f 10) (bounded-more (omega arith) (bounded-format10 s op))
+    (bounded-more (omega arith) (bounded-trap s _ _))))))))
 
 bounded-beginXct : (out : Outside) (s : State) → Bounded 0 (beginXct out s)
 unfolding beginXct

@@ -19,7 +19,7 @@ use Rattle.formats2to4.specs.Low.{lowCodes}
 use Rattle.format1.specs.Format1.{ien, format1}
 use Rattle.step.specs.declared.Kind.the-variants.{OpCode, NonVectored, Vectored}
 use Rattle.step.specs.declared.Cause.the-variants as Cause
-use Rattle.step.specs.Execute.{execute, byFormat, further}
+use Rattle.step.specs.Execute.{execute, byFormat}
 use Rattle.step.specs.Xct.{begun, trace, carry, traced, opWork}
 use Rattle.step.specs.Step.{after, haltOption, raised, asked, hears, kindIn, kindOf, workOf, stepOf}
 use Rattle.step.proofs.Laws.Ends.{step-well}
@@ -70,11 +70,11 @@ plain-step : {op : ℕ} {map : List ℕ} {out : Outside} {s t : State} {m : List
 plain-step {op} {map} {out} {s} {t} {m} c other does = sym (step-well map out s m {k = OpCode} (sym (c .kind)) (plain-work c other does) refl)
 
 ien-step : {map : List ℕ} {out : Outside} {s : State} {m : List ℕ} → Comes 2 map out s m → stepOf map out s m ≡ after (ien (begins s)) m Cause.OpCode
-unfolding byFormat further lowCodes format1 formatOf
+unfolding byFormat lowCodes format1 formatOf
 ien-step c = plain-step c refl refl
 
 nop-step : {map : List ℕ} {out : Outside} {s : State} {m : List ℕ} → Comes 0 map out s m → stepOf map out s m ≡ after (begins s) m Cause.OpCode
-unfolding byFormat further lowCodes format1 formatOf
+unfolding byFormat lowCodes format1 formatOf
 nop-step c = plain-step c refl refl
 
 -- ---- the laws
