@@ -8,4 +8,4 @@ returns : tie.Need-returns
 returns c = ap (λ z. eqb z 5) (c .format .ensures)
 
 pub is-branch-spec : {M : Type 1} → statement M
-is-branch-spec = tie.close (tie.spec (λ c κs. search needs) (λ c κs. search needs) returns)
+is-branch-spec = tie.close (tie.spec (λ c κs. search needs) returns)
