@@ -14,7 +14,7 @@ use Rattle.arith.specs.Branch.{branchTaken}
 use Rattle.arith.proofs.Laws.Printed.{numbers, printed, as-printed}
 use Rattle.board.specs.Work.{value, wordAt, run}
 use Rattle.plate.specs.Plate.{formatOf}
-use Rattle.plate.proofs.Laws.Plate.{Five, low, high, five}
+use Rattle.plate.proofs.Laws.Plate.{Five, from-01, from-80, five}
 use Rattle.opcodes.specs.Fields.{highByte}
 use Rattle.formats5to6.specs.Format5.{displacement, branchNumber, branch}
 use Rattle.state.specs.declared.State.{State}
@@ -45,8 +45,8 @@ unfolding Below
 high-printed f = ((((((((tt, printed-at 8 f), printed-at 9 f), printed-at 10 f), printed-at 11 f), printed-at 12 f), printed-at 13 f), printed-at 14 f), printed-at 15 f)
 
 printed-line : (h : ℕ) (f : Flags) → Five h → branchTaken (h % 8 + h / 128 * 8) f ≡ whenIn lines h f
-printed-line h f (low a b) = below (λ h. 1 ≤ h → branchTaken (h % 8 + h / 128 * 8) f ≡ whenIn lines h f) 8 (low-printed f) h b a
-printed-line h f (high j e l) =
+printed-line h f (from-01 a b) = below (λ h. 1 ≤ h → branchTaken (h % 8 + h / 128 * 8) f ≡ whenIn lines h f) 8 (low-printed f) h b a
+printed-line h f (from-80 j e l) =
     subst (λ (x : ℕ). branchTaken (x % 8 + x / 128 * 8) f ≡ whenIn lines x f) (sym e)
     (below (λ j. branchTaken ((0x80 + j) % 8 + (0x80 + j) / 128 * 8) f ≡ whenIn lines (0x80 + j) f) 8 (high-printed f) j l)
 
@@ -72,8 +72,8 @@ five-not-xct : (op : ℕ) → formatOf (highByte op) ≡ 5 → eqb op 5 ≡ fals
 five-not-xct op e = by (five (op / 256) e)
   where
     by : Five (op / 256) → eqb op 5 ≡ false
-    by (low a b) = ne-eqb op 5 (λ z. omega arith)
-    by (high j q l) = ne-eqb op 5 (λ z. omega arith)
+    by (from-01 a b) = ne-eqb op 5 (λ z. omega arith)
+    by (from-80 j q l) = ne-eqb op 5 (λ z. omega arith)
 
 branch-given : (map : List ℕ) (out : Outside) (s : State) (m : List ℕ) (t : State) (n : List ℕ) (op : ℕ) → formatOf (highByte op) ≡ 5
     → run map (execute out s op) m ≡ value t n → (t ≡ branch s op) × (n ≡ m)

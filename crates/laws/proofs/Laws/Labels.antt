@@ -12,7 +12,7 @@ use Rattle.board.specs.Work.{value, wordAt, fitted, writable, run, _>>=_}
 use Rattle.board.proofs.Laws.Alike.{found-value}
 use Rattle.opcodes.specs.Fields.{highByte, register, format9Code, offset}
 use Rattle.plate.specs.Plate.{formatOf}
-use Rattle.plate.proofs.Laws.Plate.{Five, low, high, five}
+use Rattle.plate.proofs.Laws.Plate.{Five, from-01, from-80, five}
 use Rattle.state.specs.declared.State.{State}
 use Rattle.state.specs.declared.Outside.{Outside}
 use Rattle.state.specs.Registers.{regOf, setReg}
@@ -89,8 +89,8 @@ branch-comes h v w third settings m map line s t n at label is empty near word y
     low-byte x = omega arith
 
     few : (h : ℕ) → Five h → h < 136
-    few h (low a b) = omega (arith, b)
-    few h (high j e l) = omega (arith, e, l)
+    few h (from-01 a b) = omega (arith, b)
+    few h (from-80 j e l) = omega (arith, e, l)
 
     high-few : (w : ℕ) → isBranch w ≡ true → w / 256 < 136
     high-few w e = few (w / 256) (five (w / 256) (eqb-true _ 5 e))

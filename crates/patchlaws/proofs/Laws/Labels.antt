@@ -23,7 +23,7 @@ use Rattle.optext.proofs.Laws.Inside.{inside}
 use Rattle.optext.proofs.Laws.Reserved.{word-back}
 use Rattle.optext.proofs.Laws.Reader.{read-of-words}
 use Rattle.plate.specs.Plate.{formatOf}
-use Rattle.plate.proofs.Laws.Plate.{Five, low, high, five}
+use Rattle.plate.proofs.Laws.Plate.{Five, from-01, from-80, five}
 use Rattle.patchline.specs.Text.{slice, pastOf, isName}
 use Rattle.patchline.specs.declared.oneline.How.{How}
 use Rattle.patchline.specs.declared.oneline.How.the-variants.{Unknown, Origin, Plain, Branch, Sob, Relative}
@@ -100,12 +100,12 @@ numbered : (w : ℕ) → isBranch w ≡ true → Numbered (w / 256)
 numbered w e = by (five (w / 256) (eqb-true _ 5 e))
   where
     by : Five (w / 256) → Numbered (w / 256)
-    by (low a b) =
+    by (from-01 a b) =
         record {
           few = rw (lt-ltb (w / 256) 8 b) (omega (arith, b));
           back = rw (lt-ltb (w / 256) 8 b, lt-ltb (w / 256 - 1) 7 (omega (arith, a, b))) (omega (arith, a));
         }
-    by (high j q l) =
+    by (from-80 j q l) =
         record {
           few = rw (le-ltb (w / 256) 8 (omega (arith, q))) (omega (arith, q, l));
           back = rw (le-ltb (w / 256) 8 (omega (arith, q)), le-ltb (w / 256 - 121) 7 (omega (arith, q))) (omega (arith, q));

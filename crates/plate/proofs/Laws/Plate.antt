@@ -67,13 +67,13 @@ walk false false false false false false false false false false false false q =
 
 -- 01 to 07, or 80 to 87
 pub data Five (h : ℕ) : Type 0 where
-  low : 1 ≤ h → h < 8 → Five h
-  high : (j : ℕ) → h ≡ 0x80 + j → j < 8 → Five h
+  from-01 : 1 ≤ h → h < 8 → Five h
+  from-80 : (j : ℕ) → h ≡ 0x80 + j → j < 8 → Five h
 
 bounds : (x y z w : Bool) (h : ℕ) → leb 1 h ≡ x → leb h 7 ≡ y → leb 0x80 h ≡ z → leb h 0x87 ≡ w → cond (x && y) true (z && w) ≡ true → Five h
-bounds true true z w h a b c d e = let k = leb-true 1 h a in let l = leb-true h 7 b in low (omega arith) (omega arith)
-bounds true false true true h a b c d e = let k = leb-true 0x80 h c in let l = leb-true h 0x87 d in high (h - 0x80) (omega arith) (omega arith)
-bounds false y true true h a b c d e = let k = leb-true 0x80 h c in let l = leb-true h 0x87 d in high (h - 0x80) (omega arith) (omega arith)
+bounds true true z w h a b c d e = let k = leb-true 1 h a in let l = leb-true h 7 b in from-01 (omega arith) (omega arith)
+bounds true false true true h a b c d e = let k = leb-true 0x80 h c in let l = leb-true h 0x87 d in from-80 (h - 0x80) (omega arith) (omega arith)
+bounds false y true true h a b c d e = let k = leb-true 0x80 h c in let l = leb-true h 0x87 d in from-80 (h - 0x80) (omega arith) (omega arith)
 bounds true false true false h a b c d e = let z : _≡_ {A = ℕ} 0 1 = cc in absurd (omega arith)
 bounds true false false w h a b c d e = let z : _≡_ {A = ℕ} 0 1 = cc in absurd (omega arith)
 bounds false y true false h a b c d e = let z : _≡_ {A = ℕ} 0 1 = cc in absurd (omega arith)
