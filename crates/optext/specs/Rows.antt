@@ -216,19 +216,19 @@ letterOf Word = code "W"
 
 unfoldable pub kindAs : ℕ → Kind
 kindAs c =
-    cond (eqb c (code "-")) None
-    (cond (eqb c (code "D")) Dst
+    cond (eqb c (code "M")) Mask
     (cond (eqb c (code "8")) Disp
-    (cond (eqb c (code "S")) Src
-    (cond (eqb c (code "H")) High
-    (cond (eqb c (code "N")) Count
     (cond (eqb c (code "R")) Reg
-    (cond (eqb c (code "B")) Mid
-    (cond (eqb c (code "6")) Arg6
-    (cond (eqb c (code "J")) Addr
     (cond (eqb c (code "4")) Arg4
-    (cond (eqb c (code "M")) Mask
-    Word)))))))))))
+    (cond (eqb c (code "6")) Arg6
+    (cond (eqb c (code "N")) Count
+    (cond (eqb c (code "H")) High
+    (cond (eqb c (code "B")) Mid
+    (cond (eqb c (code "D")) Dst
+    (cond (eqb c (code "J")) Addr
+    (cond (eqb c (code "S")) Src
+    (cond (eqb c (code "W")) Word
+    None)))))))))))
 
 abbrev pub rowBytes : Row → List ℕ
 rowBytes r =
