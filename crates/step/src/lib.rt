@@ -338,14 +338,14 @@ fn running(mode: Mode) -> bool
     }
 }
 
-// Is the next step an op code? Where nothing is asked for the mode tells it.
+// Is the next step an op code? Where nothing is asked for and the processor runs it is.
 pub fn goes_on(s: State, out: Outside, quiet: bool) -> bool
     requires { ⌜ quiet ≡ Spec.calm out ⌝ }
     ensures { λ r. ⌜ r ≡ Spec.isCode (Spec.kindOf s out) ⌝ }
 {
     let mode = s.mode;
-    if quiet {
-        return running(mode);
+    if quiet & running(mode) {
+        return true;
     }
     is_code(kind_of(s, out))
 }
