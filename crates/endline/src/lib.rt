@@ -24,7 +24,7 @@ pub fn bench_board() -> Settings
 }
 
 // The registers in the line's order.
-fn registersOf(s: State) -> [u16; 8]
+fn registers(s: State) -> [u16; 8]
     ensures { λ r. ⌜ r ≡ registersOf s ⌝ }
 {
     [
@@ -67,7 +67,7 @@ pub fn write_end_on(text: &mut [u8], ran: Ran, board: Settings) -> Printed
     let tally = ran.tally;
     let mode = s.mode;
     let first = tally.first;
-    let regs = registersOf(s);
+    let regs = registers(s);
     let ps = s.ps(state::hear(board, 0), false);
     let number = state::mode_number(mode);
     let at = place(first);
