@@ -6,7 +6,9 @@ ghost use mathlib.Core.Path.{_≡_};
 ghost use Prim.Native.Nat.{_≤_, _<_};
 ghost use lib.ListN.{length};
 use assembler::Assembled;
+use assembler::LONGEST_SECTION;
 use assembler::Labelled;
+use assembler::MOST_LABELS;
 use libc::STDERR_FILENO;
 use libc::STDIN_FILENO;
 use libc::STDOUT_FILENO;
@@ -191,7 +193,7 @@ fn say_unless(written: bool) {
 }
 
 fn answer_section(source: &[u8]) {
-    let mut section = [0u8; 12290];
+    let mut section = [0u8; LONGEST_SECTION];
     match assembler::assemble(source, &mut section) {
         Assembled::Section(n) => say_unless(put(&section, n as usize)),
         Assembled::Refused(why) => say_refused(why),
@@ -200,7 +202,7 @@ fn answer_section(source: &[u8]) {
 }
 
 fn answer_labels(source: &[u8]) {
-    let mut labels = [0u8; 4096];
+    let mut labels = [0u8; MOST_LABELS];
     match assembler::labels(source, &mut labels) {
         Labelled::Bytes(n) => say_unless(put(&labels, n as usize)),
         Labelled::Refused(why) => say_refused(why),

@@ -44,15 +44,15 @@ module _ (o : Op) (h : ℕ) (l : List ℕ) where
   unfolding entered
   entered-0 c = rw (le-ltb 2 (o .count) (omega arith), le-ltb 1 (o .count) (omega arith), le-ltb 0 (o .count) (omega arith)) refl
 
-  pub entered-1 : 1 ≤ o .count → o .count < 2 → inserted (sectionEntry h (o .a)) l ≡ entered o h l
+  entered-1 : 1 ≤ o .count → o .count < 2 → inserted (sectionEntry h (o .a)) l ≡ entered o h l
   unfolding entered
   entered-1 b c = rw (le-ltb 2 (o .count) (omega arith), le-ltb 1 (o .count) (omega arith), lt-ltb 0 (o .count) (omega arith)) refl
 
-  pub entered-2 : 2 ≤ o .count → o .count < 3 → inserted (sectionEntry (plus h 2) (o .b)) (inserted (sectionEntry h (o .a)) l) ≡ entered o h l
+  entered-2 : 2 ≤ o .count → o .count < 3 → inserted (sectionEntry (plus h 2) (o .b)) (inserted (sectionEntry h (o .a)) l) ≡ entered o h l
   unfolding entered
   entered-2 b c = rw (le-ltb 2 (o .count) (omega arith), lt-ltb 1 (o .count) (omega arith)) refl
 
-  pub entered-3 : 3 ≤ o .count
+  entered-3 : 3 ≤ o .count
       → inserted (sectionEntry (plus h 4) (o .c)) (inserted (sectionEntry (plus h 2) (o .b)) (inserted (sectionEntry h (o .a)) l)) ≡ entered o h l
   unfolding entered
   entered-3 b = rw (lt-ltb 2 (o .count) (omega arith)) refl

@@ -9,6 +9,8 @@ ghost use Rattle.assembler.specs.Source.{lineCount, Starts};
 ghost use Rattle.assembler.specs.Section.{pair};
 ghost use Rattle.assembler.specs.Answer.{sectionWritten, checked};
 ghost use Rattle.assembler.specs.Labels as Spec;
+use super::MOST_LINES;
+use super::MOST_STARTS;
 use crate::Labelled;
 use crate::section::put_count;
 use crate::source::Fault;
@@ -38,7 +40,7 @@ fn line_label_at(out: &mut [u8], at: usize, n: usize, h: u16) -> usize
 }
 
 // All lines'.
-fn put_labels(source: &[u8], starts: &[u32; 1025], out: &mut [u8]) -> usize
+fn put_labels(source: &[u8], starts: &[u32; MOST_STARTS], out: &mut [u8]) -> usize
     requires { ⌜ Starts (now source) (now starts) × (4096 ≤ length (now out)) ⌝ }
     ensures { λ r. ⌜ Wrote (Spec.labelsOf (now (source .entry))) (now (out .entry)) (now (out .exit)) r × (r ≤ 4096) ⌝ }
 {
@@ -60,8 +62,8 @@ pub(crate) fn label_lines(source: &[u8], out: &mut [u8]) -> Labelled
     ensures { λ r. ⌜ left (Spec.labelledPage r) (now (out .exit)) ≡ checked Spec.labelFaults (now (source .entry)) (sectionWritten (Spec.labelsOf (now (source .entry))) (now (out .entry))) (now (out .entry)) ⌝ }
 {
     let n = count(source);
-    let mut starts = [0u32; 1025];
-    let mut ends = [0u32; 1024];
+    let mut starts = [0u32; MOST_STARTS];
+    let mut ends = [0u32; MOST_LINES];
     survey(source, &mut starts, &mut ends);
     let text = lowest_line(Fault::Text, source, &starts, &ends);
     if text < n {

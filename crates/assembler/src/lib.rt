@@ -19,13 +19,18 @@ mod labelling;
 mod section;
 mod source;
 
-// The most lines, and the bytes of the longest section: its count, and three words a line with their addresses.
+// The most lines; with where the last one ends; and the words of all of them, three a line.
 const MOST_LINES: usize = 1024;
 
-const LONGEST_SECTION: usize = 12290;
+const MOST_STARTS: usize = 1025;
+
+const MOST_WORDS: usize = 3072;
+
+// The bytes of the longest section: its count, and each word with its address.
+pub const LONGEST_SECTION: usize = 12290;
 
 // The bytes of the labels of all lines.
-const MOST_LABELS: usize = 4096;
+pub const MOST_LABELS: usize = 4096;
 
 // What the assembler answers: the length of the section, or why the source is refused.
 pub enum Assembled {
@@ -51,8 +56,8 @@ fn assemble_lines(source: &[u8], out: &mut [u8]) -> Assembled
     ensures { λ r. ⌜ left (assembledPage r) (now (out .exit)) ≡ checked faults (now (source .entry)) (sectionWritten (assembled (now (source .entry))) (now (out .entry))) (now (out .entry)) ⌝ }
 {
     let n = source::count(source);
-    let mut starts = [0u32; 1025];
-    let mut ends = [0u32; 1024];
+    let mut starts = [0u32; MOST_STARTS];
+    let mut ends = [0u32; MOST_LINES];
     source::survey(source, &mut starts, &mut ends);
     let text = source::lowest_line(Fault::Text, source, &starts, &ends);
     if text < n {
@@ -74,7 +79,7 @@ fn assemble_lines(source: &[u8], out: &mut [u8]) -> Assembled
     if far < n {
         return Assembled::RefusedAt(OUT_OF_REACH, far as u16);
     }
-    let mut table = [0u32; 3072];
+    let mut table = [0u32; MOST_WORDS];
     let words = section::place_all(source, &starts, &mut table);
     let length = section::put_section(out, &table, words);
     Assembled::Section(length as u16)

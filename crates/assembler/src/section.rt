@@ -6,6 +6,8 @@ ghost use lib.ListN.{length, take};
 ghost use Rattle.hexdigits.specs.Over.{Wrote, WroteAt};
 ghost use Rattle.assembler.specs.Source.{lineCount, Starts};
 ghost use Rattle.assembler.specs.Section.{sectionEntry, lowerOf, higherOf, inserted, entered, wordsPlaced, pair, entryBytes, sectionBytes, sectionOf, Inserts, Enters};
+use super::MOST_STARTS;
+use super::MOST_WORDS;
 use crate::source::count;
 use crate::source::here;
 use crate::source::text_at;
@@ -39,7 +41,7 @@ fn higher(x: u32, y: u32) -> u32
 }
 
 // One entry more, at its place among the first n.
-fn insert(table: &mut [u32; 3072], n: usize, x: u32) -> usize
+fn insert(table: &mut [u32; MOST_WORDS], n: usize, x: u32) -> usize
     requires { ⌜ (n < 3072) × (length (now table) ≡ 3072) ⌝ }
     ensures { λ r. ⌜ Inserts (now (table .entry)) (now (table .exit)) n x r ⌝ }
 {
@@ -56,7 +58,7 @@ fn insert(table: &mut [u32; 3072], n: usize, x: u32) -> usize
 }
 
 // The words of a line from an address on.
-fn enter(table: &mut [u32; 3072], n: usize, o: Op, h: u16) -> usize
+fn enter(table: &mut [u32; MOST_WORDS], n: usize, o: Op, h: u16) -> usize
     requires { ⌜ (n + 3 ≤ 3072) × (length (now table) ≡ 3072) ⌝ }
     ensures { λ r. ⌜ Enters (now (table .entry)) (now (table .exit)) n o h r ⌝ }
 {
@@ -75,7 +77,11 @@ fn enter(table: &mut [u32; 3072], n: usize, o: Op, h: u16) -> usize
 }
 
 // The words of all lines.
-pub(crate) fn place_all(source: &[u8], starts: &[u32; 1025], table: &mut [u32; 3072]) -> usize
+pub(crate) fn place_all(
+    source: &[u8],
+    starts: &[u32; MOST_STARTS],
+    table: &mut [u32; MOST_WORDS],
+) -> usize
     requires { ⌜ Starts (now source) (now starts) × (length (now table) ≡ 3072) ⌝ }
     ensures { λ r. ⌜ (take r (now (table .exit)) ≡ wordsPlaced (now (source .entry)) (lineCount (now (source .entry)))) × (r ≤ 3072) × (length (now (table .exit)) ≡ 3072) ⌝ }
 {
@@ -121,7 +127,7 @@ pub(crate) fn put_count(out: &mut [u8], n: usize) -> usize
 }
 
 // The first n entries from a place on.
-fn put_entries(out: &mut [u8], from: usize, table: &[u32; 3072], n: usize) -> usize
+fn put_entries(out: &mut [u8], from: usize, table: &[u32; MOST_WORDS], n: usize) -> usize
     requires { ⌜ (from + 12288 ≤ length (now out)) × (n ≤ 3072) × (length (now table) ≡ 3072) ⌝ }
     ensures { λ k. ⌜ WroteAt from (sectionBytes (take n (now (table .entry)))) (now (out .entry)) (now (out .exit)) k ⌝ }
 {
@@ -135,7 +141,7 @@ fn put_entries(out: &mut [u8], from: usize, table: &[u32; 3072], n: usize) -> us
 }
 
 // The section of the first n entries.
-pub(crate) fn put_section(out: &mut [u8], table: &[u32; 3072], n: usize) -> usize
+pub(crate) fn put_section(out: &mut [u8], table: &[u32; MOST_WORDS], n: usize) -> usize
     requires { ⌜ (12290 ≤ length (now out)) × (n ≤ 3072) × (length (now table) ≡ 3072) ⌝ }
     ensures { λ k. ⌜ Wrote (sectionOf (take n (now (table .entry)))) (now (out .entry)) (now (out .exit)) k ⌝ }
 {

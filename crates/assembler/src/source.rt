@@ -5,6 +5,8 @@ ghost use lib.ListN.{length};
 ghost use Rattle.optext.specs.First.{firstFrom};
 ghost use Rattle.assembler.specs.Source.{lineCount, lineAt, textAt, saidAt, isOrigin, endAfter, nextFrom, givesAt, giverOf, valueOf, hereOf, isUnknown, isGiven, hasLabels, lacks, overlaps, isOdd, isFar, fails, isMissing, misplaced, far, lowest, lineOp, Starts, LineEnds};
 ghost use Rattle.assembler.specs.Source as Spec;
+use super::MOST_LINES;
+use super::MOST_STARTS;
 use optext::Op;
 use patchline::oneline::How;
 use patchline::oneline::Said;
@@ -100,7 +102,7 @@ fn next_from(o: u32, s: Said) -> u32
 }
 
 // The tables of the origins and of the ends.
-pub(crate) fn survey(source: &[u8], starts: &mut [u32; 1025], ends: &mut [u32; 1024])
+pub(crate) fn survey(source: &[u8], starts: &mut [u32; MOST_STARTS], ends: &mut [u32; MOST_LINES])
     requires { ⌜ (lineCount (now source) ≤ 1024) × (length (now starts) ≡ 1025) × (length (now ends) ≡ 1024) ⌝ }
     ensures { λ _. ⌜ Starts (now (source .entry)) (now (starts .exit)) × LineEnds (now (source .entry)) (now (ends .exit)) ⌝ }
 {
@@ -142,7 +144,7 @@ fn giver(source: &[u8], u: &[u8]) -> usize
 }
 
 // A label's value.
-fn value(source: &[u8], starts: &[u32; 1025], u: &[u8]) -> u16
+fn value(source: &[u8], starts: &[u32; MOST_STARTS], u: &[u8]) -> u16
     requires { ⌜ Starts (now source) (now starts) ⌝ }
     ensures { λ r. ⌜ r ≡ valueOf (now (source .entry)) (now (u .entry)) ⌝ }
 {
@@ -151,7 +153,7 @@ fn value(source: &[u8], starts: &[u32; 1025], u: &[u8]) -> u16
 }
 
 // The address that a line begins at.
-pub(crate) fn here(source: &[u8], starts: &[u32; 1025], i: usize) -> u16
+pub(crate) fn here(source: &[u8], starts: &[u32; MOST_STARTS], i: usize) -> u16
     requires { ⌜ Starts (now source) (now starts) × (i < lineCount (now source)) ⌝ }
     ensures { λ r. ⌜ r ≡ hereOf (now (source .entry)) i ⌝ }
 {
@@ -233,7 +235,13 @@ fn lack(source: &[u8], t: &[u8]) -> bool
 }
 
 // 28: do the words of two lines overlap?
-fn overlap(source: &[u8], starts: &[u32; 1025], ends: &[u32; 1024], i: usize, k: usize) -> bool
+fn overlap(
+    source: &[u8],
+    starts: &[u32; MOST_STARTS],
+    ends: &[u32; MOST_LINES],
+    i: usize,
+    k: usize,
+) -> bool
     requires { ⌜ Starts (now source) (now starts) × LineEnds (now source) (now ends) × (i < lineCount (now source)) × (k < lineCount (now source)) ⌝ }
     ensures { λ r. ⌜ r ≡ overlaps (now (source .entry)) i k ⌝ }
 {
@@ -249,7 +257,12 @@ fn is_odd(s: Said) -> bool
 }
 
 // The first line whose words the words of the line i overlap, or i.
-fn overlapped(source: &[u8], starts: &[u32; 1025], ends: &[u32; 1024], i: usize) -> usize
+fn overlapped(
+    source: &[u8],
+    starts: &[u32; MOST_STARTS],
+    ends: &[u32; MOST_LINES],
+    i: usize,
+) -> usize
     requires { ⌜ Starts (now source) (now starts) × LineEnds (now source) (now ends) × (i < lineCount (now source)) ⌝ }
     ensures { λ r. ⌜ r ≡ firstFrom (overlaps (now (source .entry)) i) i 0 ⌝ }
 {
@@ -263,7 +276,7 @@ fn overlapped(source: &[u8], starts: &[u32; 1025], ends: &[u32; 1024], i: usize)
     k
 }
 
-fn misplace(source: &[u8], starts: &[u32; 1025], ends: &[u32; 1024], i: usize) -> bool
+fn misplace(source: &[u8], starts: &[u32; MOST_STARTS], ends: &[u32; MOST_LINES], i: usize) -> bool
     requires { ⌜ Starts (now source) (now starts) × LineEnds (now source) (now ends) × (i < lineCount (now source)) ⌝ }
     ensures { λ r. ⌜ r ≡ misplaced (now (source .entry)) i ⌝ }
 {
@@ -277,7 +290,7 @@ fn misplace(source: &[u8], starts: &[u32; 1025], ends: &[u32; 1024], i: usize) -
 }
 
 // 27: is this label out of a line's reach?
-fn is_far(source: &[u8], starts: &[u32; 1025], how: How, h: u16, u: &[u8]) -> bool
+fn is_far(source: &[u8], starts: &[u32; MOST_STARTS], how: How, h: u16, u: &[u8]) -> bool
     requires { ⌜ Starts (now source) (now starts) ⌝ }
     ensures { λ r. ⌜ r ≡ isFar (now (source .entry)) how h (now (u .entry)) ⌝ }
 {
@@ -287,7 +300,7 @@ fn is_far(source: &[u8], starts: &[u32; 1025], how: How, h: u16, u: &[u8]) -> bo
     !reach(how, value(source, starts, u), h)
 }
 
-fn too_far(source: &[u8], starts: &[u32; 1025], h: u16, t: &[u8]) -> bool
+fn too_far(source: &[u8], starts: &[u32; MOST_STARTS], h: u16, t: &[u8]) -> bool
     requires { ⌜ Starts (now source) (now starts) ⌝ }
     ensures { λ r. ⌜ r ≡ far (now (source .entry)) h (now (t .entry)) ⌝ }
 {
@@ -298,7 +311,13 @@ fn too_far(source: &[u8], starts: &[u32; 1025], h: u16, t: &[u8]) -> bool
 }
 
 // Has a line this fault?
-fn fail(f: Fault, source: &[u8], starts: &[u32; 1025], ends: &[u32; 1024], i: usize) -> bool
+fn fail(
+    f: Fault,
+    source: &[u8],
+    starts: &[u32; MOST_STARTS],
+    ends: &[u32; MOST_LINES],
+    i: usize,
+) -> bool
     requires { ⌜ Starts (now source) (now starts) × LineEnds (now source) (now ends) × (i < lineCount (now source)) ⌝ }
     ensures { λ r. ⌜ r ≡ fails f (now (source .entry)) i ⌝ }
 {
@@ -315,8 +334,8 @@ fn fail(f: Fault, source: &[u8], starts: &[u32; 1025], ends: &[u32; 1024], i: us
 pub(crate) fn lowest_line(
     f: Fault,
     source: &[u8],
-    starts: &[u32; 1025],
-    ends: &[u32; 1024],
+    starts: &[u32; MOST_STARTS],
+    ends: &[u32; MOST_LINES],
 ) -> usize
     requires { ⌜ Starts (now source) (now starts) × LineEnds (now source) (now ends) ⌝ }
     ensures { λ r. ⌜ (r ≡ lowest f (now (source .entry))) × (r ≤ lineCount (now (source .entry))) ⌝ }
@@ -335,7 +354,7 @@ pub(crate) fn lowest_line(
 // The words with a label's value in them, if there is a label.
 fn put_label(
     source: &[u8],
-    starts: &[u32; 1025],
+    starts: &[u32; MOST_STARTS],
     how: How,
     third: bool,
     h: u16,
@@ -352,7 +371,7 @@ fn put_label(
 }
 
 // The words of a line, with its labels in them.
-pub(crate) fn words_in(source: &[u8], starts: &[u32; 1025], h: u16, t: &[u8]) -> Op
+pub(crate) fn words_in(source: &[u8], starts: &[u32; MOST_STARTS], h: u16, t: &[u8]) -> Op
     requires { ⌜ Starts (now source) (now starts) ⌝ }
     ensures { λ r. ⌜ r ≡ lineOp (now (source .entry)) h (now (t .entry)) ⌝ }
 {

@@ -7,6 +7,7 @@ ghost use Prim.Native.Nat.{_+_, _*_, _≤_, _<_};
 ghost use lib.ListN.{length};
 ghost use Rattle.benchline.specs.Line.{space, dashes, field, fields, modeDigit, placeText, firstText, lineText, name, decimal, refusedText, printedPage, printOf};
 ghost use Rattle.hexdigits.specs.Over.{Wrote, WroteAt};
+ghost use Rattle.hexdigits.specs.Over as Over;
 ghost use Rattle.refusal.specs.Page.{left};
 
 // Where the first blank was: a place in the list of line words, or an address; or none.
@@ -37,11 +38,13 @@ fn space_at(text: &mut [u8], at: usize) -> usize
     at + put_space(&mut text[at..])
 }
 
-// Four hex digits and a space.
-fn put_field(out: &mut [u8], x: u16) -> usize
-    requires { ⌜ 5 ≤ length (now out) ⌝ }
-    ensures { λ n. ⌜ Wrote (field x) (now (out .entry)) (now (out .exit)) n ⌝ }
+// Four hex digits and a space at the front; answers 5. A shorter buffer is left as it is, and the answer is 0.
+pub fn put_field(out: &mut [u8], x: u16) -> usize
+    ensures { λ n. ⌜ Over.textLeft n (now (out .exit)) ≡ Over.written (field x) (now (out .entry)) ⌝ }
 {
+    if out.len() < 5 {
+        return 0;
+    }
     let n = put_hex4(out, x);
     space_at(out, n)
 }
@@ -56,11 +59,13 @@ fn put_mode(out: &mut [u8], mode: u8) -> usize
     2
 }
 
-// Four dashes.
-fn put_dashes(out: &mut [u8]) -> usize
-    requires { ⌜ 4 ≤ length (now out) ⌝ }
-    ensures { λ n. ⌜ Wrote dashes (now (out .entry)) (now (out .exit)) n ⌝ }
+// Four dashes in the same way, for a place or an address that there is not.
+pub fn put_dashes(out: &mut [u8]) -> usize
+    ensures { λ n. ⌜ Over.textLeft n (now (out .exit)) ≡ Over.written dashes (now (out .entry)) ⌝ }
 {
+    if out.len() < 4 {
+        return 0;
+    }
     out[0] = b'-';
     out[1] = b'-';
     out[2] = b'-';

@@ -5,6 +5,7 @@ use mathlib.Core.List.{List}
 use lib.ListN.{getD, set}
 use lib.Dec.{eqb}
 use mathlib.Core.Path.{_≡_}
+use Rattle.wordbytes.specs.Words as Words
 
 -- an access is of a word or of a byte
 pub data Size : Type 0 where
@@ -40,7 +41,7 @@ even a = a / 2 * 2
 
 unfoldable pub wordAt : List ℕ → ℕ → ℕ
 unfolding even
-wordAt m a = getD m (even a) 0 + getD m (even a + 1) 0 * 256
+wordAt m a = Words.wordAt m (even a)
 
 unfoldable pub withWord : List ℕ → ℕ → ℕ → List ℕ
 unfolding even

@@ -7,11 +7,11 @@ use Rattle.wordmath.specs.Number.{digit}
 use Rattle.wordmath.specs.Status.{flagsOf}
 use Rattle.board.specs.Work.{wordAt, withWord}
 use Rattle.state.specs.declared.State.{State}
-use Rattle.state.specs.declared.Settings.{Settings}
 use Rattle.state.specs.State.{withReg, withPc, withSp, withFlags, withI2, cleared, heard}
 use Rattle.hexdigits.specs.Digits.{letters}
 use Rattle.optext.specs.Line.{taken, textOf, isReserved}
 use Rattle.step.specs.Step.{After, stepOf}
+use Rattle.endline.specs.Report.{benchBoard}
 use mathlib.Core.Path.{_≡_}
 use lib.Dec.{eqb}
 use Rattle.plate.specs.Plate.{formatOf}
@@ -38,13 +38,9 @@ image op at v = withWord (withWord (replicate 65536 0) 0x100 op) at v
 abbrev before : ℕ → ℕ → ℕ → ℕ → Bool → State
 before r0 r1 r2 f i = withI2 (withFlags (withSp (withPc (withReg (withReg (withReg cleared 0 r0) 1 r1) 2 r2) 0x100) 0x200) (flagsOf f)) i
 
--- the third microm is fitted and the jumpers are 11 and 11, as on bench's board
-abbrev settings : Settings
-settings = record { blocks = true; powerup = 3; halt = 3; register = 0 }
-
 -- a step with quiet lines
 abbrev stepped : ℕ → State → ℕ → ℕ → After
-stepped op s at v = stepOf board (heard settings 0) s (image op at v)
+stepped op s at v = stepOf board (heard benchBoard 0) s (image op at v)
 
 -- N 8, Z 4, V 2, C 1
 abbrev nzvc : State → ℕ

@@ -31,6 +31,7 @@ use Rattle.wordbytes.specs.Words as Words
 use Rattle.machine.specs.declared.Stepped.{Stepped}
 use Rattle.machine.specs.declared.Stepped.the-variants as Stepped
 use Rattle.machine_c.specs.Layout.{settingsFrom}
+use Rattle.endline.specs.Report.{benchBoard}
 use Rattle.machine_c.specs.Calls.{stepCall, runCall}
 
 -- ---- FURTHER CARDS
@@ -54,10 +55,6 @@ pub record SameRun (settings : Settings) (map big lines : List ℕ) (s : State) 
   pub steps : trailOf settings big lines s m ≡ trailOf settings map lines s m
 
 -- ---- WHY BOTH CONDITIONS ARE NEEDED
-
--- bench's settings
-abbrev pub settings : Settings
-settings = record { blocks = true; powerup = 3; halt = 3; register = 0 }
 
 -- pages 0 to 3 are fitted; with the card, page 4 too
 abbrev pub bareRack : List ℕ
@@ -84,12 +81,12 @@ endSeen a = a .state .regs .pc ∷ a .state .regs .sp ∷ modeNumber (a .state .
 -- A BLANK THAT A CARD HEALS. I0, device code 0: the table at 0400 isn't fitted, so the interrupt is dropped and its bus error goes
 -- through 12 to 0200. With page 4 the table's word, 0, leads to 0400.
 abbrev pub heals : List ℕ → End
-heals map = runOf settings map (1 ∷ []) (before 0x200) image
+heals map = runOf benchBoard map (1 ∷ []) (before 0x200) image
 
 -- A LOCK-UP THAT A CARD SPARES. I1 with the stack on page 4: neither the interrupt nor its bus error can push, so the step locks, and
 -- that is no blank. With page 4 the interrupt leads to 0300.
 abbrev pub spares : List ℕ → End
-spares map = runOf settings map (2 ∷ []) (before 0x500) image
+spares map = runOf benchBoard map (2 ∷ []) (before 0x500) image
 
 -- the law of a run, under a condition on what it answered
 abbrev pub Law : (Ran → Type 0) → Type 0

@@ -1,5 +1,6 @@
 // A listing of a stretch of an image, a line at a time.
-use hexdigits::hex;
+use benchline::put_dashes;
+use benchline::put_field;
 use optext::Written;
 use refusal::board_refusal;
 use refusal::number::NO_STRETCH;
@@ -81,19 +82,7 @@ fn moves_on(found: Found) -> usize
     }
 }
 
-// Four hex digits and a space.
-fn put_field(out: &mut [u8], x: u16) -> usize
-    requires { ⌜ 5 ≤ length (now out) ⌝ }
-    ensures { λ n. ⌜ Wrote (field x) (now (out .entry)) (now (out .exit)) n ⌝ }
-{
-    out[0] = hex(x / 4096);
-    out[1] = hex(x / 256 % 16);
-    out[2] = hex(x / 16 % 16);
-    out[3] = hex(x % 16);
-    out[4] = b' ';
-    5
-}
-
+// Four hex digits and a space, in their place.
 fn field_at(text: &mut [u8], at: usize, x: u16) -> usize
     requires { ⌜ at + 5 ≤ length (now text) ⌝ }
     ensures { λ n. ⌜ WroteAt at (field x) (now (text .entry)) (now (text .exit)) n ⌝ }
@@ -115,18 +104,7 @@ fn put_fields(text: &mut [u8], values: [u16; 4], n: usize) -> usize
     at
 }
 
-// Four dashes, for an address where nothing is fitted.
-fn put_dashes(out: &mut [u8]) -> usize
-    requires { ⌜ 4 ≤ length (now out) ⌝ }
-    ensures { λ n. ⌜ Wrote dashes (now (out .entry)) (now (out .exit)) n ⌝ }
-{
-    out[0] = b'-';
-    out[1] = b'-';
-    out[2] = b'-';
-    out[3] = b'-';
-    4
-}
-
+// Four dashes in their place, for an address where nothing is fitted.
 fn dashes_at(text: &mut [u8], at: usize) -> usize
     requires { ⌜ at + 4 ≤ length (now text) ⌝ }
     ensures { λ n. ⌜ WroteAt at dashes (now (text .entry)) (now (text .exit)) n ⌝ }

@@ -56,11 +56,11 @@ module _ (map image : List ℕ) (last a : ℕ) where
       by true false = (omega arith, omega arith)
       by false s = (omega arith, omega arith)
 
-  pub line-short : length (lineAt map image last a) ≤ 44
+  line-short : length (lineAt map image last a) ≤ 44
   unfolding lineAt
   line-short = few-of a (wordsAt image a) (foundAt map image last a) (moves-few .0) (moves-few .1) .0
 
-  pub line-few : length (endedAt image map a last) * 2 + a * 35 ≤ nextAt map image last a * 35
+  line-few : length (endedAt image map a last) * 2 + a * 35 ≤ nextAt map image last a * 35
   unfolding lineAt nextAt
   line-few =
       let m = moves-few in

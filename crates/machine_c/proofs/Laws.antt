@@ -51,19 +51,19 @@ laid-none bytes b n = rw (ne-eqb (length b) (length bytes) n) refl
 state-length : (b : List ℕ) → notState b ≡ false → length b ≡ 24
 state-length b e = eqb-true _ _ (not-false _ e)
 
-pub up-length : (b w : List ℕ) → refusedUp b w ≡ false → length b ≡ 24
+up-length : (b w : List ℕ) → refusedUp b w ≡ false → length b ≡ 24
 unfolding refusedUp
 up-length b w e = state-length b (neither (notState b) (refusedSettings w) e .0)
 
-pub step-length : (b w : List ℕ) → refusedStep b w ≡ false → length b ≡ 24
+step-length : (b w : List ℕ) → refusedStep b w ≡ false → length b ≡ 24
 unfolding refusedState refusedStep
 step-length b w e = state-length b (neither (notState b) (stateRefused b) (neither (refusedState b) (refusedSettings w) e .0) .0)
 
-pub run-length : (b t w : List ℕ) → refusedRun b t w ≡ false → length b ≡ 24
+run-length : (b t w : List ℕ) → refusedRun b t w ≡ false → length b ≡ 24
 unfolding refusedRun
 run-length b t w e = step-length b w (neither (refusedStep b w) (notTally t) e .0)
 
-pub tally-length : (b t w : List ℕ) → refusedRun b t w ≡ false → length t ≡ 6
+tally-length : (b t w : List ℕ) → refusedRun b t w ≡ false → length t ≡ 6
 unfolding refusedRun
 tally-length b t w e = eqb-true _ _ (not-false _ (neither (refusedStep b w) (notTally t) e .1))
 

@@ -57,7 +57,7 @@ module _ (a b : List ℕ) where
   unfolding lentWhy
   lent-38 h k = rw (h, ne-eqb (length b % 2) 0 k) refl
 
-  pub lent-none : answerWhy a ≡ 0 → length b % 2 ≡ 0 → lentWhy a b ≡ 0
+  lent-none : answerWhy a ≡ 0 → length b % 2 ≡ 0 → lentWhy a b ≡ 0
   unfolding lentWhy
   lent-none h k = rw (h, eq-eqb (length b % 2) 0 k) refl
 

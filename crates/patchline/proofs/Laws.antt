@@ -47,7 +47,7 @@ end-step t (suc i) b h e n =
     rw (z, eq-eqb (getD t i 0) 32 (sym (rw z at e) ∙ n)) refl
 
 -- tests joined
-pub and-no : (a : Bool) → (a && false) ≡ false
+and-no : (a : Bool) → (a && false) ≡ false
 and-no true = refl
 and-no false = refl
 
@@ -166,7 +166,7 @@ pub second-le : (t : List ℕ) → length (secondIn t) ≤ length t
 unfolding secondIn
 second-le t = simp length-drop (omega arith)
 
-pub tail-le : (d t : List ℕ) → length (tailOf d t) ≤ 1 + (length t + length d)
+tail-le : (d t : List ℕ) → length (tailOf d t) ≤ 1 + (length t + length d)
 tail-le d t = ⊎-elim (λ h. rw (tail-some d t h) (some (filled-in-le d (secondIn t)) (second-le t))) (λ h. rw (tail-none d t h) (omega arith)) (lt-cases (commaAt t) (length t))
   where
     some : length (filledIn d (secondIn t)) ≤ length (secondIn t) + length d → length (secondIn t) ≤ length t

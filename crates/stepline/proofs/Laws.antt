@@ -189,7 +189,7 @@ module _ (settings : Settings) (image map : List ℕ) (line number : ℕ) (s : S
       call-answered (showWhy settings (length image) map line (length b)) (shownAs (stepOf map (heard settings line) s image) (stepText settings map line number s image) b) (image, b) x e h
 
   -- the line of the turn, the image and the addresses that the step came to
-  pub shown-is : (r : Turn) (n : ℕ) (m e ws : List ℕ) → turnOf r m ≡ stepOf map (heard settings line) s image → ws ≡ stepWrites map (heard settings line) s image
+  shown-is : (r : Turn) (n : ℕ) (m e ws : List ℕ) → turnOf r m ≡ stepOf map (heard settings line) s image → ws ≡ stepWrites map (heard settings line) s image
       → Wrote (stepLine settings map line number s image (turnOf r m) ws) b e n
       → left (shownPage (Shown.Line n r)) (m, e) ≡ shownAs (stepOf map (heard settings line) s image) (stepText settings map line number s image) b
   unfolding stepText

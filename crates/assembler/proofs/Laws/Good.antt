@@ -1,6 +1,6 @@
 -- What an answer that is no refusal tells of the source; and a source in which no line is wrong is assembled.
-use mathlib.Core.Path.{_≡_, refl, ap, sym, _∙_}
-use mathlib.Core.Bool.{Bool, true, false, cond}
+use mathlib.Core.Path.{_≡_, refl, sym, _∙_}
+use mathlib.Core.Bool.{Bool, true, false, cond, true≢false}
 use mathlib.Core.List.{List, [], _∷_}
 use mathlib.Core.Logic.{⊎-elim}
 use Prim.Native.Nat.{ℕ, zero, suc, _%_, _≤_, _<_}
@@ -73,10 +73,7 @@ module _ (s out : List ℕ) (n : ℕ) where
 -- ---- the other way round
 
 pub no-first : (f : ℕ → Bool) (n : ℕ) → ((k : ℕ) → k < n → f k ≡ false) → ltb (firstFrom f n 0) n ≡ false
-no-first f n h = ⊎-elim (λ l. absurd (differ (sym (first-hit f n 0 (omega (arith, l))) ∙ h (firstFrom f n 0) l))) (λ l. le-ltb (firstFrom f n 0) n l) (lt-cases (firstFrom f n 0) n)
-  where
-    differ : true ≡ false → ⊥
-    differ e = let z : _≡_ {A = ℕ} 0 1 = ap (λ (b : Bool). cond b 0 1) e in omega arith
+no-first f n h = ⊎-elim (λ l. absurd (true≢false (sym (first-hit f n 0 (omega (arith, l))) ∙ h (firstFrom f n 0) l))) (λ l. le-ltb (firstFrom f n 0) n l) (lt-cases (firstFrom f n 0) n)
 
 pub nothing-wrong : (s out : List ℕ) → 12290 ≤ length out → length s % 32 ≡ 0 → lineCount s ≤ 1024 → ((i : ℕ) → i < lineCount s → Right s i)
     → asmOf s out ≡ sectionWritten (assembled s) out

@@ -36,7 +36,7 @@ printed-back : (r : Printed) → printedOf (printedPage r) ≡ r
 printed-back (Printed.Line n) = refl
 printed-back (Printed.Refused why) = refl
 
-pub printed-one : (r q : Printed) → printedPage r ≡ printedPage q → r ≡ q
+printed-one : (r q : Printed) → printedPage r ≡ printedPage q → r ≡ q
 printed-one = one printedOf printed-back
 
 pub one-printed : (r q : Printed) (b c : List ℕ) → left (printedPage r) b ≡ left (printedPage q) c → (r ≡ q) × (b ≡ c)

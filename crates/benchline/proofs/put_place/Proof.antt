@@ -12,7 +12,7 @@ returns c = rw (c .before .before .before .before .before .place .given .1) (wro
 
 returns-2 : tie.Need-returns-2
 unfolding placeText
-returns-2 c = rw (c .before .before .before .before .enum-told .given .1) (c .before .before .put-dashes .ensures)
+returns-2 c = rw (c .before .before .before .before .enum-told .given .1) (wrote-fits _ _ _ _ (omega (arith, c .before .before .before .before .before .before .before .pre)) (c .before .before .put-dashes .ensures))
 
 pub put-place-spec : {M : Type 1} → statement M
 put-place-spec =

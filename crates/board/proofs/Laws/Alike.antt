@@ -3,7 +3,7 @@ use Prim.Native.Nat.{ℕ, zero, suc, _+_, _/_, _%_, _<_}
 use native.Mathlib.Omega.{arith}
 use native.Mathlib.Decide.{ℕ-discrete, decLt}
 use mathlib.Core.Path.{_≡_, refl, sym, ap, _∙_, subst}
-use mathlib.Core.Bool.{Bool, true, false, not}
+use mathlib.Core.Bool.{Bool, true, false, not, true≢false}
 use mathlib.Core.List.{List}
 use lib.ListN.{getD, set, length, length-set}
 use lib.Seq.{getD-set-same, getD-set-other, set-out}
@@ -88,11 +88,8 @@ writable-odd : (map : List ℕ) (a : ℕ) → writable map (even a + 1) ≡ writ
 unfolding writable
 writable-odd map a = ap (λ (p : ℕ). eqb (getD map p 0) 1) (odd-page a)
 
-apart : true ≡ false → ⊥
-apart d = let z : _≡_ {A = ℕ} 0 1 = cc in omega arith
-
 set-kept : (map m : List ℕ) (i v a : ℕ) → writable map i ≡ true → writable map a ≡ false → getD (set m i v) a 0 ≡ getD m a 0
-set-kept map m i v a h e = getD-set-other m i a v 0 (λ d. apart (sym h ∙ ap (writable map) (sym d) ∙ e))
+set-kept map m i v a h e = getD-set-other m i a v 0 (λ d. true≢false (sym h ∙ ap (writable map) (sym d) ∙ e))
 
 put-kept : (map m : List ℕ) (z : Size) (b v a : ℕ) → writable map b ≡ true → writable map a ≡ false → getD (put z m b v) a 0 ≡ getD m a 0
 unfolding withWord withByte
@@ -119,7 +116,7 @@ kept map (writeAt z b v w) m x n h a e =
 
 unwritten-page : (p : ℕ) → not (eqb p 0) ≡ false → eqb p 1 ≡ false
 unwritten-page zero e = refl
-unwritten-page (suc p) e = absurd (apart (rw (ne-eqb (suc p) 0 (λ z. omega arith)) at e))
+unwritten-page (suc p) e = absurd (true≢false (rw (ne-eqb (suc p) 0 (λ z. omega arith)) at e))
 
 pub unfitted-unwritable : (map : List ℕ) (a : ℕ) → fitted map a ≡ false → writable map a ≡ false
 unfolding fitted writable

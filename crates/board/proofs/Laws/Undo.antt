@@ -60,7 +60,7 @@ back-same (suc n) l k m h =
     (back-same n l k _ (λ i p q. h i p (omega arith)))
 
 module _ (l : List ℕ) (a v : ℕ) (whole : length l ≡ 32) (few : logCount l < 15) where
-  note-address : getD (note l a v) (logCount l * 2 + 1) 0 ≡ a
+  pub note-address : getD (note l a v) (logCount l * 2 + 1) 0 ≡ a
   unfolding note
   note-address =
       getD-set-other (set (set l (logCount l * 2 + 1) a) (logCount l * 2 + 2) v) 0 (logCount l * 2 + 1) (logCount l + 1) 0 (λ e. omega arith)
@@ -73,7 +73,7 @@ module _ (l : List ℕ) (a v : ℕ) (whole : length l ≡ 32) (few : logCount l 
       getD-set-other (set (set l (logCount l * 2 + 1) a) (logCount l * 2 + 2) v) 0 (logCount l * 2 + 2) (logCount l + 1) 0 (λ e. omega arith)
       ∙ getD-set-same (set l (logCount l * 2 + 1) a) (logCount l * 2 + 2) v 0 (rw (length-set l (logCount l * 2 + 1) a) (omega arith))
 
-  note-below : (i : ℕ) → 0 < i → i ≤ logCount l * 2 → getD (note l a v) i 0 ≡ getD l i 0
+  pub note-below : (i : ℕ) → 0 < i → i ≤ logCount l * 2 → getD (note l a v) i 0 ≡ getD l i 0
   unfolding note
   note-below i p q =
       getD-set-other (set (set l (logCount l * 2 + 1) a) (logCount l * 2 + 2) v) 0 i (logCount l + 1) 0 (λ e. omega arith)

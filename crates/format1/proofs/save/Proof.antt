@@ -1,4 +1,3 @@
-use mathlib.Core.Path.{sym, _∙_}
 use Rattle.board.proofs.Laws.{got-then, got-gone, did}
 use Rattle.state.proofs.Laws.Answer.{went-is, went-none, went-store}
 use Rattle.format1.specs.Format1.{save}

@@ -1,53 +1,23 @@
-use mathlib.Core.Path.{refl, sym, ap, _∙_}
-use Rattle.board.specs.Work.{word, byte}
-use Rattle.board.proofs.Laws.{got-then, got-gone, did, word-is, word-none, byte-is, byte-none}
+use mathlib.Core.Path.{refl, sym, _∙_}
+use Rattle.board.specs.Work.{byte}
+use Rattle.board.proofs.Laws.{got-then, got-gone, did, byte-is, byte-none}
 use Rattle.state.proofs.Laws.Answer.{went-none, went-store}
-use Rattle.operand.specs.Operand.{writeTo}
 use Rattle.operand.proofs.Laws.Operand.{located, decoded, found-lost}
 use Rattle.operand.proofs.Laws.Destination.{never-found, never-read, held}
-use Rattle.opcodes.specs.declared.Binary.the-variants.{Mov}
-use Rattle.format10.specs.Format10.{onOperands, onto, settleByte}
-use Rattle.format10.proofs.Laws.Format10.{settle-yes}
+use Rattle.format10.specs.Format10.{onto, settleByte}
 use Rattle.format10.proofs.Laws.Direct.{placed, movb-code, byte-there}
 use borrow.Author.Needs.{needs}
 use Rattle.format10.proofs.onto_bytes.Statement.{statement}
 use Rattle.format10.proofs.onto_bytes.Tie as tie
 
-byte-step-requires : tie.Need-byte-step-requires
-byte-step-requires c κs = search needs
-
-reg-requires : tie.Need-reg-requires
-reg-requires c κs = search needs
-
 locate-requires : tie.Need-locate-requires
 locate-requires c κs = c .before .before .before .before .before .before .before .before .pre .lent
-
-enum-known-found : tie.Need-enum-known-found
-enum-known-found c = search needs
-
-enum-told : tie.Need-enum-told
-enum-told c = search needs
-
-unfound-requires : tie.Need-unfound-requires
-unfound-requires c κs = search needs
-
-same-length : tie.Need-same-length
-same-length c = search needs
 
 returns : tie.Need-returns
 unfolding onto
 returns c =
     rw (← c .before .before .before .before .before .before .before .before .before .destination-register .ensures, ← c .before .before .before .before .before .before .before .before .destination-mode .ensures)
     (did (went-store (c .unfound .result)) (c .before .before .before .before .before .before .before .before .before .before .before .before .pre) (got-gone _ (never-found byte _ _ _ (c .before .before .before .before .before .before .byte-step .ensures) (c .before .before .before .before .reg .ensures) (c .before .before .before .locate .ensures) (c .before .enum-told .given .1)) refl (found-lost (c .unfound .ensures) (c .before .enum-told .given .1))))
-
-moved-requires : tie.Need-moved-requires
-moved-requires c κs = search needs
-
-mov8-requires : tie.Need-mov8-requires
-mov8-requires c κs = search needs
-
-with-flags-requires : tie.Need-with-flags-requires
-with-flags-requires c κs = search needs
 
 move-byte-requires : tie.Need-move-byte-requires
 move-byte-requires c κs = c .before .before .before .before .before .before .before .before .before .before .before .before .before .before .before .before .before .before .pre
@@ -65,41 +35,14 @@ returns-2 c =
       board = c .before .before .move-byte .ensures .board;
     }))
 
-reg-requires-2 : tie.Need-reg-requires-2
-reg-requires-2 c κs = search needs
-
 read-byte-requires : tie.Need-read-byte-requires
 read-byte-requires c κs = c .before .before .before .before .before .before .before .before .before .before .before .before .before .before .before .before .pre .lent
-
-enum-known-y : tie.Need-enum-known-y
-enum-known-y c = search needs
-
-enum-told-2 : tie.Need-enum-told-2
-enum-told-2 c = search needs
-
-unanswered-requires : tie.Need-unanswered-requires
-unanswered-requires c κs = search needs
-
-same-length-3 : tie.Need-same-length-3
-same-length-3 c = search needs
 
 returns-3 : tie.Need-returns-3
 unfolding onto
 returns-3 c =
     rw (← c .before .before .before .before .before .before .before .before .before .before .before .before .before .before .before .before .before .destination-register .ensures, ← c .before .before .before .before .before .before .before .before .before .before .before .before .before .before .before .before .destination-mode .ensures)
     (did (went-store (c .unanswered .result)) (c .before .before .before .before .before .before .before .before .before .before .before .before .before .before .before .before .before .before .before .before .pre) (got-gone _ (never-read byte _ _ _ (c .before .before .before .before .before .before .before .before .before .before .before .before .before .before .byte-step .ensures) (c .before .before .before .before .before .before .before .before .before .before .before .before .reg .ensures) (c .before .before .before .before .before .before .before .before .before .before .before .locate .ensures) (c .before .before .before .before .before .before .before .before .before .found .given .1) (c .before .before .before .before .before .before .before .moved .ensures) (c .before .before .before .before .reg2 .ensures) (c .before .before .before .read-byte .ensures) (byte-none (c .before .enum-told2 .given .1))) refl (went-none (c .unanswered .ensures))))
-
-minus-requires : tie.Need-minus-requires
-minus-requires c κs = search needs
-
-byte-binary-at-requires : tie.Need-byte-binary-at-requires
-byte-binary-at-requires c κs = search needs
-
-byte-binary-requires : tie.Need-byte-binary-requires
-byte-binary-requires c κs = search needs
-
-with-flags-requires-2 : tie.Need-with-flags-requires-2
-with-flags-requires-2 c κs = search needs
 
 settle-byte-requires : tie.Need-settle-byte-requires
 settle-byte-requires c κs = c .before .before .before .before .before .before .before .before .before .before .before .before .before .before .before .before .before .before .before .before .before .before .before .before .before .before .pre
@@ -124,31 +67,31 @@ onto-bytes-spec =
     (λ c κs. search needs)
     (λ c κs. search needs)
     (λ c κs. search needs)
-    byte-step-requires
-    reg-requires
+    (λ c κs. search needs)
+    (λ c κs. search needs)
     locate-requires
-    enum-known-found
-    enum-told
-    unfound-requires
-    same-length
+    (λ c. search needs)
+    (λ c. search needs)
+    (λ c κs. search needs)
+    (λ c. search needs)
     returns
-    moved-requires
-    mov8-requires
-    with-flags-requires
+    (λ c κs. search needs)
+    (λ c κs. search needs)
+    (λ c κs. search needs)
     move-byte-requires
     same-length-2
     returns-2
-    reg-requires-2
+    (λ c κs. search needs)
     read-byte-requires
-    enum-known-y
-    enum-told-2
-    unanswered-requires
-    same-length-3
+    (λ c. search needs)
+    (λ c. search needs)
+    (λ c κs. search needs)
+    (λ c. search needs)
     returns-3
-    minus-requires
-    byte-binary-at-requires
-    byte-binary-requires
-    with-flags-requires-2
+    (λ c κs. search needs)
+    (λ c κs. search needs)
+    (λ c κs. search needs)
+    (λ c κs. search needs)
     settle-byte-requires
     same-length-4
     returns-4)

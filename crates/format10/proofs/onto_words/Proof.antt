@@ -1,50 +1,25 @@
-use mathlib.Core.Path.{refl, sym, ap, _∙_}
-use Rattle.board.specs.Work.{word, byte}
-use Rattle.board.proofs.Laws.{got-then, got-gone, did, word-is, word-none, byte-is, byte-none}
+use mathlib.Core.Path.{refl, sym, _∙_}
+use Rattle.board.specs.Work.{word}
+use Rattle.board.proofs.Laws.{got-then, got-gone, did, word-is, word-none}
 use Rattle.state.proofs.Laws.Answer.{went-none, went-store}
-use Rattle.operand.specs.Operand.{writeTo}
 use Rattle.operand.proofs.Laws.Operand.{located, decoded, found-lost}
 use Rattle.operand.proofs.Laws.Destination.{never-found, never-read, held}
 use Rattle.opcodes.specs.declared.Binary.the-variants.{Mov}
-use Rattle.format10.specs.Format10.{onOperands, onto, settleByte}
+use Rattle.format10.specs.Format10.{onto}
 use Rattle.format10.proofs.Laws.Format10.{settle-yes}
 use Rattle.format10.proofs.Laws.Direct.{placed, mov-code, word-there}
 use borrow.Author.Needs.{needs}
 use Rattle.format10.proofs.onto_words.Statement.{statement}
 use Rattle.format10.proofs.onto_words.Tie as tie
 
-reg-requires : tie.Need-reg-requires
-reg-requires c κs = search needs
-
 locate-requires : tie.Need-locate-requires
 locate-requires c κs = c .before .before .before .before .before .before .before .pre .lent
-
-enum-known-found : tie.Need-enum-known-found
-enum-known-found c = search needs
-
-enum-told : tie.Need-enum-told
-enum-told c = search needs
-
-unfound-requires : tie.Need-unfound-requires
-unfound-requires c κs = search needs
-
-same-length : tie.Need-same-length
-same-length c = search needs
 
 returns : tie.Need-returns
 unfolding onto
 returns c =
     rw (← c .before .before .before .before .before .before .before .before .destination-register .ensures, ← c .before .before .before .before .before .before .before .destination-mode .ensures)
     (did (went-store (c .unfound .result)) (c .before .before .before .before .before .before .before .before .before .before .before .pre) (got-gone _ (never-found word _ _ _ refl (c .before .before .before .before .reg .ensures) (c .before .before .before .locate .ensures) (c .before .enum-told .given .1)) refl (found-lost (c .unfound .ensures) (c .before .enum-told .given .1))))
-
-moved-requires : tie.Need-moved-requires
-moved-requires c κs = search needs
-
-mov16-requires : tie.Need-mov16-requires
-mov16-requires c κs = search needs
-
-with-flags-requires : tie.Need-with-flags-requires
-with-flags-requires c κs = search needs
 
 write-word-requires : tie.Need-write-word-requires
 write-word-requires c κs = c .before .before .before .before .before .before .before .before .before .before .before .before .before .before .before .before .before .pre
@@ -62,41 +37,14 @@ returns-2 c =
       board = c .before .before .write-word .ensures .board;
     }))
 
-reg-requires-2 : tie.Need-reg-requires-2
-reg-requires-2 c κs = search needs
-
 read-word-requires : tie.Need-read-word-requires
 read-word-requires c κs = c .before .before .before .before .before .before .before .before .before .before .before .before .before .before .before .pre .lent
-
-enum-known-y : tie.Need-enum-known-y
-enum-known-y c = search needs
-
-enum-told-2 : tie.Need-enum-told-2
-enum-told-2 c = search needs
-
-unanswered-requires : tie.Need-unanswered-requires
-unanswered-requires c κs = search needs
-
-same-length-3 : tie.Need-same-length-3
-same-length-3 c = search needs
 
 returns-3 : tie.Need-returns-3
 unfolding onto
 returns-3 c =
     rw (← c .before .before .before .before .before .before .before .before .before .before .before .before .before .before .before .before .destination-register .ensures, ← c .before .before .before .before .before .before .before .before .before .before .before .before .before .before .before .destination-mode .ensures)
     (did (went-store (c .unanswered .result)) (c .before .before .before .before .before .before .before .before .before .before .before .before .before .before .before .before .before .before .before .pre) (got-gone _ (never-read word _ _ _ refl (c .before .before .before .before .before .before .before .before .before .before .before .before .reg .ensures) (c .before .before .before .before .before .before .before .before .before .before .before .locate .ensures) (c .before .before .before .before .before .before .before .before .before .found .given .1) (c .before .before .before .before .before .before .before .moved .ensures) (c .before .before .before .before .reg2 .ensures) (c .before .before .before .read-word .ensures) (word-none (c .before .enum-told2 .given .1))) refl (went-none (c .unanswered .ensures))))
-
-binary-number-requires : tie.Need-binary-number-requires
-binary-number-requires c κs = search needs
-
-binary-at-requires : tie.Need-binary-at-requires
-binary-at-requires c κs = search needs
-
-binary-requires : tie.Need-binary-requires
-binary-requires c κs = search needs
-
-with-flags-requires-2 : tie.Need-with-flags-requires-2
-with-flags-requires-2 c κs = search needs
 
 settle-requires : tie.Need-settle-requires
 settle-requires c κs = c .before .before .before .before .before .before .before .before .before .before .before .before .before .before .before .before .before .before .before .before .before .before .before .before .before .pre
@@ -121,30 +69,30 @@ onto-words-spec =
     (λ c κs. search needs)
     (λ c κs. search needs)
     (λ c κs. search needs)
-    reg-requires
+    (λ c κs. search needs)
     locate-requires
-    enum-known-found
-    enum-told
-    unfound-requires
-    same-length
+    (λ c. search needs)
+    (λ c. search needs)
+    (λ c κs. search needs)
+    (λ c. search needs)
     returns
-    moved-requires
-    mov16-requires
-    with-flags-requires
+    (λ c κs. search needs)
+    (λ c κs. search needs)
+    (λ c κs. search needs)
     write-word-requires
     same-length-2
     returns-2
-    reg-requires-2
+    (λ c κs. search needs)
     read-word-requires
-    enum-known-y
-    enum-told-2
-    unanswered-requires
-    same-length-3
+    (λ c. search needs)
+    (λ c. search needs)
+    (λ c κs. search needs)
+    (λ c. search needs)
     returns-3
-    binary-number-requires
-    binary-at-requires
-    binary-requires
-    with-flags-requires-2
+    (λ c κs. search needs)
+    (λ c κs. search needs)
+    (λ c κs. search needs)
+    (λ c κs. search needs)
     settle-requires
     same-length-4
     returns-4)

@@ -11,7 +11,7 @@ use lib.Seq.{sets, sets-eq, take-at, drop-at, drop-drop, drop-cons, set-at, appe
 use Rattle.hexdigits.specs.Over.{inFrontOf, Wrote, WroteAt, textLeft, written, TextLeft}
 use borrow.Rule.Slice.PartMut.{midOf, putMid, post-is, same-len-mid}
 
-pub over-length : (xs b : List ℕ) → length xs ≤ length b → length (inFrontOf xs b) ≡ length b
+over-length : (xs b : List ℕ) → length xs ≤ length b → length (inFrontOf xs b) ≡ length b
 unfolding inFrontOf
 over-length xs b h = simp (length-append, length-drop) (omega arith)
 
@@ -21,14 +21,14 @@ unfolding inFrontOf
 over-sets vs b h = sets-eq vs b 0 (omega arith) ∙ ap (λ (n : ℕ). vs ++ drop n b) (zero-add (length vs))
 
 -- a writer that gets the part after p
-pub over-part : (p xs b : List ℕ) (a : ℕ) → length p ≡ a → take a (inFrontOf p b) ++ inFrontOf xs (drop a (inFrontOf p b)) ≡ inFrontOf (p ++ xs) b
+over-part : (p xs b : List ℕ) (a : ℕ) → length p ≡ a → take a (inFrontOf p b) ++ inFrontOf xs (drop a (inFrontOf p b)) ≡ inFrontOf (p ++ xs) b
 unfolding inFrontOf
 over-part p xs b a e =
     rw (take-at p (drop (length p) b) a e, drop-at p (drop (length p) b) a e)
     (rw (drop-drop, length-append, append-assoc) refl)
 
 -- one byte more
-pub over-set : (p b : List ℕ) (a c : ℕ) → length p ≡ a → a < length b → set (inFrontOf p b) a c ≡ inFrontOf (p ++ (c ∷ [])) b
+over-set : (p b : List ℕ) (a c : ℕ) → length p ≡ a → a < length b → set (inFrontOf p b) a c ≡ inFrontOf (p ++ (c ∷ [])) b
 unfolding inFrontOf
 over-set p b a c e h =
     let h′ : length p < length b = omega arith in

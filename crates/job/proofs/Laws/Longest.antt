@@ -141,7 +141,7 @@ sections-long (s ∷ rest) input at map e = by (λ a map k. sections-long rest i
         let rec = long (afterSection s input at) (fitPages s input (wordAt input at) (at + 2) map) (two .1) in
         omega (arith, rec, count-few s input at (one .0))
 
-pub job-long : (input : List ℕ) → whyJob input ≡ 0 → length input ≤ 25096
+job-long : (input : List ℕ) → whyJob input ≡ 0 → length input ≤ 25096
 unfolding whyJob sections
 job-long input e = sections-long (section.Pages ∷ section.Words ∷ section.Lines ∷ section.ReadOnly ∷ []) input 0 (replicate 256 0) e
 

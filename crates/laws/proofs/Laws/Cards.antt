@@ -37,7 +37,8 @@ use Rattle.laws.proofs.Laws.Taken.{taken-run, run-taken, run-answer-of,
 use Rattle.laws.proofs.Laws.Calls.{bytesFor, call-answered, run-not-refused, step-not-refused, tally-taken, stepped, step-call-is, blanks-word, mode-byte, cause-byte, number-no-blank}
 use Rattle.laws.proofs.Laws.More.{SoundStep}
 use Rattle.laws.proofs.Laws.More.{plugged-one, plugged-more, step-more, trail-more, run-more, none-first}
-use Rattle.laws.specs.Cards.{Plugged, Sound, settings, bareRack, card, image, before, ranIn, endSeen, heals, spares, RunPlugged, StepPlugged, Wd16StepPlugged, Wd16RunPlugged, BothSuffice, BlankNeeded, LockNeeded}
+use Rattle.endline.specs.Report.{benchBoard}
+use Rattle.laws.specs.Cards.{Plugged, Sound, bareRack, card, image, before, ranIn, endSeen, heals, spares, RunPlugged, StepPlugged, Wd16StepPlugged, Wd16RunPlugged, BothSuffice, BlankNeeded, LockNeeded}
 
 -- ---- A RUN
 
@@ -144,21 +145,21 @@ image-size : length image ≡ 65536
 unfolding withWord
 image-size = simp (length-set, length-replicate)
 
-bare-taken : (m : List ℕ) → length m ≡ 65536 → powerWhy settings m bareRack ≡ 0
+bare-taken : (m : List ℕ) → length m ≡ 65536 → powerWhy benchBoard m bareRack ≡ 0
 unfolding powerRefusal boardRefusal allOf
 bare-taken m l = rw l
 
-card-taken : (m : List ℕ) → length m ≡ 65536 → powerWhy settings m card ≡ 0
+card-taken : (m : List ℕ) → length m ≡ 65536 → powerWhy benchBoard m card ≡ 0
 unfolding powerRefusal boardRefusal allOf
 card-taken m l = rw l
 
 -- what a run over one line word that isn't refused answers and leaves
-met : (map : List ℕ) (line : ℕ) (s : State) (m : List ℕ) → powerWhy settings m map ≡ 0 → plain line ≡ true
-    → (let x = runOf settings map (line ∷ []) s m in left (finishedPage (Finished.Done (ranIn x))) (imageIn x) ≡ runPage settings m map (line ∷ []) s)
+met : (map : List ℕ) (line : ℕ) (s : State) (m : List ℕ) → powerWhy benchBoard m map ≡ 0 → plain line ≡ true
+    → (let x = runOf benchBoard map (line ∷ []) s m in left (finishedPage (Finished.Done (ranIn x))) (imageIn x) ≡ runPage benchBoard m map (line ∷ []) s)
 unfolding allOf
 met map line s m e h =
-    let x = runOf settings map (line ∷ []) s m in
-    run-answered settings m map (line ∷ []) s (ranIn x) (imageIn x) (taken-run settings m map (line ∷ []) (record { board = e; few = omega arith; unused = rw h })) (whole x)
+    let x = runOf benchBoard map (line ∷ []) s m in
+    run-answered benchBoard m map (line ∷ []) s (ranIn x) (imageIn x) (taken-run benchBoard m map (line ∷ []) (record { board = e; few = omega arith; unused = rw h })) (whole x)
   where
     whole : (x : End) → ranOf (ranIn x) (imageIn x) ≡ x
     whole (end t n y) = refl
@@ -182,7 +183,7 @@ apart a b c d e f g h x y p q r = cc
 pub blank-needed : BlankNeeded
 blank-needed law =
     let same : Finished.Done (ranIn (heals card)) ≡ Finished.Done (ranIn (heals bareRack)) =
-    law settings bareRack card (1 ∷ []) (before 0x200) image (imageIn (heals bareRack)) (imageIn (heals card)) (ranIn (heals bareRack)) (Finished.Done (ranIn (heals card)))
+    law benchBoard bareRack card (1 ∷ []) (before 0x200) image (imageIn (heals bareRack)) (imageIn (heals card)) (ranIn (heals bareRack)) (Finished.Done (ranIn (heals card)))
     plugged (card-taken image image-size) not-locked
     (met bareRack 1 (before 0x200) image (bare-taken image image-size) refl) (met card 1 (before 0x200) image (card-taken image image-size) refl) in
     let pc : _≡_ {A = ℕ} 0x200 0x400 = apart _ _ _ _ _ _ _ _ _ _ blank-row healed-row (ap seenIn same) in
@@ -191,7 +192,7 @@ blank-needed law =
 pub lock-needed : LockNeeded
 lock-needed law =
     let same : Finished.Done (ranIn (spares card)) ≡ Finished.Done (ranIn (spares bareRack)) =
-    law settings bareRack card (2 ∷ []) (before 0x500) image (imageIn (spares bareRack)) (imageIn (spares card)) (ranIn (spares bareRack)) (Finished.Done (ranIn (spares card)))
+    law benchBoard bareRack card (2 ∷ []) (before 0x500) image (imageIn (spares bareRack)) (imageIn (spares card)) (ranIn (spares bareRack)) (Finished.Done (ranIn (spares card)))
     plugged (card-taken image image-size) no-blanks
     (met bareRack 2 (before 0x500) image (bare-taken image image-size) refl) (met card 2 (before 0x500) image (card-taken image image-size) refl) in
     let pc : _≡_ {A = ℕ} 0x100 0x300 = apart _ _ _ _ _ _ _ _ _ _ locked-row spared-row (ap seenIn same) in

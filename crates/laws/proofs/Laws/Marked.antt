@@ -29,7 +29,7 @@ use Rattle.operand.specs.declared.Place.{Place}
 use Rattle.operand.specs.declared.Place.the-variants.{Reg, Mem}
 use Rattle.operand.specs.Operand.{Seen, moved, decode, writeTo}
 use Rattle.operand.specs.Destination.{Holding, operandOf, destination}
-use Rattle.format1.specs.Format1.{xctError, bpt, save, savs, rest, rtt, rrtn, rrtt, rsts, rsvc, format1}
+use Rattle.format1.specs.Format1.{xctError, bpt, pushThree, popThree, save, savs, rest, rtt, rrtn, rrtt, rsts, rsvc, format1}
 use Rattle.formats2to4.specs.Low.{formats2to4, lowCodes}
 use Rattle.formats2to4.specs.Format2.{rtn, msko, prtn, lcc, format2}
 use Rattle.formats2to4.specs.Format4.{svca, svc, format4}
@@ -111,7 +111,7 @@ two-unmarked out s op e =
     (always-cond Unmarked (eqb (format2Code op) 4) (msko s (onlyRegister op)) (prtn s (onlyRegister op)) e (λ v w. e)))
 
 four-unmarked : (out : Outside) (s : State) (op : ℕ) → Unmarked s → Always Unmarked (format4 out s op)
-unfolding Always format4 svca svc save pushReg push pushBoth fromLoc tabled _>>=_ withReg
+unfolding Always format4 svca svc save pushThree pushReg push pushBoth fromLoc tabled _>>=_ withReg
 four-unmarked out s op e =
     always-cond Unmarked (eqb (format4Code op) 1) (svca out s (argument op)) _ (λ v w. e)
     (always-cond Unmarked (eqb (format4Code op) 2) (svc out s (argument op) 0x24) (svc out s (argument op) 0x26) (λ v. e) (λ v. e))
@@ -271,7 +271,7 @@ none : {A : Type 0} → false ≡ true → A
 none e = let z : _≡_ {A = ℕ} 0 1 = cc in absurd (omega arith)
 
 low-marks : (out : Outside) (s : State) → Unmarked s → Below (λ op. Always (MarkOf op s) (execute out s op)) 16
-unfolding Always Below byFormat lowCodes format1 formatOf bpt save savs rest rtt rrtn rrtt rsts rsvc push pushReg pop popReg popStatus fetch fromLoc pushBoth _>>=_ withReg withI2 withMode withMark withStatus
+unfolding Always Below byFormat lowCodes format1 formatOf bpt pushThree popThree save savs rest rtt rrtn rrtt rsts rsvc push pushReg pop popReg popStatus fetch fromLoc pushBoth _>>=_ withReg withI2 withMode withMark withStatus
 low-marks out s e = (
   (
     (

@@ -92,7 +92,7 @@ module _ (map : List ℕ) (out : Outside) (s : State) (m : List ℕ) where
 -- ---- a trail
 
 -- locked once, locked to the end
-pub trail-locked : (settings : Settings) (map lines : List ℕ) (s : State) (m : List ℕ) (c : Cause) → s .mode ≡ Locked → lastAfter (after s m c) (trailOf settings map lines s m) .state .mode ≡ Locked
+trail-locked : (settings : Settings) (map lines : List ℕ) (s : State) (m : List ℕ) (c : Cause) → s .mode ≡ Locked → lastAfter (after s m c) (trailOf settings map lines s m) .state .mode ≡ Locked
 unfolding trailOf
 trail-locked settings map [] s m c e = e
 trail-locked settings map (x ∷ xs) s m c e =

@@ -31,7 +31,7 @@ use Rattle.laws.proofs.Laws.Calls.{cause-byte}
 use Rattle.laws.specs.One.{asRun, uncaused, oneTally, OneCall}
 
 -- 4 can't apply to one line word, and 5 is asked of it alone
-pub one-refusal : (settings : Settings) (m map : List ℕ) (line : ℕ) → runWhy settings m map (line ∷ []) ≡ stepWhy settings m map line
+one-refusal : (settings : Settings) (m map : List ℕ) (line : ℕ) → runWhy settings m map (line ∷ []) ≡ stepWhy settings m map line
 unfolding runRefusal linesRefusal stepRefusal allOf
 one-refusal settings m map line = ap (first (powerWhy settings m map)) (split (plain line))
   where

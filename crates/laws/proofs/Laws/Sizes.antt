@@ -29,7 +29,7 @@ or-size map m w k other h = came (run map w m) refl
     came (value s n) e = value-size map w m s n e
     came (blank a) e = h a
 
-pub step-size : (map : List ℕ) (out : Outside) (s : State) (m : List ℕ) → length (stepOf map out s m .image) ≡ length m
+step-size : (map : List ℕ) (out : Outside) (s : State) (m : List ℕ) → length (stepOf map out s m .image) ≡ length m
 unfolding stepOf errorOf
 step-size map out s m =
     let k = kindOf s out in

@@ -24,7 +24,7 @@ listed-back (Line n a) = refl
 listed-back (Last n) = refl
 listed-back (Refused why) = refl
 
-pub listed-one : (r q : Listed) → listedPage r ≡ listedPage q → r ≡ q
+listed-one : (r q : Listed) → listedPage r ≡ listedPage q → r ≡ q
 listed-one = one listedOf listed-back
 
 -- ONE ANSWER, AND ONE TEXT

@@ -75,11 +75,11 @@ pairs (a ∷ c ∷ d ∷ e ∷ f ∷ []) (suc (suc (suc k))) h l g = absurd (ome
 pairs (a ∷ c ∷ d ∷ e ∷ f ∷ i ∷ b) (suc (suc (suc zero))) h l g = rw (low-of a c (h 0), high-of a c (h 0), low-of d e (h 2), high-of d e (h 2), low-of f i (h 4), high-of f i (h 4)) refl
 pairs (a ∷ c ∷ d ∷ e ∷ f ∷ i ∷ b) (suc (suc (suc (suc k)))) h l g = absurd (omega arith)
 
-pub front-bytes : (b : List ℕ) (m : ℕ) → ((i : ℕ) → getD b i 0 < 256) → m ≤ length (wordsIn b) → m ≤ 3 → bytesIn (take m (wordsIn b)) ≡ take (m * 2) b
+front-bytes : (b : List ℕ) (m : ℕ) → ((i : ℕ) → getD b i 0 < 256) → m ≤ length (wordsIn b) → m ≤ 3 → bytesIn (take m (wordsIn b)) ≡ take (m * 2) b
 front-bytes b m h k l = ap bytesIn (words-front b m k) ∙ pairs b m h l (words-within b m k l)
 
 -- and the words of an op code's bytes are its words
-pub words-again : (ws : List ℕ) → 0 < length ws → length ws ≤ 3 → wordsIn (bytesIn ws) ≡ ws
+words-again : (ws : List ℕ) → 0 < length ws → length ws ≤ 3 → wordsIn (bytesIn ws) ≡ ws
 unfolding wordsIn
 words-again [] h l = absurd (omega arith)
 words-again (x ∷ []) h l = rw (word-again x) refl

@@ -85,7 +85,7 @@ mode-commas f x = either (Without 44) (eqb (f / 8 % 2) 0) _ _ (plain-commas (f /
 -- ---- texts apart
 
 -- ends as long as each other
-pub ends-same : (xs ys us vs : List ℕ) → length us ≡ length vs → xs ++ us ≡ ys ++ vs → (xs ≡ ys) × (us ≡ vs)
+ends-same : (xs ys us vs : List ℕ) → length us ≡ length vs → xs ++ us ≡ ys ++ vs → (xs ≡ ys) × (us ≡ vs)
 ends-same [] [] us vs l e = (refl, e)
 ends-same [] (y ∷ ys) us vs l e = let n = ap length e in absurd (omega (arith, n, l, length-append ys vs))
 ends-same (x ∷ xs) [] us vs l e = let n = ap length e in absurd (omega (arith, n, l, length-append xs us))

@@ -37,7 +37,7 @@ last-at x (y ∷ t) = last-at y t
 
 module _ (t : List ℕ) (s : Stands t) where
   -- no label: there is no colon
-  pub no-label : labelOf (padded t) ≡ []
+  no-label : labelOf (padded t) ≡ []
   unfolding labelOf gives padded
   no-label =
       let u : List ℕ = nameIn (t ++ replicate (32 - length t) 32) in
@@ -68,7 +68,7 @@ text-end (x ∷ t) p h =
     rw (q, not-at 32 (lastLetter x t) h) refl
 
 -- THE TEXT IS THE REST OF ITS LINE
-pub rest-is : (t : List ℕ) → Stands t → restOf (padded t) ≡ t
+rest-is : (t : List ℕ) → Stands t → restOf (padded t) ≡ t
 unfolding restOf withoutPadding padded
 rest-is t s = rw (no-label t s) found
   where

@@ -1,6 +1,6 @@
 -- The theorems that specs/Rising.antt states.
 use mathlib.Core.Path.{_≡_, refl, ap, sym, _∙_, subst}
-use mathlib.Core.Bool.{Bool, true, false, cond, _&&_}
+use mathlib.Core.Bool.{Bool, true, false, cond, _&&_, true≢false}
 use mathlib.Core.Logic.{_⊎_, inl, inr, ⊎-elim}
 use mathlib.Core.List.{List, [], _∷_}
 use Prim.Native.Nat.{ℕ, zero, suc, _+_, _*_, _%_, _≤_, _<_}
@@ -37,13 +37,8 @@ InPlace s i = (k : ℕ) → k < i → misplaced s k ≡ false
 
 -- ---- tests that fail
 
-no : true ≡ false → ⊥
-no e =
-    let z : _≡_ {A = ℕ} 0 1 = ap (λ (b : Bool). cond b 0 1) e in
-    omega arith
-
 cond-left : (a b : Bool) → cond a true b ≡ false → (a ≡ false) × (b ≡ false)
-cond-left true b e = absurd (no e)
+cond-left true b e = absurd (true≢false e)
 cond-left false b e = (refl, e)
 
 module _ (s : List ℕ) (i : ℕ) (e : misplaced s i ≡ false) where
@@ -166,7 +161,7 @@ module _ (s : List ℕ) (i : ℕ) (p : misplaced s i ≡ false) (v : originAt s 
   lies-apart : (a : ℕ) → originAt s i ≤ a → a < endAt s i → (b : ℕ) → Lies s i b → Not a b
   lies-apart a f t b z e =
       let q = apart s i p (z .line) (z .earlier) in
-      no (sym (rw (
+      true≢false (sym (rw (
         lt-ltb (originAt s i) (endAt s (z .line)) (omega (arith, f, e, z .below)),
         lt-ltb (originAt s (z .line)) (endAt s i) (omega (arith, t, e, z .from)),
         lt-ltb (originAt s i) (endAt s i) (omega (arith, f, t)),
@@ -179,7 +174,7 @@ module _ (s : List ℕ) (i : ℕ) (p : misplaced s i ≡ false) (v : originAt s 
 
   record Stage (m : ℕ) (l : List ℕ) : Type 0 where
     pub rises : Rises 0 l
-    pub upto : Each (Upto m) l
+    upto : Each (Upto m) l
 
   upto-apart : (a : ℕ) (l : List ℕ) → originAt s i ≤ a → a < endAt s i → Each (Upto a) l → Each (Not a) l
   upto-apart a [] f t u = tt

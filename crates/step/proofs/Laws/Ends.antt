@@ -1,6 +1,6 @@
 -- A step's ends: from what the work came to on the board to the step's definition on the image alone.
 use Prim.Native.Nat.{ℕ, zero, suc}
-use mathlib.Core.Bool.{Bool, true, false, not, _||_, cond}
+use mathlib.Core.Bool.{Bool, true, false, not, _||_, cond, true≢false}
 use mathlib.Core.List.{List, [], _∷_}
 use mathlib.Core.Path.{_≡_, refl, sym, ap, _∙_}
 use native.Mathlib.Omega.{arith}
@@ -63,24 +63,21 @@ module _ (settings : Settings) (map m : List ℕ) {s t : State} {out : Outside} 
 
 -- ---- a step is an op code, or it is not
 
-pub unlike : true ≡ false → ⊥
-unlike e = let z : _≡_ {A = ℕ} 0 1 = cc in absurd (omega arith)
-
 pub no-code : {k : Kind} → k ≡ OpCode → isCode k ≡ false → ⊥
-no-code e h = unlike (sym (ap isCode e) ∙ h)
+no-code e h = true≢false (sym (ap isCode e) ∙ h)
 
 pub code-is : (k : Kind) → isCode k ≡ true → k ≡ OpCode
 code-is OpCode e = refl
-code-is HaltEnd e = absurd (unlike (sym e))
-code-is Boots e = absurd (unlike (sym e))
-code-is Saves e = absurd (unlike (sym e))
-code-is LocksUp e = absurd (unlike (sym e))
-code-is Restarts e = absurd (unlike (sym e))
-code-is Restores e = absurd (unlike (sym e))
-code-is NonVectored e = absurd (unlike (sym e))
-code-is Vectored e = absurd (unlike (sym e))
-code-is Waits e = absurd (unlike (sym e))
-code-is Stuck e = absurd (unlike (sym e))
+code-is HaltEnd e = absurd (true≢false (sym e))
+code-is Boots e = absurd (true≢false (sym e))
+code-is Saves e = absurd (true≢false (sym e))
+code-is LocksUp e = absurd (true≢false (sym e))
+code-is Restarts e = absurd (true≢false (sym e))
+code-is Restores e = absurd (true≢false (sym e))
+code-is NonVectored e = absurd (true≢false (sym e))
+code-is Vectored e = absurd (true≢false (sym e))
+code-is Waits e = absurd (true≢false (sym e))
+code-is Stuck e = absurd (true≢false (sym e))
 
 -- no option is an op code
 halt-no-code : (n : ℕ) → isCode (getD (Boots ∷ Saves ∷ LocksUp ∷ Restarts ∷ []) n Restarts) ≡ false
@@ -103,9 +100,9 @@ option-no-code settings e = ap isCode e ∙ power-no-code (settings .powerup) _ 
 
 -- where nothing is asked for, the mode alone tells whether a step is an op code
 not-any : (a b c : Bool) → not (a || b || c) ≡ true → (a ≡ false) × (b ≡ false) × (c ≡ false)
-not-any true b c e = absurd (unlike (sym e))
-not-any false true c e = absurd (unlike (sym e))
-not-any false false true e = absurd (unlike (sym e))
+not-any true b c e = absurd (true≢false (sym e))
+not-any false true c e = absurd (true≢false (sym e))
+not-any false false true e = absurd (true≢false (sym e))
 not-any false false false e = (refl, refl, refl)
 
 calm-in : (mode : Mode) (hearing : Bool) (out : Outside) → (out .i3 ≡ false) × (out .i1 ≡ false) × (out .i0 ≡ false) → isCode (kindIn mode hearing out) ≡ running mode

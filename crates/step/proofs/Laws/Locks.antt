@@ -1,7 +1,7 @@
 -- Laws of specs/Locks.antt.
 use Prim.Native.Nat.{ℕ, zero, suc, _/_}
 use native.Mathlib.Omega.{arith}
-use mathlib.Core.Bool.{Bool, true, false, cond}
+use mathlib.Core.Bool.{Bool, true, false, cond, true≢false}
 use mathlib.Core.List.{List, [], _∷_}
 use mathlib.Core.Path.{_≡_, refl, sym, ap, _∙_, subst}
 use lib.ListN.{getD}
@@ -20,7 +20,6 @@ use Rattle.step.specs.Places.{pickUp, pickUpRegisters, restore}
 use Rattle.step.specs.Step.{after, causeNumber, causeOf, hears, kindIn, kindOf, haltOption, workOf, stepOf}
 use Rattle.step.specs.Told.{workAnswered, Low}
 use Rattle.step.specs.Locks.{Fetches, haltEnd, restarts, restores, LocksUp, before, byOption}
-use Rattle.step.proofs.Laws.Ends.{unlike}
 use Rattle.step.proofs.Laws.Restart.{restart-low, restore-low, same-page, low-unfitted, low-locks}
 use Rattle.step.proofs.Laws.Told.{isValue, reaches}
 
@@ -52,7 +51,7 @@ cant-fetch map out s m {k} {a} x e h =
     low-locks map out s m l (ap (λ (z : Kind). run map (workOf z out s) m) e ∙ first-blank x map out s m f)
   where
     came : Low (workOf (kindOf s out) out s) → (c : Came State) → run map (workOf (kindOf s out) out s) m ≡ c → isValue (run map (workOf (kindOf s out) out s) m) ≡ false → fitted map 0x12 ≡ false
-    came l (value t n) r g = absurd (unlike (sym (ap isValue r) ∙ g))
+    came l (value t n) r g = absurd (true≢false (sym (ap isValue r) ∙ g))
     came l (blank b) r g = low-unfitted map m l r
 
 -- ---- A STEP WHOSE WORK IS DONE AND WHICH ANSWERS 8 was locked before, or is locked by the halt option

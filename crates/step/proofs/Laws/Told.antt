@@ -1,7 +1,7 @@
 -- Which address a step tells: that of the first access, in the manual's order, that finds nothing fitted; in the work that is dropped, never in the trap.
 use Prim.Native.Nat.{ℕ}
 use native.Mathlib.Omega.{arith}
-use mathlib.Core.Bool.{Bool, true, false, not, _&&_, cond}
+use mathlib.Core.Bool.{Bool, true, false, not, _&&_, cond, true≢false}
 use mathlib.Core.List.{List, [], _∷_}
 use mathlib.Core.Path.{_≡_, refl, sym, ap, _∙_, subst}
 use Rattle.board.specs.Work.{Work, give, readAt, writeAt, Came, value, blank, found, fitted, writable, get, put, run}
@@ -14,7 +14,7 @@ use Rattle.step.specs.declared.Kind.the-variants.{OpCode, HaltEnd, Boots
 use Rattle.step.specs.declared.Cause.the-variants.{LockedAt}
 use Rattle.step.specs.declared.Told.the-variants.{Nowhere, At}
 use Rattle.step.specs.Step.{After, after, causeAddress, isBlank, causeOf, errorCauseOf, kindOf, workOf, busError, orAt, errorOf, stepOf}
-use Rattle.step.proofs.Laws.Ends.{unlike, step-well}
+use Rattle.step.proofs.Laws.Ends.{step-well}
 use Rattle.step.proofs.Laws.Causes.{blank-error, blank-counted, value-no-blank}
 use Rattle.step.specs.Told.{Access, reads, writes, reached, answered, accesses, allAnswered, StopsAt, here, later, workAnswered, trapAnswered, isBlankStep}
 
@@ -121,14 +121,14 @@ module _ (map : List ℕ) (out : Outside) (s : State) (m : List ℕ) where
     where
       came : (c : Came State) → run map (workOf (kindOf s out) out s) m ≡ c → Done (stepOf map out s m)
       came (value t n) r = subst (λ (x : After). Done x) (step-well map out s m refl r refl) (done t n r)
-      came (blank a) r = absurd (unlike (sym h ∙ reaches map (workOf (kindOf s out) out s) m ∙ ap isValue r))
+      came (blank a) r = absurd (true≢false (sym h ∙ reaches map (workOf (kindOf s out) out s) m ∙ ap isValue r))
 
   pub step-dropped : workAnswered map out s m ≡ false → Dropped (stepOf map out s m)
   unfolding errorOf
   step-dropped h = came (run map (workOf (kindOf s out) out s) m) refl (run map (busError (kindOf s out) out s) m) refl
     where
       came : (c : Came State) → run map (workOf (kindOf s out) out s) m ≡ c → (d : Came State) → run map (busError (kindOf s out) out s) m ≡ d → Dropped (stepOf map out s m)
-      came (value t n) r d q = absurd (unlike (sym (ap isValue r) ∙ sym (reaches map (workOf (kindOf s out) out s) m) ∙ h))
+      came (value t n) r d q = absurd (true≢false (sym (ap isValue r) ∙ sym (reaches map (workOf (kindOf s out) out s) m) ∙ h))
       came (blank a) r (value t n) q =
           let e : stepOf map out s m ≡ after t n (errorCauseOf (kindOf s out) a) =
           blank-error map out s m r ∙ ap (λ c. orAt c (errorCauseOf (kindOf s out) a) (λ _. after (withMode s Locked) m (LockedAt a))) q in

@@ -6,13 +6,12 @@ use mathlib.Core.Bool.{Bool, true, false, cond}
 use mathlib.Core.List.{List, [], _∷_, _++_, append-assoc, append-nil}
 use mathlib.Core.Path.{_≡_, refl, sym, ap, _∙_}
 use lib.ListN.{getD, set, length}
-use lib.Seq.{getD-set-same, getD-set-other}
 use Rattle.board.specs.Work.{Work, give, readAt, writeAt, fitted, writable, get, put, wordAt, run, value, blank}
 use Rattle.board.specs.Exec.{Store, beside, Now, good, logCount, logRoom, note, withNote, allowed, exec, Board, Got}
 use Rattle.board.proofs.Laws.{board-noted, count-note, room-few}
 use Rattle.board.proofs.Laws.Exec.{stateOf}
 use Rattle.board.proofs.Laws.Ended.{Fresh}
-use Rattle.board.proofs.Laws.Undo.{none-left}
+use Rattle.board.proofs.Laws.Undo.{note-address, note-below, none-left}
 use Rattle.state.specs.declared.State.{State}
 use Rattle.state.specs.declared.Outside.{Outside}
 use Rattle.step.specs.declared.Kind.{Kind}
@@ -28,23 +27,9 @@ entries-same zero l k h = refl
 entries-same (suc n) l k h = rw (h (n * 2 + 1) (omega arith) (omega arith), entries-same n l k (λ i p q. h i p (omega arith))) refl
 
 module _ (l : List ℕ) (a v : ℕ) (whole : length l ≡ 32) (few : logCount l < 15) where
-  note-address : getD (note l a v) (logCount l * 2 + 1) 0 ≡ a
-  unfolding note
-  note-address =
-      getD-set-other (set (set l (logCount l * 2 + 1) a) (logCount l * 2 + 2) v) 0 (logCount l * 2 + 1) (logCount l + 1) 0 (λ e. omega arith)
-      ∙ getD-set-other (set l (logCount l * 2 + 1) a) (logCount l * 2 + 2) (logCount l * 2 + 1) v 0 (λ e. omega arith)
-      ∙ getD-set-same l (logCount l * 2 + 1) a 0 (omega arith)
-
-  note-below : (i : ℕ) → 0 < i → i ≤ logCount l * 2 → getD (note l a v) i 0 ≡ getD l i 0
-  unfolding note
-  note-below i p q =
-      getD-set-other (set (set l (logCount l * 2 + 1) a) (logCount l * 2 + 2) v) 0 i (logCount l + 1) 0 (λ e. omega arith)
-      ∙ getD-set-other (set l (logCount l * 2 + 1) a) (logCount l * 2 + 2) i v 0 (λ e. omega arith)
-      ∙ getD-set-other l (logCount l * 2 + 1) i a 0 (λ e. omega arith)
-
   entry-more : entries (suc (logCount l)) (note l a v) ≡ entries (logCount l) l ++ (a ∷ [])
   unfolding entries
-  entry-more = rw (note-address, entries-same (logCount l) l (note l a v) note-below) refl
+  entry-more = rw (note-address l a v whole few, entries-same (logCount l) l (note l a v) (note-below l a v whole few)) refl
 
   noted-more : addresses (note l a v) ≡ addresses l ++ (a ∷ [])
   noted-more = ap (λ n. entries n (note l a v)) (count-note l a v whole ∙ add-one (logCount l)) ∙ entry-more
