@@ -7,7 +7,7 @@ use Prim.Native.Nat.{ℕ, zero, suc, _+_, _*_, _≤_, _<_}
 use native.Mathlib.Omega.{arith}
 use lib.Dec.{T, ltb, leb, eqb, eqb→eq, leb→le, ltb→lt}
 use borrow.Author.Tests.{eq-eqb}
-use lib.ListN.{length, getD, drop, List·getD-append, List·getD-eq-default}
+use lib.ListN.{length, getD, take, drop, List·getD-append, List·getD-eq-default}
 use lib.Seq.{getD-drop, drop-append-add}
 use Rattle.optext.specs.declared.rows.Kind.{Kind}
 use Rattle.optext.specs.declared.rows.Kind.the-variants.{None, Mask, Disp, Reg, Arg4, Arg6, Count, High, Mid, Dst, Addr, Src, Word}
@@ -49,11 +49,6 @@ line-name r (suc (suc zero)) h = refl
 line-name r (suc (suc (suc zero))) h = refl
 line-name r (suc (suc (suc (suc zero)))) h = refl
 line-name r (suc (suc (suc (suc (suc i))))) h = absurd (omega arith)
-
-pub any-default : (l : List ℕ) (i d e : ℕ) → i < length l → getD l i d ≡ getD l i e
-any-default [] i d e h = absurd (omega arith)
-any-default (x ∷ l) zero d e h = refl
-any-default (x ∷ l) (suc i) d e h = any-default l i d e (omega arith)
 
 -- the letters of the operands
 pub kind-back : (k : Kind) → kindAs (letterOf k) ≡ k
@@ -120,6 +115,20 @@ pub name-space : (k i : ℕ) → k < rowCount → i < length (nameOf k) → getD
 unfolding noSpace theRow rows
 name-space k i h g e = no-space (nameOf k) i (at (λ k. noSpace (nameOf k)) rowCount tt k h) g e
 
+-- the mnemonic stands in front of its row
+name-take : (l s : List ℕ) → length l ≤ 5 → take (length l) (getD l 0 32 ∷ getD l 1 32 ∷ getD l 2 32 ∷ getD l 3 32 ∷ getD l 4 32 ∷ s) ≡ l
+name-take [] s h = refl
+name-take (a ∷ []) s h = refl
+name-take (a ∷ b ∷ []) s h = refl
+name-take (a ∷ b ∷ c ∷ []) s h = refl
+name-take (a ∷ b ∷ c ∷ d ∷ []) s h = refl
+name-take (a ∷ b ∷ c ∷ d ∷ e ∷ []) s h = refl
+name-take (a ∷ b ∷ c ∷ d ∷ e ∷ f ∷ l) s h = absurd (omega arith)
+
+pub name-part : (k n : ℕ) (t : List ℕ) → k < rowCount → t ≡ tableBytes rows → n ≡ length (nameOf k) → take n (drop (k * rowWidth) t) ≡ nameOf k
+unfolding theRow
+name-part k n t h e q = rw (e, q, flat-drop rows k (rw row-count h)) (name-take (nameOf k) _ (name-le k h))
+
 -- where a mnemonic ends: at the first space of its five places
 pub name-ends : (k i c : ℕ) → k < rowCount → i ≤ length (nameOf k) → i < 5 → c ≡ getD (rowBytes (theRow k)) i 0 → c ≡ 32 → i ≡ length (nameOf k)
 name-ends k i c h l g e q =
@@ -128,9 +137,6 @@ name-ends k i c h l g e q =
 pub name-goes : (k i c : ℕ) → i < 5 → c ≡ getD (rowBytes (theRow k)) i 0 → (c ≡ 32 → ⊥) → i < length (nameOf k)
 name-goes k i c g e n =
     ⊎-elim (λ m. m) (λ m. absurd (n (e ∙ line-name (theRow k) i g ∙ List·getD-eq-default (nameOf k) 32 m))) (lt-cases i (length (nameOf k)))
-
-pub name-letter : (k i c : ℕ) → i < 5 → i < length (nameOf k) → c ≡ getD (rowBytes (theRow k)) i 0 → c ≡ getD (nameOf k) i 0
-name-letter k i c g l e = e ∙ line-name (theRow k) i g ∙ any-default (nameOf k) i 32 0 l
 
 -- a base op code is a word
 pub base-lt : (k : ℕ) → k < rowCount → baseOf k < 65536

@@ -15,16 +15,16 @@ less w r b x y e h q = omega arith
 
 returns : tie.Need-returns
 returns c =
-    let e : c .before .base-in .result ≡ baseOf (c .before .before .before .args .k) = c .before .base-in .ensures in
-    let h : c .before .before .before .args .w < c .before .base-in .result = c .if1 .taken in
-    sym (ne-eqb _ _ (λ q. less (c .before .before .before .args .w) (c .before .base-in .result) (baseOf (c .before .before .before .args .k)) _ _ e h q))
+    let e : c .before .base .result ≡ baseOf (c .before .before .before .args .k) = c .before .base .ensures in
+    let h : c .before .before .before .args .w < c .before .base .result = c .if1 .taken in
+    sym (ne-eqb _ _ (λ q. less (c .before .before .before .args .w) (c .before .base .result) (baseOf (c .before .before .before .args .k)) _ _ e h q))
 
 returns-2 : tie.Need-returns-2
 unfolding hex4
 returns-2 c =
     let f = c .before .before .before .before .kind-of .ensures ∙ ap kindAs (c .before .before .before .before .before .letter-in .ensures) ∙ kind-back (firstOf (c .before .before .before .before .before .before .before .before .before .args .k)) in
     let s = c .before .kind-of2 .ensures ∙ ap kindAs (c .before .before .letter-in2 .ensures) ∙ kind-back (secondOf (c .before .before .before .before .before .before .before .before .before .args .k)) in
-    rw (c .before .before .before .before .before .before .before .base-in .ensures, c .field2 .ensures, c .before .before .before .field .ensures, f, s) refl
+    rw (c .before .before .before .before .before .before .before .base .ensures, c .field2 .ensures, c .before .before .before .field .ensures, f, s) refl
 
 pub row-fits-spec : {M : Type 1} → statement M
 row-fits-spec =
