@@ -9,14 +9,17 @@ use native.Mathlib.Nat.{zero-add}
 use native.Mathlib.Numerals.{add-one}
 use lib.Dec.{ltb, leb, eqb, eqb→eq, leb→le, ltb→lt}
 use borrow.Author.Tests.{eq-eqb, ne-eqb, lt-ltb, le-ltb}
-use lib.ListN.{length, getD}
+use lib.ListN.{length, getD, drop}
+use lib.Seq.{drop-drop}
 use Rattle.optext.specs.declared.rows.Kind.{Kind}
 use Rattle.optext.specs.declared.rows.Kind.the-variants.{None, Mask, Disp, Reg, Arg4, Arg6, Count, High, Mid, Dst, Addr, Src, Word}
 use Rattle.hexdigits.specs.Digits.{digits, hexOf, hex4, hex2}
 use Rattle.optext.specs.Digits.{unHex, unHex4, unHex2}
+use Rattle.optext.specs.Rows.{rowCount, rowWidth, rows, tableBytes, theRow, baseOf}
 use Rattle.optext.specs.Line.{registers, regA, regB, regText, upText, literalText, downText, offsetText, plainText, modeText, modeTakes, operandText, takes, fieldOf}
 use Rattle.optext.specs.Guess.{unCount, unReg, notPc, operandRead, atBit6, unPlain, unMode, addressed, reservedFrom, unOp}
 use Rattle.optext.proofs.Laws.Choose.{eq-cases, at}
+use Rattle.optext.proofs.Laws.Table.{row-count, flat-drop, base-lt}
 use Rattle.optext.proofs.Laws.Forms.{mode-plain, mode-at}
 use Rattle.optext.proofs.Laws.Reserved.{from-same}
 use Rattle.optext.proofs.Laws.Inside.{Allowed}
@@ -56,6 +59,12 @@ unfolding unHex4 hex4
 hex4-back x t h =
     rw (hex-back (x / 4096) (omega arith), hex-back (x / 256 % 16) (omega arith), hex-back (x / 16 % 16) (omega arith), hex-back (x % 16) (omega arith))
     (omega arith)
+
+-- the base op code stands after the five places of the mnemonic
+pub base-part : (k : ℕ) (t : List ℕ) → k < rowCount → t ≡ tableBytes rows → unHex4 (drop (k * rowWidth + 5) t) ≡ baseOf k
+unfolding theRow hex4
+base-part k t h e =
+    rw (e, ← drop-drop 5 (k * rowWidth) (tableBytes rows), flat-drop rows k (rw row-count h)) (hex4-back (baseOf k) _ (base-lt k h))
 
 pub hex2-back : (x : ℕ) (t : List ℕ) → x < 256 → unHex2 (hex2 x ++ t) ≡ x
 unfolding unHex2 hex2
