@@ -1,10 +1,7 @@
-use mathlib.Core.Path.{_≡_, refl, _∙_}
 use mathlib.Core.List.{[], _∷_}
 use native.Mathlib.Omega.{arith}
 use lib.ListN.{length-set}
 use Rattle.hexdigits.proofs.Laws.Laid.{wrote-sets}
-use Rattle.optext.specs.Rows.{firstOf, secondOf}
-use Rattle.optext.specs.Line.{takes, rowOf, taken}
 use Rattle.optext.proofs.Laws.Meets.{words-3, words-a, words-b, words-1}
 use borrow.Author.Needs.{needs}
 use Rattle.optext.proofs.store.Statement.{statement}
@@ -12,43 +9,28 @@ use Rattle.optext.proofs.store.Tie as tie
 
 returns : tie.Need-returns
 returns c =
-    let a = c .before .before .before .before .before .before .before .args in
-    let k : a .k ≡ rowOf (a .w) = c .before .before .before .before .before .before .before .pre .1 in
-    let e1 : c .before .before .before .before .takes-of .result ≡ takes (firstOf (rowOf (a .w))) (a .w) = c .before .before .before .before .takes-of .ensures ∙ rw (c .before .before .before .before .before .first .ensures, k) refl in
-    let e2 : c .before .before .takes-of2 .result ≡ takes (secondOf (rowOf (a .w))) (a .w) = c .before .before .takes-of2 .ensures ∙ rw (c .before .before .before .second .ensures, k) refl in
-    rw (words-3 (a .w) (a .x) (a .y) _ _ e1 e2 (c .before .if1 .taken) (c .if2 .taken)) (wrote-sets (a .w ∷ a .x ∷ a .y ∷ []) (a .words .now) (omega arith))
+    let a = c .before .before .before .before .args in
+    rw (words-3 (a .w) (a .x) (a .y) _ _ (c .before .before .own-of .ensures .0) (c .before .before .own-of .ensures .1) (c .before .if1 .taken) (c .if2 .taken)) (wrote-sets (a .w ∷ a .x ∷ a .y ∷ []) (a .words .now) (omega arith))
 
 returns-2 : tie.Need-returns-2
 returns-2 c =
-    let a = c .before .before .before .before .before .before .before .args in
-    let k : a .k ≡ rowOf (a .w) = c .before .before .before .before .before .before .before .pre .1 in
-    let e1 : c .before .before .before .before .takes-of .result ≡ takes (firstOf (rowOf (a .w))) (a .w) = c .before .before .before .before .takes-of .ensures ∙ rw (c .before .before .before .before .before .first .ensures, k) refl in
-    let e2 : c .before .before .takes-of2 .result ≡ takes (secondOf (rowOf (a .w))) (a .w) = c .before .before .takes-of2 .ensures ∙ rw (c .before .before .before .second .ensures, k) refl in
-    rw (words-a (a .w) (a .x) (a .y) _ _ e1 e2 (c .before .if1 .taken) (c .if2 .left)) (wrote-sets (a .w ∷ a .x ∷ []) (a .words .now) (omega arith))
+    let a = c .before .before .before .before .args in
+    rw (words-a (a .w) (a .x) (a .y) _ _ (c .before .before .own-of .ensures .0) (c .before .before .own-of .ensures .1) (c .before .if1 .taken) (c .if2 .left)) (wrote-sets (a .w ∷ a .x ∷ []) (a .words .now) (omega arith))
 
 returns-3 : tie.Need-returns-3
 returns-3 c =
-    let a = c .before .before .before .before .before .before .before .args in
-    let k : a .k ≡ rowOf (a .w) = c .before .before .before .before .before .before .before .pre .1 in
-    let e1 : c .before .before .before .before .takes-of .result ≡ takes (firstOf (rowOf (a .w))) (a .w) = c .before .before .before .before .takes-of .ensures ∙ rw (c .before .before .before .before .before .first .ensures, k) refl in
-    let e2 : c .before .before .takes-of2 .result ≡ takes (secondOf (rowOf (a .w))) (a .w) = c .before .before .takes-of2 .ensures ∙ rw (c .before .before .before .second .ensures, k) refl in
-    rw (words-b (a .w) (a .x) (a .y) _ _ e1 e2 (c .before .if1 .left) (c .if3 .taken)) (wrote-sets (a .w ∷ a .y ∷ []) (a .words .now) (omega arith))
+    let a = c .before .before .before .before .args in
+    rw (words-b (a .w) (a .x) (a .y) _ _ (c .before .before .own-of .ensures .0) (c .before .before .own-of .ensures .1) (c .before .if1 .left) (c .if3 .taken)) (wrote-sets (a .w ∷ a .y ∷ []) (a .words .now) (omega arith))
 
 returns-4 : tie.Need-returns-4
 returns-4 c =
-    let a = c .before .before .before .before .before .before .before .args in
-    let k : a .k ≡ rowOf (a .w) = c .before .before .before .before .before .before .before .pre .1 in
-    let e1 : c .before .before .before .before .takes-of .result ≡ takes (firstOf (rowOf (a .w))) (a .w) = c .before .before .before .before .takes-of .ensures ∙ rw (c .before .before .before .before .before .first .ensures, k) refl in
-    let e2 : c .before .before .takes-of2 .result ≡ takes (secondOf (rowOf (a .w))) (a .w) = c .before .before .takes-of2 .ensures ∙ rw (c .before .before .before .second .ensures, k) refl in
-    rw (words-1 (a .w) (a .x) (a .y) _ _ e1 e2 (c .before .if1 .left) (c .if3 .left)) (wrote-sets (a .w ∷ []) (a .words .now) (omega arith))
+    let a = c .before .before .before .before .args in
+    rw (words-1 (a .w) (a .x) (a .y) _ _ (c .before .before .own-of .ensures .0) (c .before .before .own-of .ensures .1) (c .before .if1 .left) (c .if3 .left)) (wrote-sets (a .w ∷ []) (a .words .now) (omega arith))
 
 pub store-spec : {M : Type 1} → statement M
 store-spec =
     tie.close
     (tie.spec
-    (λ c κs. search needs)
-    (λ c κs. search needs)
-    (λ c κs. search needs)
     (λ c κs. search needs)
     (λ c. search needs)
     (λ c. simp length-set (omega arith))
