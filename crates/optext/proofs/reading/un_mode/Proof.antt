@@ -16,6 +16,7 @@ un-mode-spec =
     (λ c κs. search needs)
     (λ c. search needs)
     (λ c. search needs)
-    (λ c. (rw (← c .before .before .before .before .before .ch .ensures, eq-eqb _ _ (c .before .before .before .before .if1 .taken), ← c .before .before .before .after .ensures, ← c .before .before .un-plain .ensures .0) refl, omega arith, omega arith))
+    (λ c κs. search needs)
+    (λ c. (rw (c .read-as .ensures, ← c .before .before .before .before .before .before .ch .ensures, eq-eqb _ _ (c .before .before .before .before .before .if1 .taken), ← c .before .before .before .before .after .ensures, ← c .before .before .before .un-plain .ensures .0) refl, rw (c .read-as .ensures) (omega arith), rw (c .read-as .ensures) (omega arith)))
     (λ c κs. search needs)
     (λ c. (rw (← c .before .before .ch .ensures, ne-eqb _ _ (c .before .if1 .left)) (c .un-plain2 .ensures .0), omega arith, omega arith)))
