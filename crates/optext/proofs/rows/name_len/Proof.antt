@@ -25,8 +25,8 @@ name-len-spec =
     μ-loop
     (λ c. (omega arith, omega arith))
     (λ c κs. (c .before .before .before .pre .0, c .before .before .before .pre .1, omega arith))
-    (λ c. (name-ends (c .before .before .before .before .before .args .k) (c .before .before .before .loop .i) _ (c .before .before .before .before .before .pre .1) (c .before .before .before .loop .inv .1) (omega arith) (c .before .letter-in .ensures) (c .if1 .taken), omega arith))
+    (λ c. (name-ends (c .before .before .before .before .before .args .k) (c .before .before .before .loop .i) _ (c .before .before .before .before .before .pre .1) (c .before .before .before .loop .inv .1) (omega arith) (c .before .letter .ensures) (c .if1 .taken), omega arith))
     (λ c. omega arith)
     (λ c. omega arith)
-    (λ c. (omega arith, let h = name-goes (c .before .before .before .before .before .args .k) (c .before .before .before .loop .i) _ (omega arith) (c .before .letter-in .ensures) (c .if1 .left) in omega arith))
+    (λ c. (omega arith, let h = name-goes (c .before .before .before .before .before .args .k) (c .before .before .before .loop .i) _ (omega arith) (c .before .letter .ensures) (c .if1 .left) in omega arith))
     returns-2)

@@ -8,4 +8,4 @@ use Rattle.optext.proofs.rows.second.Tie as tie
 
 pub second-spec : {M : Type 1} → statement M
 unfolding hex4
-second-spec = tie.close (tie.spec (λ c κs. search needs) (λ c κs. search needs) (λ c. c .kind-of .ensures ∙ ap kindAs (c .before .letter .ensures) ∙ kind-back (secondOf (c .before .before .args .k))))
+second-spec = tie.close (tie.spec (λ c κs. search needs) (λ c κs. search needs) (λ c. c .kind-of .ensures ∙ ap kindAs (c .before .letter .ensures) ∙ kind-back (secondOf (c .before .before .before .args .k))))
