@@ -13,7 +13,7 @@ import sys
 
 ROOT = pathlib.Path(__file__).resolve().parent.parent
 LONGEST = 90
-# Refusal numbers that are the text's own: cases of optext's answers, named in textc.
+# Refusal numbers that are the text's own: cases of optext's answers, named in optext_c.
 OF_TEXT = {6, 7, 9, 30, 31, 32}
 
 

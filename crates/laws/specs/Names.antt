@@ -228,7 +228,7 @@ Beside out s (r ∷ rs) (n ∷ ns) = As out s r n × Beside out s rs ns
 abbrev pub NamesExecuted : Type 0
 NamesExecuted = (out : Outside) (s : State) → out .settings .blocks ≡ true → Beside out s executedRows mnemonics
 
--- of every op code: the name that its text begins with (optext Line `lineText`) is the one that it is executed under. XCT is told below,
+-- of every op code: the name that its text begins with (optext Line `opText`) is the one that it is executed under. XCT is told below,
 -- and reserved words have no name
 abbrev pub rowPlace : ℕ → ℕ
 rowPlace row = cond (ltb row 5) row (row - 1)

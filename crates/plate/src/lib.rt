@@ -262,7 +262,7 @@ const PLATE: [u8; 256] = [
     11,
 ];
 
-// The format of an op code.
+// The format of an op code, by the table: for XCT and the assembler.
 pub fn format(op: u16) -> u8
     ensures { λ r. ⌜ r ≡ Spec.formatOf (op / 256) ⌝ }
 {

@@ -42,7 +42,7 @@ fn low(x: u32) -> bool
         & ((x / 256 % 256 < 4) & ((x / 256 / 256 % 256 < 4) & (x / 256 / 256 / 256 % 256 < 4)))
 }
 
-// Four bytes at a time, and no test in the loop: bytes are 0, 1 or 2 where none of them is above 3, nor one more than it.
+// Four bytes at a time, and no test in the loop: a byte is 0, 1 or 2 where it is not above 3, nor with 1 added to it.
 fn all_flat(map: &[u8]) -> bool
     requires { ⌜ length (now map) ≡ 256 ⌝ }
     ensures { λ r. ⌜ r ≡ Spec.allOf Spec.flat (now (map .entry)) ⌝ }

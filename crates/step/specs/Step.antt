@@ -147,7 +147,7 @@ abbrev pub kindRow : Cause → (ℕ → Cause) → Bool → KindRow
 kindRow cause error code = record { cause = cause; error = error; code = code }
 
 -- a halt option is 1, and so is the end of a save; the end of a halt on power fail is 0; the lock-up option locks.
--- Where 16 can't be fetched or the places can't be picked up, the trap never succeeds (proofs Laws/Told); where nothing is read or written there is no bus error.
+-- Where 16 can't be fetched or the places can't be picked up, the trap never succeeds (proofs Laws/Restart); where nothing is read or written there is no bus error.
 abbrev pub ofKind : Kind → KindRow
 ofKind OpCode = kindRow Cause.OpCode OpCodeBlank true
 ofKind HaltEnd = kindRow Cause.OpCode LockedAt false

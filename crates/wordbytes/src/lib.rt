@@ -9,7 +9,7 @@ pub fn byte_at(b: &[u8], at: usize) -> u8
     if at < b.len() { b[at] } else { 0 }
 }
 
-// The word at a place; bytes past the end are 0. Where both bytes stand before the end one test tells it.
+// The word at a place; bytes past the end are 0. One test tells whether both bytes stand before the end.
 pub fn word_at(b: &[u8], at: usize) -> u16
     ensures { λ r. ⌜ r ≡ Spec.wordAt (now (b .entry)) at ⌝ }
 {
