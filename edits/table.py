@@ -18,7 +18,11 @@ HEAD = "| Function | Wrong answers |\n|---|---|\n"
 FUNCTION = re.compile(r"^( *)(pub )?(?:pub\(crate\) )?(?:extern \"C\" )?(?:fn|const) (\w+)", re.M)
 DEFINITION = re.compile(r"^(?: *(?:abbrev|unfoldable) (?:pub )?|(?:pub )?(?:data|record) |pub )([^\s:({]+)", re.M)
 # Functions with fewer than two edits of their own, and why.
-FEWER = {"report write_end": "it is write_end_on on bench's board, and has that one's"}
+FEWER = {"endline write_end": "it is write_end_on on bench's board, and has that one's"}
+# Fields whose one line other fields have too: an edit's old text must stand once.
+ALIKE = """destination_mode destination_register source_mode source_register register format9_code offset format2_code only_register
+    format4_code argument format8_code block_source block_destination"""
+FEWER |= {f"opcodes fields::{field}": "its line stands in other fields too" for field in ALIKE.split()}
 
 Edit = collections.namedtuple("Edit", "name crate gate place words")
 
