@@ -27,7 +27,7 @@ use Rattle.machine_c.specs.Runs.{untilFrom, refusedUntil, stopIn, runSameCall, 
 use Rattle.job.specs.Job.{linesAt, buffersOf, whyRead, jobOf}
 use Rattle.job.proofs.Laws.{one-answer}
 use Rattle.job_c.specs.Calls.{JobBuffers, jobLaid, readCall}
-use Rattle.benchline.proofs.Laws.Printed.{printed-one}
+use Rattle.benchline.proofs.Laws.Printed.{one-printed}
 use Rattle.runjob.specs.Bench.{ranAt, jobRun, endLine, benchWhy, benchOf}
 use Rattle.runjob.specs.Bench as Bench
 use Rattle.listjob.specs.Stretch.{listWhy, listedIn, listOf}
@@ -159,14 +159,14 @@ module _ (input i₁ i₂ m₁ m₂ l₁ l₂ : List ℕ) (hi : length i₁ ≡ 
   bench-blind text r q text₁ text₂ i₁′ m₁′ l₁′ i₂′ m₂′ l₂′ e d =
       let why = benchWhy input text i₁ m₁ l₁ in
       let h = same-call (λ z. z .0) why (endLine input text (Bench.runIn input)) (text, i₁, m₁, l₁) (text, i₂, m₂, l₂) refl e (rw (← hi, ← hm, ← hl) at d) in
-      (printed-one r q (h .0), h .1, λ z. (ap (λ z. z .lent .1) (h .2 z), ap (λ z. z .lent .2) (h .2 z), ap (λ z. z .lent .3) (h .2 z)))
+      (one-printed r q text₁ text₁ (ap (λ z. left z text₁) (h .0)) .0, h .1, λ z. (ap (λ z. z .lent .1) (h .2 z), ap (λ z. z .lent .2) (h .2 z), ap (λ z. z .lent .3) (h .2 z)))
 
   pub list-blind : ListBlind input i₁ i₂ m₁ m₂ l₁ l₂ hi hm hl
   unfolding listOf
   list-blind text r q text₁ text₂ i₁′ m₁′ l₁′ i₂′ m₂′ l₂′ e d =
       let why = listWhy input (length text) (length i₁) (length m₁) (length l₁) in
       let h = same-call (λ z. z .0) why (listedIn input text) (text, i₁, m₁, l₁) (text, i₂, m₂, l₂) refl e (rw (← hi, ← hm, ← hl) at d) in
-      (printed-one r q (h .0), h .1, λ z. (ap (λ z. z .lent .1) (h .2 z), ap (λ z. z .lent .2) (h .2 z), ap (λ z. z .lent .3) (h .2 z)))
+      (one-printed r q text₁ text₁ (ap (λ z. left z text₁) (h .0)) .0, h .1, λ z. (ap (λ z. z .lent .1) (h .2 z), ap (λ z. z .lent .2) (h .2 z), ap (λ z. z .lent .3) (h .2 z)))
 
   pub check-blind : CheckBlind input i₁ i₂ m₁ m₂ l₁ l₂ hi hm hl
   unfolding checkOf
