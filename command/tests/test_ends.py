@@ -208,7 +208,7 @@ echo 'rt: job proved (12 s)'; echo 'rt: bench proved (3 s)'; mkdir -p target/bin
             words, env = self.command("run", self.job)
             room = os.path.join(self.folder, f"tmp{number}")
             os.mkdir(room)
-            with subprocess.Popen(words, env={**env, "TMPDIR": room}, cwd=ROOT, stderr=subprocess.PIPE) as child:
+            with subprocess.Popen(words, env={**env, "TMPDIR": room}, cwd=ROOT, stderr=subprocess.PIPE, preexec_fn=ignore_none) as child:
                 self.wait_for(lambda: os.path.exists(f"{self.folder}/sleeping"))
                 child.send_signal(number)
                 self.assertEqual((child.wait(10), child.stderr.read()), (status, b""))
@@ -225,6 +225,12 @@ echo 'rt: job proved (12 s)'; echo 'rt: bench proved (3 s)'; mkdir -p target/bin
                 return
             time.sleep(0.05)
         self.fail("it does not come to it")
+
+
+def ignore_none():
+    """In the child: a signal that the tests' own caller ignores, as nohup has it, is heard again."""
+    for number in (signal.SIGTERM, signal.SIGHUP):
+        signal.signal(number, signal.SIG_DFL)
 
 
 def running(process):
