@@ -26,26 +26,26 @@
 
 /* Measured on each chip, of the module that is proved; docs/CHIPS.md tells how, and chips/measure.py --write writes it here.
    instructions                            cortex-m4           riscv32imc          aarch64             x86-64
-   a step of wd16_run                      124 to 273          148 to 267          82 to 174           123 to 236
-   a step of wd16_run_same                 116 to 264          135 to 254          75 to 167           112 to 225
-   a step of wd16_run_until                376 to 525          598 to 716          245 to 337          337 to 450
-   a step of wd16_step                     1525 to 1674        3694 to 3813        1501 to 1593        1308 to 1421
-   a call of wd16_step, the most seen      2324                5051                2107                2287
+   a step of wd16_run                      102 to 256          117 to 239          69 to 158           90 to 207
+   a step of wd16_run_same                 101 to 256          118 to 239          67 to 156           90 to 208
+   a step of wd16_run_until                363 to 517          573 to 694          239 to 328          326 to 443
+   a step of wd16_step                     856 to 1010         1920 to 2041        682 to 770          545 to 663
+   a call of wd16_step, the most seen      1724                3655                1309                1535
    bytes of stack, and what is called      cortex-m4           riscv32imc          aarch64             x86-64
-   wd16_assemble                           24040 memset        24112 memset        24144 memset        23976 memset
-   wd16_check_trace                        75392 memset        75072 both          75200 memset        75328 memset
-   wd16_labels                             11704 memset        11792 memset        11856 memset        11624 memset
-   wd16_list_line                          1532                1488                1568                1400
+   wd16_assemble                           23856 memset        23888 memset        24448 both          24416 both
+   wd16_check_trace                        75244 memset        75008 memset        75408 memset        75536 memset
+   wd16_labels                             11520 memset        11568 memset        12160 both          12064 both
+   wd16_list_line                          1588                1664                1504 memcpy         1456 memcpy
    wd16_power_up                           372 memset          160 memset          480                 528
-   wd16_read_job                           440 memset          400 memset          352 memset          256 memset
-   wd16_read_text                          2824                2912                2880                2680
-   wd16_report                             752 memcpy          720 memcpy          1504 memcpy         1456 memcpy
-   wd16_run                                1432 memset         1056 both           1184                1264
-   wd16_run_same                           1752 memset         1296 both           1504                1568
-   wd16_run_until                          1512 memset         1088 both           1264                1376
-   wd16_scan                               3000 both           2640 both           2512 memcpy         2592 memcpy
-   wd16_step                               1384 memset         1024 both           1168                1264
-   wd16_write_text                         1460                1440                1472                1304 */
+   wd16_read_job                           448 memset          400 memset          352 memset          256 memset
+   wd16_read_text                          2792                2800                2896 memcpy         2864 memcpy
+   wd16_report                             752 memcpy          720 memcpy          1824 memcpy         1792 memcpy
+   wd16_run                                1300 memset         992 memset          1392                1472
+   wd16_run_same                           1620 memset         1264 memset         1712                1776
+   wd16_run_until                          1380 memset         1056 memset         1472                1600
+   wd16_scan                               2884 both           2608 both           2720 memcpy         2864 memcpy
+   wd16_step                               1260 memset         960 memset          1392                1488
+   wd16_write_text                         1524                1600                1472 memcpy         1440 memcpy */
 
 #include <stddef.h>
 #include <stdint.h>
