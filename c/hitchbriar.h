@@ -6,21 +6,21 @@
    makes it for other chips, and a release has it for each (docs/CHIPS.md). words.c beside this header is plain C: the words of
    the numbers; a release's libraries have it in them. A linker drops what is not called.
 
-   Each buffer comes as a pointer and a length, in elements. The pointer points at that many elements, also where the length
-   is wrong; where the length is 0 it may be null. A buffer that is written overlaps no other. Words of two bytes (uint16_t)
-   are aligned as C aligns them; bytes may stand anywhere. Nothing else is asked of the caller: whatever the buffers hold, and
-   whatever their lengths are, a call comes back with 0 or with the number of its refusal. A refused call leaves every buffer
-   as it was, but for the answer where a text is refused with its column or a source with its line.
+   Each buffer comes as a pointer and a length, in elements. The pointer points at that many elements, even where the length
+   is not the one that the call wants; where the length is 0 it may be null. A buffer that is written overlaps no other. Words
+   of two bytes (uint16_t) are aligned as C aligns them; bytes may be anywhere. Nothing else is asked of the caller: whatever the
+   buffers hold, and whatever their lengths are, a call returns, with 0 or with the number of its refusal. A refused call leaves
+   every buffer as it was, except the answer where a text is refused with its column or a source with its line.
 
    Nothing is kept between calls: no memory is allocated, and the library has no data of its own. So calls on different buffers
-   may go on at the same time, in threads and in interrupts. The work of a call is bounded, by the lengths of what it is lent. A run
-   is a fixed part, a look at each byte of the map and at each line word, and a step for each, which is one op code or one element
-   of a block move and costs less than a call of wd16_step: below is how many instructions. The library's memory is its code, whose
-   bytes docs/CHIPS.md has, and the stack of the function that is called, which stands below too. Of a C library it needs memset,
-   memcpy and memmove at most, and there is which function calls which on which chip.
+   may go on at the same time, in threads and in interrupts. The work of a call is bounded by the lengths of what it is lent. A run
+   does a fixed part, looks at each byte of the map and at each line word, and makes a step for each line word. A step is one op
+   code or one element of a block move; within a run it costs less than a call of wd16_step does. The table below has the
+   instructions of a step and the stack of each function; docs/CHIPS.md has the bytes of code. Of a C library it needs memset,
+   memcpy and memmove at most, and the table says which function calls which of them on each chip.
 
-   What the old program puts out is in the image: it writes a card's page, and the caller reads that page's bytes when the call
-   has come back. A value that is written over within one call is not seen; where each one counts, call wd16_step. */
+   The old program's output is in the image: it writes to a card's page, and the caller reads that page's bytes when the call has
+   returned. A value that is written over within one call is not seen; where each one counts, call wd16_step. */
 #ifndef HITCHBRIAR_H
 #define HITCHBRIAR_H
 
@@ -81,7 +81,7 @@ enum {
     WD16_POWER_UP = 1,       /* the jumpers of the power-up option, 0 to 3 */
     WD16_HALT = 2,           /* the jumpers of the halt option, 0 to 3 */
     WD16_EXTERNAL = 3,       /* the External Address Register, 0 to 63 */
-    WD16_MOST_EXTERNAL = 63, /* the highest of it */
+    WD16_MOST_EXTERNAL = 63, /* its highest value */
 };
 
 /* The power-up option's jumpers. */
@@ -113,12 +113,12 @@ enum {
     WD16_INDICATORS = 16, /* N, Z, V and C, as in a PS */
     WD16_I2 = 17,         /* the interrupt enable: 0 or 1 */
     WD16_MODE = 18,
-    WD16_CAUSE = 19,   /* of the step that led here; 0 after power-up and after a run. Read for its range alone */
+    WD16_CAUSE = 19,   /* of the last step; 0 after power-up and after a run. A call checks its range, and nothing else */
     WD16_MARK = 20,    /* 1 after an IEN that found I2 clear: the next op code begins before I0 and I1 are heard; else 0 */
-    WD16_TELLS = 21,   /* 1 where the step tells an address, else 0; 0 after power-up and after a run. Read for its range
-                          alone */
+    WD16_TELLS = 21,   /* 1 where the last step tells an address, else 0; 0 after power-up and after a run. A call checks its
+                          range, and nothing else */
     WD16_ADDRESS = 22, /* that address, two bytes, low byte first: the first that the dropped work found unfitted, or
-                          read-only for a write, as it was given, bit 0 included; 0 where none is told. Not read */
+                          read-only for a write, as it was given, bit 0 included; 0 where none is told. No call reads it */
 };
 
 /* The bits of a PS, as it is pushed and saved. */
@@ -131,7 +131,7 @@ enum {
     WD16_PS_HALT = 0x0400,     /* times the halt option's jumpers */
     WD16_PS_I2 = 0x1000,
     WD16_PS_BUS_ERROR = 0x4000,  /* pushed by a bus error */
-    WD16_PS_POWER_FAIL = 0x8000, /* power fail stands on the lines */
+    WD16_PS_POWER_FAIL = 0x8000, /* power fail is on the lines */
 };
 
 enum wd16_mode {
@@ -162,24 +162,24 @@ enum {
     WD16_BLANKS = 0,
     WD16_FIRST = 2,
     WD16_FIRST_ADDRESS = 4,
-    WD16_NONE = 0xFFFF, /* for a place: a run's places are below */
+    WD16_NONE = 0xFFFF, /* as a place: a run's own places are below it */
 };
 
-/* A line word's bits: what stands on the lines in one step. The others are 0.
-   I0 and I1 are heard where I2 is set and the mark is clear: a pulse in another step is lost, and a line that stands interrupts
-   again once the routine has set I2. IAK reads the device code of its own step, doubled: the code stands on the lines until the
-   routine has read it. */
+/* A line word's bits: what is on the lines in one step. The others are 0.
+   I0 and I1 are heard where I2 is set and the mark is clear: a pulse in any other step is lost, and a line that stays up
+   interrupts again once the routine has set I2. IAK reads the device code of its own step, doubled: so keep the code on the lines
+   until the routine has read it. */
 enum {
     WD16_LINE_I0 = 0x0001,
     WD16_LINE_I1 = 0x0002,
     WD16_LINE_I3 = 0x0008,
     WD16_LINE_POWER_FAIL = 0x0080,
     WD16_LINE_DEVICE = 0x0100, /* times the device code */
-    WD16_MOST_DEVICE = 15,     /* the highest of it */
+    WD16_MOST_DEVICE = 15,     /* the highest device code */
 };
 
-/* What a call returns: WD16_DONE or a refusal. Each function below tells its own in the order in which they are looked for.
-   21: a buffer that has one length has another; or a byte is over its range where it is read: the settings' first byte over 1,
+/* What a call returns: WD16_DONE or a refusal. Each function below lists its own, in the order in which they are checked.
+   21: a buffer whose length is fixed has another; or a byte that is read is over its range: the settings' first byte over 1,
    indicators over 15, I2 over 1, a mode over 5, a cause over 9, byte 20 or 21 of a state over 1, a card's byte over 1. */
 enum wd16_refusal {
     WD16_DONE = 0,                /* done */
@@ -256,7 +256,7 @@ static inline void wd16_put_word(uint8_t *bytes, size_t at, uint16_t word)
     bytes[at + 1] = (uint8_t)(word >> 8);
 }
 
-/* Whether the next step takes an interrupt, I0 or I1, that stands on its lines. */
+/* Whether the next step takes an interrupt, I0 or I1, that is on its lines. */
 static inline int wd16_hears(const uint8_t *state)
 {
     return state[WD16_I2] == 1 && state[WD16_MARK] == 0 && state[WD16_MODE] <= WD16_WAITING;
@@ -264,7 +264,7 @@ static inline int wd16_hears(const uint8_t *state)
 
 /* ---- the processor */
 
-/* Writes the state after power-up, with cause 0. The state's bytes are not read; the image is written where the power-up
+/* Writes the state after power-up, with cause 0. The state's bytes are not read; the image is written only where the power-up
    option is the halt option and that is a save. Refusals: 21 for the state's length and for the settings, 1, 2, 3, 35. */
 uint8_t wd16_power_up(uint8_t *state, size_t state_length, uint8_t *image, size_t image_length, const uint8_t *map,
                       size_t map_length, const uint8_t *settings, size_t settings_length);
@@ -276,9 +276,9 @@ uint8_t wd16_step(uint8_t *state, size_t state_length, uint8_t *image, size_t im
 
 /* One step for each line word: the state, with cause 0, the tally and the image after them. Refusals: 21, 1, 2,
    3, 35, 4, 5.
-   No line word at all leaves the image, the tally of no blank, and the state but for the cause and the address of the step
-   before, which become 0: so a step's cause is to be read before a run.
-   A run may be made in parts, each from the state and the image that the one before left: it ends as the run over all lines.
+   With no line word at all the image stays, the tally has no blank, and of the state only the cause and the address of the step
+   before change, to 0: so read a step's cause before the next run.
+   A run may be made in parts, each from the state and the image that the one before left: they end as the run over all lines.
    The blanks add up, and the first is the first part's, or else the second's with its place moved on by the first's length
    (c/example.c).
    A run that leaves no blanks and a mode other than 4 is the same where further pages of the map are fitted, as 1 or 2. */
@@ -286,13 +286,13 @@ uint8_t wd16_run(uint8_t *state, size_t state_length, uint8_t *tally, size_t tal
                  size_t image_length, const uint8_t *map, size_t map_length, const uint8_t *settings,
                  size_t settings_length, const uint16_t *lines, size_t lines_length);
 
-/* So many steps over one line word, 0 to 65,535, as wd16_run over as many such words: no list is lent. The tally's blanks and
-   place go up to 65,535 and 65,534. Refusals: 21, 1, 2, 3, 35, 5. */
+/* `steps` steps, 0 to 65,535, over one line word: as wd16_run over a list of that word alone, but no list is lent. The tally's
+   blanks and place go up to 65,535 and 65,534. Refusals: 21, 1, 2, 3, 35, 5. */
 uint8_t wd16_run_same(uint8_t *state, size_t state_length, uint8_t *tally, size_t tally_length, uint8_t *image,
                       size_t image_length, const uint8_t *map, size_t map_length, const uint8_t *settings,
                       size_t settings_length, uint16_t line, uint16_t steps);
 
-/* What wd16_run_until is asked to end after, added up. */
+/* What wd16_run_until is to end after: the sum of any of these. */
 enum {
     WD16_UNTIL_INTERRUPT = 1, /* an interrupt taken: cause 2 or 3 */
     WD16_UNTIL_BLANK = 2,     /* a blank: cause 5, 6 or 9 */
@@ -308,8 +308,8 @@ enum {
 
 /* A run over line words that ends after the first step whose cause is asked for, or after which the processor waits, is halted
    or saved (modes 1, 2, 3 and 5); else after the last line word. It is wd16_run over the line words of the steps that were
-   done, but that the state has the last step's cause and the address that it tells, as after wd16_step; cause 4 where there
-   was no line word. All line words are looked at first. Refusals: 21, also for an unused bit of `until`, 1, 2, 3, 35, 4, 5. */
+   done, except that the state has the last step's cause and the address that it tells, as after wd16_step; cause 4 where there
+   was no line word. All line words are checked first. Refusals: 21, also for an unused bit of `until`, 1, 2, 3, 35, 4, 5. */
 uint8_t wd16_run_until(uint8_t *state, size_t state_length, uint8_t *tally, size_t tally_length, uint8_t *image,
                        size_t image_length, const uint8_t *map, size_t map_length, const uint8_t *settings,
                        size_t settings_length, const uint16_t *lines, size_t lines_length, uint8_t until);
@@ -344,7 +344,7 @@ uint8_t wd16_write_text(const uint8_t *words, size_t words_length, uint8_t *text
                         size_t answer_length);
 
 /* Reads a text, the whole buffer, into words. Bytes of the words' buffer after the words read stay. Refusals: 21, 38, 10, and
-   32, 31, 9 or 30; of these the last four alone write: the answer, with the column. */
+   32, 31, 9 or 30. Only the last four write anything: the answer, with the column. */
 uint8_t wd16_read_text(const uint8_t *text, size_t text_length, uint8_t *words, size_t words_length, uint8_t *answer,
                        size_t answer_length);
 
@@ -441,11 +441,11 @@ enum {
     WD16_FIELD_MODE = 9,
 };
 
-/* Holds another shop's trace of a job against the processor, on a board with the third microm and the jumpers 11 and 11. A
+/* Compares another shop's trace of a job with the processor, on a board with the third microm and the jumpers 11 and 11. A
    job has three sections, each after its count of two bytes, low byte first: fitted pages, a byte each; words, an address
-   and a value, two bytes each; line words; and perhaps a fourth of read-only pages. The verdict is written. Nothing is compared
-   before refusals: 21 for the verdict's length; the job's own, the first that its reader meets, entry by entry: 11 to 20
-   and 22; 29. The image is the call's own, on the stack. */
+   and a value, two bytes each; line words; and perhaps a fourth of read-only pages. The verdict is written. Refusals come
+   before anything is compared: 21 for the verdict's length; the job's own, the first that its reader meets, entry by entry: 11
+   to 20 and 22; 29. The image is the call's own, on the stack. */
 uint8_t wd16_check_trace(const uint8_t *job, size_t job_length, const uint8_t *trace, size_t trace_length,
                          uint8_t *verdict, size_t verdict_length);
 
