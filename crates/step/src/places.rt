@@ -32,75 +32,76 @@ fn pick_up(s: State, image: &[u8], map: &[u8], k: u16) -> Went
     Went::Done(s.with_reg(k, v))
 }
 
+// Four registers are kept, one after the other.
+fn keep_four(
+    s: State,
+    image: &mut [u8],
+    map: &[u8],
+    log: &mut [u16; 32],
+    h: u16,
+    i: u16,
+    j: u16,
+    k: u16,
+) -> Kept
+    requires { ⌜ Board (now map) (beside (now image) (now log)) ⌝ }
+    ensures { λ r. ⌜ Did (now (map .entry)) (Spec.keepFour s h i j k) (beside (now (image .entry)) (now (log .entry))) (keptAs r (beside (now (image .exit)) (now (log .exit)))) (beside (now (image .exit)) (now (log .exit))) ⌝ }
+{
+    let kept1 = keep(s, image, map, log, h);
+    let Kept::Done = kept1 else {
+        return kept1;
+    };
+    let kept2 = keep(s, image, map, log, i);
+    let Kept::Done = kept2 else {
+        return kept2;
+    };
+    let kept3 = keep(s, image, map, log, j);
+    let Kept::Done = kept3 else {
+        return kept3;
+    };
+    keep(s, image, map, log, k)
+}
+
 // R0 to R5, SP, PC.
 fn keep_registers(s: State, image: &mut [u8], map: &[u8], log: &mut [u16; 32]) -> Kept
     requires { ⌜ Board (now map) (beside (now image) (now log)) ⌝ }
     ensures { λ r. ⌜ Did (now (map .entry)) (Spec.keepRegisters s) (beside (now (image .entry)) (now (log .entry))) (keptAs r (beside (now (image .exit)) (now (log .exit)))) (beside (now (image .exit)) (now (log .exit))) ⌝ }
 {
-    let kept0 = keep(s, image, map, log, 0);
-    let Kept::Done = kept0 else {
-        return kept0;
+    let kept = keep_four(s, image, map, log, 0, 1, 2, 3);
+    let Kept::Done = kept else {
+        return kept;
     };
-    let kept1 = keep(s, image, map, log, 1);
-    let Kept::Done = kept1 else {
-        return kept1;
+    keep_four(s, image, map, log, 4, 5, 6, 7)
+}
+
+// Four registers are picked up, one after the other.
+fn pick_up_four(s: State, image: &[u8], map: &[u8], h: u16, i: u16, j: u16, k: u16) -> Went
+    requires { ⌜ Lent (now map) (now image) ⌝ }
+    ensures { λ r. ⌜ Saw (now (map .entry)) (Spec.pickUpFour s h i j k) (now (image .entry)) (wentAs r) ⌝ }
+{
+    let went1 = pick_up(s, image, map, h);
+    let Went::Done(s1) = went1 else {
+        return went1;
     };
-    let kept2 = keep(s, image, map, log, 2);
-    let Kept::Done = kept2 else {
-        return kept2;
+    let went2 = pick_up(s1, image, map, i);
+    let Went::Done(s2) = went2 else {
+        return went2;
     };
-    let kept3 = keep(s, image, map, log, 3);
-    let Kept::Done = kept3 else {
-        return kept3;
+    let went3 = pick_up(s2, image, map, j);
+    let Went::Done(s3) = went3 else {
+        return went3;
     };
-    let kept4 = keep(s, image, map, log, 4);
-    let Kept::Done = kept4 else {
-        return kept4;
-    };
-    let kept5 = keep(s, image, map, log, 5);
-    let Kept::Done = kept5 else {
-        return kept5;
-    };
-    let kept6 = keep(s, image, map, log, 6);
-    let Kept::Done = kept6 else {
-        return kept6;
-    };
-    keep(s, image, map, log, 7)
+    pick_up(s3, image, map, k)
 }
 
 fn pick_up_registers(s: State, image: &[u8], map: &[u8]) -> Went
     requires { ⌜ Lent (now map) (now image) ⌝ }
     ensures { λ r. ⌜ Saw (now (map .entry)) (Spec.pickUpRegisters s) (now (image .entry)) (wentAs r) ⌝ }
 {
-    let went0 = pick_up(s, image, map, 0);
-    let Went::Done(s0) = went0 else {
-        return went0;
+    let went = pick_up_four(s, image, map, 0, 1, 2, 3);
+    let Went::Done(t) = went else {
+        return went;
     };
-    let went1 = pick_up(s0, image, map, 1);
-    let Went::Done(s1) = went1 else {
-        return went1;
-    };
-    let went2 = pick_up(s1, image, map, 2);
-    let Went::Done(s2) = went2 else {
-        return went2;
-    };
-    let went3 = pick_up(s2, image, map, 3);
-    let Went::Done(s3) = went3 else {
-        return went3;
-    };
-    let went4 = pick_up(s3, image, map, 4);
-    let Went::Done(s4) = went4 else {
-        return went4;
-    };
-    let went5 = pick_up(s4, image, map, 5);
-    let Went::Done(s5) = went5 else {
-        return went5;
-    };
-    let went6 = pick_up(s5, image, map, 6);
-    let Went::Done(s6) = went6 else {
-        return went6;
-    };
-    pick_up(s6, image, map, 7)
+    pick_up_four(t, image, map, 4, 5, 6, 7)
 }
 
 // Saved with the PS formed now; then nothing is done until I3 is clear.

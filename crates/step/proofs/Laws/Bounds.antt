@@ -20,7 +20,7 @@ use Rattle.step.specs.declared.Kind.{Kind}
 use Rattle.step.specs.declared.Kind.the-variants.{OpCode, HaltEnd, Boots, Saves, LocksUp, Restarts, Restores, NonVectored, Vectored, Waits, Stuck}
 use Rattle.step.specs.Execute.{moves, byFormat}
 use Rattle.step.specs.Xct.{Begin, code, abort, beginXct, begun, trace, traced, carry, opWork}
-use Rattle.step.specs.Places.{keep, pickUp, keepRegisters, pickUpRegisters, save, restore}
+use Rattle.step.specs.Places.{keep, pickUp, keepFour, pickUpFour, keepRegisters, pickUpRegisters, save, restore}
 use Rattle.step.specs.Step.{vectored, workOf, busError}
 
 bounded-byFormat : (out : Outside) (f : ℕ) (s : State) (op : ℕ) → Bounded 9 (byFormat out f s op)
@@ -76,17 +76,17 @@ bounded-keep : (s : State) (k : ℕ) → Bounded 1 (keep s k)
 unfolding keep
 bounded-keep s k = bounded-store word _ _
 
+bounded-keepFour : (s : State) (h i j k : ℕ) → Bounded 4 (keepFour s h i j k)
+unfolding keepFour
+bounded-keepFour s h i j k =
+    bounded-then {k = 3} (omega arith) (bounded-keep s h) λ _.
+    bounded-then {k = 2} (omega arith) (bounded-keep s i) λ _.
+    bounded-then {k = 1} (omega arith) (bounded-keep s j) λ _.
+    bounded-keep s k
+
 bounded-keepRegisters : (s : State) → Bounded 8 (keepRegisters s)
 unfolding keepRegisters
-bounded-keepRegisters s =
-    bounded-then {k = 7} (omega arith) (bounded-keep s 0) λ _.
-    bounded-then {k = 6} (omega arith) (bounded-keep s 1) λ _.
-    bounded-then {k = 5} (omega arith) (bounded-keep s 2) λ _.
-    bounded-then {k = 4} (omega arith) (bounded-keep s 3) λ _.
-    bounded-then {k = 3} (omega arith) (bounded-keep s 4) λ _.
-    bounded-then {k = 2} (omega arith) (bounded-keep s 5) λ _.
-    bounded-then {k = 1} (omega arith) (bounded-keep s 6) λ _.
-    bounded-keep s 7
+bounded-keepRegisters s = bounded-then {k = 4} (omega arith) (bounded-keepFour s 0 1 2 3) (λ _. bounded-keepFour s 4 5 6 7)
 
 bounded-save : (out : Outside) (s : State) → Bounded 9 (save out s)
 unfolding save
@@ -99,17 +99,17 @@ bounded-pickUp : (s : State) (k : ℕ) → Bounded 0 (pickUp s k)
 unfolding pickUp
 bounded-pickUp s k = bounded-then {k = 0} (omega arith) (bounded-load {n = 0} word _) (λ _. gives _)
 
+bounded-pickUpFour : (s : State) (h i j k : ℕ) → Bounded 0 (pickUpFour s h i j k)
+unfolding pickUpFour
+bounded-pickUpFour s h i j k =
+    bounded-then {k = 0} (omega arith) (bounded-pickUp s h) λ s.
+    bounded-then {k = 0} (omega arith) (bounded-pickUp s i) λ s.
+    bounded-then {k = 0} (omega arith) (bounded-pickUp s j) λ s.
+    bounded-pickUp s k
+
 bounded-pickUpRegisters : (s : State) → Bounded 0 (pickUpRegisters s)
 unfolding pickUpRegisters
-bounded-pickUpRegisters s =
-    bounded-then {k = 0} (omega arith) (bounded-pickUp s 0) λ s.
-    bounded-then {k = 0} (omega arith) (bounded-pickUp s 1) λ s.
-    bounded-then {k = 0} (omega arith) (bounded-pickUp s 2) λ s.
-    bounded-then {k = 0} (omega arith) (bounded-pickUp s 3) λ s.
-    bounded-then {k = 0} (omega arith) (bounded-pickUp s 4) λ s.
-    bounded-then {k = 0} (omega arith) (bounded-pickUp s 5) λ s.
-    bounded-then {k = 0} (omega arith) (bounded-pickUp s 6) λ s.
-    bounded-pickUp s 7
+bounded-pickUpRegisters s = bounded-then {k = 0} (omega arith) (bounded-pickUpFour s 0 1 2 3) (λ s. bounded-pickUpFour s 4 5 6 7)
 
 bounded-restore : (s : State) → Bounded 0 (restore s)
 unfolding restore

@@ -14,7 +14,7 @@ use Rattle.state.specs.Stack.{push, pushBoth, fromLoc, trap}
 use Rattle.step.specs.declared.Kind.{Kind}
 use Rattle.step.specs.declared.Cause.{Cause}
 use Rattle.step.specs.declared.Cause.the-variants.{LockedAt}
-use Rattle.step.specs.Places.{savePlace, pickUp, pickUpRegisters, restore}
+use Rattle.step.specs.Places.{savePlace, pickUp, pickUpFour, pickUpRegisters, restore}
 use Rattle.step.specs.Step.{After, after, orAt, restart, past, kindOf, workOf, busError, errorCauseOf, errorOf, stepOf}
 use Rattle.step.proofs.Laws.Ends.{step-ill}
 use Rattle.step.specs.Told.{Low, gives, reads}
@@ -33,19 +33,19 @@ pick-up-low : (s : State) (k : ℕ) → savePlace k / 256 ≡ 0 → Low (pickUp 
 unfolding pickUp _>>=_
 pick-up-low s k e = reads _ (savePlace k) e (λ v. gives _)
 
+pick-up-four-low : (s : State) (h i j k : ℕ) → savePlace h / 256 ≡ 0 → savePlace i / 256 ≡ 0 → savePlace j / 256 ≡ 0 → savePlace k / 256 ≡ 0 → Low (pickUpFour s h i j k)
+unfolding pickUpFour
+pick-up-four-low s h i j k a b c d =
+    low-then (pick-up-low s h a) λ s.
+    low-then (pick-up-low s i b) λ s.
+    low-then (pick-up-low s j c) λ s.
+    pick-up-low s k d
+
 -- the places, picked up at the end of a save and by an option of the power-up
 pub restore-low : (s : State) → Low (restore s)
 unfolding restore pickUpRegisters
 restore-low s =
-    low-then (low-then (pick-up-low s 0 refl) λ s.
-    low-then (pick-up-low s 1 refl) λ s.
-    low-then (pick-up-low s 2 refl) λ s.
-    low-then (pick-up-low s 3 refl) λ s.
-    low-then (pick-up-low s 4 refl) λ s.
-    low-then (pick-up-low s 5 refl) λ s.
-    low-then (pick-up-low s 6 refl) λ s.
-    pick-up-low s 7 refl)
-    λ s.
+    low-then (low-then (pick-up-four-low s 0 1 2 3 refl refl refl refl) (λ s. pick-up-four-low s 4 5 6 7 refl refl refl refl)) λ s.
     low-then (reads _ (savePlace 8) refl (λ v. gives v)) λ ps.
     gives _
 

@@ -22,7 +22,7 @@ use Rattle.state.specs.State.{reg, withReg, withMode, withMark, withStatus, psO
 use Rattle.state.specs.Registers.{regOf, setReg}
 use Rattle.step.specs.declared.Kind.the-variants.{Saves, Restores, Waits}
 use Rattle.step.specs.declared.Cause.the-variants as Cause
-use Rattle.step.specs.Places.{savePlace, keep, pickUp, keepRegisters, pickUpRegisters, save, restore}
+use Rattle.step.specs.Places.{savePlace, keep, pickUp, keepFour, pickUpFour, keepRegisters, pickUpRegisters, save, restore}
 use Rattle.step.specs.Step.{after, kindIn, kindOf, workOf, stepOf}
 use Rattle.step.proofs.Laws.Ends.{step-well}
 use Rattle.step.specs.Saved.{keptIn, savedIn, Words}
@@ -112,7 +112,7 @@ module _ (out : Outside) (s : State) where
 -- page 0 can be written
 module _ (map : List ℕ) (fit : writable map 0 ≡ true) (out : Outside) (s : State) (m : List ℕ) where
   pub save-well : run map (save out s) m ≡ value (withMode s Saved) (savedIn out s m)
-  unfolding run save keepRegisters keep _>>=_ writable keptIn
+  unfolding run save keepRegisters keepFour keep _>>=_ writable keptIn
   save-well = rw fit
 
 can-be-read : (map : List ℕ) → writable map 0 ≡ true → fitted map 0 ≡ true
@@ -127,7 +127,7 @@ picked t n =
     withReg (withReg (withReg (withReg low 4 (at 4)) 5 (at 5)) 6 (at 6)) 7 (at 7)
 
 restore-well : (map : List ℕ) (t : State) (n : List ℕ) → fitted map 0 ≡ true → run map (restore t) n ≡ value (withMode (withStatus (picked t n) (wordAt n (savePlace 8))) Running) n
-unfolding run restore pickUpRegisters pickUp _>>=_ fitted
+unfolding run restore pickUpRegisters pickUpFour pickUp _>>=_ fitted
 restore-well map t n e = rw e
 
 -- a state with all registers and the PS of another differs from it in the mark at most

@@ -1,14 +1,7 @@
-use mathlib.Core.Path.{sym, _∙_}
 use Rattle.step.specs.Step.{busError}
 use borrow.Author.Needs.{needs}
 use Rattle.step.proofs.bus_error.Statement.{statement}
 use Rattle.step.proofs.bus_error.Tie as tie
-
-trap-requires : tie.Need-trap-requires
-trap-requires c κs = c .before .before .before .before .before .before .pre
-
-same-length : tie.Need-same-length
-same-length c = c .before .before .trap .ensures .board .lent .size ∙ sym (c .before .before .before .before .before .before .before .before .before .pre .lent .size)
 
 returns : tie.Need-returns
 unfolding busError
@@ -16,4 +9,4 @@ returns c =
     record { got = (rw (c .before .before .before .ps .ensures, c .before .before .before .before .before .before .past .ensures) at (c .before .before .trap .ensures)) .got; board = c .before .before .trap .ensures .board }
 
 pub bus-error-spec : {M : Type 1} → statement M
-bus-error-spec = tie.close (tie.spec (λ c κs. search needs) (λ c κs. search needs) trap-requires same-length returns)
+bus-error-spec = tie.close (tie.spec (λ c κs. search needs) (λ c κs. search needs) (λ c κs. search needs) (λ c. search needs) returns)

@@ -9,9 +9,6 @@ use Rattle.step.proofs.other.Tie as tie
 seldom-requires : tie.Need-seldom-requires
 seldom-requires c κs = ((fresh-clear (c .before .before .before .before .before .before .pre .0) (c .before .before .clear .ensures)) .board, c .before .before .before .before .before .before .pre .2)
 
-error-requires : tie.Need-error-requires
-error-requires c κs = c .before .before .before .before .before .before .before .seldom .ensures .board
-
 returns : tie.Need-returns
 returns c =
     record {
@@ -40,7 +37,7 @@ other-spec =
     (λ c. search needs)
     (λ c κs. search needs)
     (λ c. search needs)
-    error-requires
+    (λ c κs. search needs)
     (λ c. search needs)
     returns
     (λ c. search needs)

@@ -10,9 +10,6 @@ use Rattle.step.proofs.power.Tie as tie
 seldom-requires : tie.Need-seldom-requires
 seldom-requires c κs = ((fresh-none (c .before .before .before .before .before .before .before .pre)) .board, option-no-code _ (c .before .before .power-up-option .ensures))
 
-same-length : tie.Need-same-length
-same-length c = c .before .before .before .before .before .seldom .ensures .board .lent .size ∙ sym (c .before .before .before .before .before .before .before .before .before .before .before .before .before .pre .size)
-
 returns : tie.Need-returns
 returns c = record {
   came = powered _ _ _ (c .before .before .before .before .before .before .before .before .before .before .cleared .ensures) (c .before .before .before .before .before .before .before .before .before .hear .ensures) (c .before .before .before .before .before .before .before .before .power-up-option .ensures)
@@ -44,7 +41,7 @@ power-spec =
     (λ c κs. search needs)
     seldom-requires
     (λ c. search needs)
-    same-length
+    (λ c. search needs)
     returns
     (λ c. search needs)
     rollback-requires

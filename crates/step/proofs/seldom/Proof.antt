@@ -1,28 +1,10 @@
-use mathlib.Core.Path.{refl, sym, _∙_}
+use mathlib.Core.Path.{refl}
 use Rattle.board.proofs.Laws.{got-give, did}
 use Rattle.step.specs.Step.{workOf}
 use Rattle.step.proofs.Laws.Ends.{no-code}
 use borrow.Author.Needs.{needs}
 use Rattle.step.proofs.seldom.Statement.{statement}
 use Rattle.step.proofs.seldom.Tie as tie
-
-restart-requires : tie.Need-restart-requires
-restart-requires c κs = c .before .before .before .before .before .pre .0 .lent
-
-save-requires : tie.Need-save-requires
-save-requires c κs = c .before .before .before .before .before .before .pre .0
-
-restart-requires-2 : tie.Need-restart-requires-2
-restart-requires-2 c κs = c .before .before .before .before .before .pre .0 .lent
-
-restore-requires : tie.Need-restore-requires
-restore-requires c κs = c .before .before .before .before .before .pre .0 .lent
-
-trap-now-requires : tie.Need-trap-now-requires
-trap-now-requires c κs = c .before .before .before .before .before .before .before .pre .0
-
-vectored-requires : tie.Need-vectored-requires
-vectored-requires c κs = c .before .before .before .before .before .before .pre .0
 
 returns : tie.Need-returns
 returns c = absurd (no-code (c .enum-told .given .1) (c .before .before .before .before .pre .1))
@@ -36,9 +18,6 @@ returns-3 : tie.Need-returns-3
 unfolding workOf
 returns-3 c = rw (c .before .enum-told3 .given .1)
     (did refl (c .before .before .before .before .before .pre .0) (got-give (c .bootstrap .ensures)))
-
-same-length-2 : tie.Need-same-length-2
-same-length-2 c = c .before .before .before .save .ensures .board .lent .size ∙ sym (c .before .before .before .before .before .before .before .before .before .before .pre .0 .lent .size)
 
 returns-4 : tie.Need-returns-4
 unfolding workOf
@@ -60,16 +39,10 @@ unfolding workOf
 returns-7 c = rw (c .before .before .before .enum-told7 .given .1, c .apart2 .ensures)
     (record { got = c .before .restore .ensures .got; board = c .before .before .before .before .before .before .before .pre .0 })
 
-same-length-5 : tie.Need-same-length-5
-same-length-5 c = c .before .before .before .trap-now .ensures .board .lent .size ∙ sym (c .before .before .before .before .before .before .before .before .before .before .before .pre .0 .lent .size)
-
 returns-8 : tie.Need-returns-8
 unfolding workOf
 returns-8 c = rw (c .before .before .before .before .before .before .before .enum-told8 .given .1, c .apart3 .ensures)
     (record { got = (rw (c .before .before .before .before .vector .ensures) at (c .before .before .before .trap-now .ensures)) .got; board = c .before .before .before .trap-now .ensures .board })
-
-same-length-6 : tie.Need-same-length-6
-same-length-6 c = c .before .before .before .vectored .ensures .board .lent .size ∙ sym (c .before .before .before .before .before .before .before .before .before .before .pre .0 .lent .size)
 
 returns-9 : tie.Need-returns-9
 unfolding workOf
@@ -92,25 +65,25 @@ seldom-spec =
     (tie.spec
     (λ c. search needs)
     (λ c. search needs)
-    restart-requires
-    (λ c. search needs)
-    (λ c κs. search needs)
-    (λ c. search needs)
-    save-requires
     (λ c κs. search needs)
     (λ c. search needs)
     (λ c κs. search needs)
     (λ c. search needs)
-    restart-requires-2
-    (λ c. search needs)
-    restore-requires
+    (λ c κs. search needs)
     (λ c κs. search needs)
     (λ c. search needs)
     (λ c κs. search needs)
-    trap-now-requires
+    (λ c. search needs)
     (λ c κs. search needs)
     (λ c. search needs)
-    vectored-requires
+    (λ c κs. search needs)
+    (λ c κs. search needs)
+    (λ c. search needs)
+    (λ c κs. search needs)
+    (λ c κs. search needs)
+    (λ c κs. search needs)
+    (λ c. search needs)
+    (λ c κs. search needs)
     (λ c κs. search needs)
     (λ c. search needs)
     (λ c. search needs)
@@ -118,16 +91,16 @@ seldom-spec =
     (λ c. search needs)
     returns-2
     returns-3
-    same-length-2
+    (λ c. search needs)
     returns-4
     returns-5
     (λ c. search needs)
     returns-6
     (λ c. search needs)
     returns-7
-    same-length-5
+    (λ c. search needs)
     returns-8
-    same-length-6
+    (λ c. search needs)
     returns-9
     returns-10
     returns-11)

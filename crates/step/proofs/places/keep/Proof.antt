@@ -1,14 +1,7 @@
-use mathlib.Core.Path.{sym, _∙_}
 use Rattle.step.specs.Places.{keep}
 use borrow.Author.Needs.{needs}
 use Rattle.step.proofs.places.keep.Statement.{statement}
 use Rattle.step.proofs.places.keep.Tie as tie
-
-store-requires : tie.Need-store-requires
-store-requires c κs = c .before .before .before .before .before .before .pre
-
-same-length : tie.Need-same-length
-same-length c = c .before .before .store .ensures .board .lent .size ∙ sym (c .before .before .before .before .before .before .before .before .before .pre .lent .size)
 
 returns : tie.Need-returns
 unfolding keep
@@ -20,6 +13,6 @@ keep-spec =
     (tie.spec
     (λ c κs. search needs)
     (λ c κs. search needs)
-    store-requires
-    same-length
+    (λ c κs. search needs)
+    (λ c. search needs)
     returns)

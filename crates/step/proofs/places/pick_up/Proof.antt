@@ -5,9 +5,6 @@ use borrow.Author.Needs.{needs}
 use Rattle.step.proofs.places.pick_up.Statement.{statement}
 use Rattle.step.proofs.places.pick_up.Tie as tie
 
-load-requires : tie.Need-load-requires
-load-requires c κs = c .before .before .before .pre
-
 returns : tie.Need-returns
 unfolding pickUp
 returns c = record { got = got-gone _ ((rw (c .before .before .before .plus .ensures) at (c .before .before .load .ensures)) .got) (unread-at ((rw (c .before .before .before .plus .ensures) at (c .before .before .load .ensures)) .got) (word-none (c .enum-told .given .1))) (rw (c .before .before .before .plus .ensures) refl) }
@@ -24,7 +21,7 @@ pick-up-spec =
     tie.close
     (tie.spec
     (λ c κs. search needs)
-    load-requires
+    (λ c κs. search needs)
     (λ c. search needs)
     (λ c. search needs)
     returns

@@ -6,15 +6,9 @@ use borrow.Author.Needs.{needs}
 use Rattle.step.proofs.places.restore.Statement.{statement}
 use Rattle.step.proofs.places.restore.Tie as tie
 
-pick-up-registers-requires : tie.Need-pick-up-registers-requires
-pick-up-registers-requires c κs = c .before .before .pre
-
 returns : tie.Need-returns
 unfolding restore
 returns c = record { got = got-gone _ (c .before .before .pick-up-registers .ensures .got) (went-none (c .enum-told .given .1)) (went-none (c .enum-told .given .1)) }
-
-load-requires : tie.Need-load-requires
-load-requires c κs = c .before .before .before .before .before .before .pre
 
 returns-2 : tie.Need-returns-2
 unfolding restore
@@ -35,11 +29,11 @@ pub restore-spec : {M : Type 1} → statement M
 restore-spec =
     tie.close
     (tie.spec
-    pick-up-registers-requires
+    (λ c κs. search needs)
     (λ c. search needs)
     (λ c. search needs)
     returns
-    load-requires
+    (λ c κs. search needs)
     (λ c. search needs)
     (λ c. search needs)
     returns-2

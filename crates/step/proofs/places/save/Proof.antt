@@ -1,4 +1,4 @@
-use mathlib.Core.Path.{refl, sym, _∙_}
+use mathlib.Core.Path.{refl}
 use Rattle.board.proofs.Laws.{got-then, got-gone, got-give, did, kept-is, kept-none, unwritten-at}
 use Rattle.state.proofs.Laws.Answer.{went-store, kept-lost}
 use Rattle.step.specs.Places.{save}
@@ -6,22 +6,10 @@ use borrow.Author.Needs.{needs}
 use Rattle.step.proofs.places.save.Statement.{statement}
 use Rattle.step.proofs.places.save.Tie as tie
 
-keep-registers-requires : tie.Need-keep-registers-requires
-keep-registers-requires c κs = c .before .before .before .before .pre
-
-same-length : tie.Need-same-length
-same-length c = c .before .before .before .before .before .keep-registers .ensures .board .lent .size ∙ sym (c .before .before .before .before .before .before .before .before .before .before .pre .lent .size)
-
 returns : tie.Need-returns
 unfolding save
 returns c = did (went-store (c .unwritten .result)) (c .before .before .before .before .before .before .before .before .before .before .pre)
     (got-gone _ (c .before .before .before .before .before .keep-registers .ensures .got) (kept-none (c .before .enum-told2 .given .1)) (kept-lost (c .unwritten .ensures) (c .before .enum-told2 .given .1)))
-
-store-requires : tie.Need-store-requires
-store-requires c κs = c .before .before .before .before .before .before .before .keep-registers .ensures .board
-
-same-length-2 : tie.Need-same-length-2
-same-length-2 c = c .before .before .before .before .store .ensures .board .lent .size ∙ sym (c .before .before .before .before .before .before .before .before .before .before .before .before .before .before .before .before .before .pre .lent .size)
 
 returns-2 : tie.Need-returns-2
 unfolding save
@@ -30,9 +18,6 @@ returns-2 c =
     did refl (c .before .before .before .before .before .before .before .before .before .before .before .before .before .before .before .before .before .pre)
     (got-then _ (c .before .before .before .before .before .before .before .before .before .before .before .before .keep-registers .ensures .got) (kept-is (c .before .before .before .before .before .before .before .before .enum-told .given .1))
     (got-gone _ kept (unwritten-at kept (kept-none (c .enum-told4 .given .1))) refl))
-
-same-length-3 : tie.Need-same-length-3
-same-length-3 c = c .before .before .before .before .before .store .ensures .board .lent .size ∙ sym (c .before .before .before .before .before .before .before .before .before .before .before .before .before .before .before .before .before .before .pre .lent .size)
 
 returns-3 : tie.Need-returns-3
 unfolding save
@@ -45,18 +30,18 @@ pub save-spec : {M : Type 1} → statement M
 save-spec =
     tie.close
     (tie.spec
-    keep-registers-requires
+    (λ c κs. search needs)
     (λ c. search needs)
     (λ c. search needs)
     (λ c κs. search needs)
-    same-length
+    (λ c. search needs)
     returns
     (λ c κs. search needs)
-    store-requires
+    (λ c κs. search needs)
     (λ c. search needs)
     (λ c. search needs)
-    same-length-2
+    (λ c. search needs)
     returns-2
     (λ c κs. search needs)
-    same-length-3
+    (λ c. search needs)
     returns-3)

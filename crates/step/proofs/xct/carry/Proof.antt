@@ -1,4 +1,3 @@
-use mathlib.Core.Path.{sym, _∙_}
 use Rattle.board.proofs.Laws.{got-then, got-gone, did}
 use Rattle.state.proofs.Laws.Answer.{went-is, went-none, went-store}
 use Rattle.step.specs.Xct.{carry}
@@ -6,23 +5,11 @@ use borrow.Author.Needs.{needs}
 use Rattle.step.proofs.xct.carry.Statement.{statement}
 use Rattle.step.proofs.xct.carry.Tie as tie
 
-execute-requires : tie.Need-execute-requires
-execute-requires c κs = c .before .before .before .before .before .pre
-
-same-length : tie.Need-same-length
-same-length c = c .before .before .before .before .execute .ensures .board .lent .size ∙ sym (c .before .before .before .before .before .before .before .before .before .before .pre .lent .size)
-
 returns : tie.Need-returns
 unfolding carry
 returns c =
     did (went-store (c .before .before .before .before .execute .result)) (c .before .before .before .before .before .before .before .before .before .before .pre)
     (got-gone _ ((rw (c .before .before .before .before .before .before .before .with-mark .ensures) at (c .before .before .before .before .execute .ensures)) .got) (went-none (c .enum-told .given .1)) (went-none (c .enum-told .given .1)))
-
-traced-requires : tie.Need-traced-requires
-traced-requires c κs = c .before .before .before .before .before .before .before .execute .ensures .board
-
-same-length-2 : tie.Need-same-length-2
-same-length-2 c = c .before .before .traced .ensures .board .lent .size ∙ sym (c .before .before .before .before .before .before .before .before .before .before .before .before .before .before .before .before .pre .lent .size)
 
 returns-2 : tie.Need-returns-2
 unfolding carry
@@ -38,11 +25,11 @@ carry-spec =
     tie.close
     (tie.spec
     (λ c κs. search needs)
-    execute-requires
+    (λ c κs. search needs)
     (λ c. search needs)
     (λ c. search needs)
-    same-length
+    (λ c. search needs)
     returns
-    traced-requires
-    same-length-2
+    (λ c κs. search needs)
+    (λ c. search needs)
     returns-2)

@@ -1,14 +1,9 @@
-use mathlib.Core.Path.{refl, sym, _∙_}
+use mathlib.Core.Path.{refl}
+use borrow.Author.Needs.{needs}
 use Rattle.board.proofs.Laws.{got-give, did}
 use Rattle.step.specs.Xct.{traced}
 use Rattle.step.proofs.xct.traced.Statement.{statement}
 use Rattle.step.proofs.xct.traced.Tie as tie
-
-trace-requires : tie.Need-trace-requires
-trace-requires c κs = c .before .before .before .before .before .pre
-
-same-length : tie.Need-same-length
-same-length c = c .before .before .trace .ensures .board .lent .size ∙ sym (c .before .before .before .before .before .before .before .before .pre .lent .size)
 
 returns : tie.Need-returns
 unfolding traced
@@ -24,4 +19,4 @@ returns-2 c =
     (got-give refl))
 
 pub traced-spec : {M : Type 1} → statement M
-traced-spec = tie.close (tie.spec trace-requires same-length returns returns-2)
+traced-spec = tie.close (tie.spec (λ c κs. search needs) (λ c. search needs) returns returns-2)
