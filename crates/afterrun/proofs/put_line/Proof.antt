@@ -7,14 +7,8 @@ use Rattle.afterrun.proofs.put_line.Tie as tie
 slice-aggregate-put : tie.Need-slice-aggregate-put
 slice-aggregate-put c = sym (length-take-le _ _ (c .before .if1 .taken))
 
-put-requires : tie.Need-put-requires
-put-requires c κs = search needs
-
 slice-aggregate-put-2 : tie.Need-slice-aggregate-put-2
 slice-aggregate-put-2 c = search needs
-
-put-requires-2 : tie.Need-put-requires-2
-put-requires-2 c κs = search needs
 
 returns : tie.Need-returns
 returns c = search needs
@@ -30,9 +24,9 @@ put-line-spec =
     tie.close
     (tie.spec
     slice-aggregate-put
-    put-requires
+    (λ c κs. search needs)
     slice-aggregate-put-2
-    put-requires-2
+    (λ c κs. search needs)
     returns
     returns-2
     returns-3)

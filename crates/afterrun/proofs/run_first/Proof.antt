@@ -7,17 +7,8 @@ use Rattle.afterrun.proofs.run_first.Tie as tie
 slice-aggregate-run-up : tie.Need-slice-aggregate-run-up
 slice-aggregate-run-up c = sym (length-take-le _ _ (c .before .before .if1 .taken))
 
-run-up-requires : tie.Need-run-up-requires
-run-up-requires c κs = search needs
-
-same-length : tie.Need-same-length
-same-length c = search needs
-
 returns : tie.Need-returns
 returns c = search needs
-
-put-refused-requires : tie.Need-put-refused-requires
-put-refused-requires c κs = search needs
 
 returns-2 : tie.Need-returns-2
 returns-2 c = search needs
@@ -27,8 +18,8 @@ run-first-spec =
     tie.close
     (tie.spec
     slice-aggregate-run-up
-    run-up-requires
-    same-length
+    (λ c κs. search needs)
+    (λ c. search needs)
     returns
-    put-refused-requires
+    (λ c κs. search needs)
     returns-2)

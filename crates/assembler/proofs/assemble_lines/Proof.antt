@@ -11,9 +11,6 @@ use Rattle.assembler.proofs.assemble_lines.Tie as tie
 survey-requires : tie.Need-survey-requires
 survey-requires c κs = (c .before .before .before .before .before .pre .0, search needs, search needs)
 
-lowest-line-requires : tie.Need-lowest-line-requires
-lowest-line-requires c κs = c .before .before .survey .ensures
-
 cast-t21 : tie.Need-cast-t21
 cast-t21 c = omega (arith, c .if1 .taken, c .before .before .before .before .before .before .before .count .ensures, c .before .before .before .before .before .before .before .before .before .before .pre .0)
 
@@ -23,9 +20,6 @@ returns c =
     let a = c .before .before .before .before .before .before .before .before .before .before .args in
     let e = c .before .before .before .before .before .before .before .count .ensures in
     stopped (a .source .now) (a .out .now) _ _ e Text _ _ (c .before .lowest-line .ensures .0) (c .if1 .taken)
-
-lowest-line-requires-2 : tie.Need-lowest-line-requires-2
-lowest-line-requires-2 c κs = c .before .before .before .before .before .before .survey .ensures
 
 cast-t24 : tie.Need-cast-t24
 cast-t24 c = omega (arith, c .if2 .taken, c .before .before .before .before .before .before .before .before .before .before .before .count .ensures, c .before .before .before .before .before .before .before .before .before .before .before .before .before .before .pre .0)
@@ -37,9 +31,6 @@ returns-2 c =
     let e = c .before .before .before .before .before .before .before .before .before .before .before .count .ensures in
     stopped (a .source .now) (a .out .now) _ _ e Given _ _ (c .before .lowest-line2 .ensures .0) (c .if2 .taken)
     ∙ passed (a .source .now) (a .out .now) _ _ e Text _ _ (c .before .before .before .before .before .lowest-line .ensures .0) (c .before .before .before .before .if1 .left)
-
-lowest-line-requires-3 : tie.Need-lowest-line-requires-3
-lowest-line-requires-3 c κs = c .before .before .before .before .before .before .before .before .before .before .survey .ensures
 
 cast-t27 : tie.Need-cast-t27
 cast-t27 c = omega (arith, c .if3 .taken, c .before .before .before .before .before .before .before .before .before .before .before .before .before .before .before .count .ensures, c .before .before .before .before .before .before .before .before .before .before .before .before .before .before .before .before .before .before .pre .0)
@@ -53,9 +44,6 @@ returns-3 c =
     ∙ passed (a .source .now) (a .out .now) _ _ e Given _ _ (c .before .before .before .before .before .lowest-line2 .ensures .0) (c .before .before .before .before .if2 .left)
     ∙ passed (a .source .now) (a .out .now) _ _ e Text _ _ (c .before .before .before .before .before .before .before .before .before .lowest-line .ensures .0) (c .before .before .before .before .before .before .before .before .if1 .left)
 
-lowest-line-requires-4 : tie.Need-lowest-line-requires-4
-lowest-line-requires-4 c κs = c .before .before .before .before .before .before .before .before .before .before .before .before .before .before .survey .ensures
-
 cast-t30 : tie.Need-cast-t30
 cast-t30 c = omega (arith, c .if4 .taken, c .before .before .before .before .before .before .before .before .before .before .before .before .before .before .before .before .before .before .before .count .ensures, c .before .before .before .before .before .before .before .before .before .before .before .before .before .before .before .before .before .before .before .before .before .before .pre .0)
 
@@ -68,9 +56,6 @@ returns-4 c =
     ∙ passed (a .source .now) (a .out .now) _ _ e Missing _ _ (c .before .before .before .before .before .lowest-line3 .ensures .0) (c .before .before .before .before .if3 .left)
     ∙ passed (a .source .now) (a .out .now) _ _ e Given _ _ (c .before .before .before .before .before .before .before .before .before .lowest-line2 .ensures .0) (c .before .before .before .before .before .before .before .before .if2 .left)
     ∙ passed (a .source .now) (a .out .now) _ _ e Text _ _ (c .before .before .before .before .before .before .before .before .before .before .before .before .before .lowest-line .ensures .0) (c .before .before .before .before .before .before .before .before .before .before .before .before .if1 .left)
-
-lowest-line-requires-5 : tie.Need-lowest-line-requires-5
-lowest-line-requires-5 c κs = c .before .before .before .before .before .before .before .before .before .before .before .before .before .before .before .before .before .before .survey .ensures
 
 cast-t33 : tie.Need-cast-t33
 cast-t33 c = omega (arith, c .if5 .taken, c .before .before .before .before .before .before .before .before .before .before .before .before .before .before .before .before .before .before .before .before .before .before .before .count .ensures, c .before .before .before .before .before .before .before .before .before .before .before .before .before .before .before .before .before .before .before .before .before .before .before .before .before .before .pre .0)
@@ -113,19 +98,19 @@ assemble-lines-spec =
     (tie.spec
     (λ c κs. search needs)
     survey-requires
-    lowest-line-requires
+    (λ c κs. search needs)
     cast-t21
     returns
-    lowest-line-requires-2
+    (λ c κs. search needs)
     cast-t24
     returns-2
-    lowest-line-requires-3
+    (λ c κs. search needs)
     cast-t27
     returns-3
-    lowest-line-requires-4
+    (λ c κs. search needs)
     cast-t30
     returns-4
-    lowest-line-requires-5
+    (λ c κs. search needs)
     cast-t33
     returns-5
     place-all-requires

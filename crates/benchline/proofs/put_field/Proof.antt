@@ -2,7 +2,6 @@ use Rattle.hexdigits.proofs.Laws.Laid.{then, wrote-fits, written-is, written-no
 use Rattle.hexdigits.specs.Digits.{hex4}
 use Rattle.benchline.specs.Line.{field}
 use native.Mathlib.Omega.{arith}
-use mathlib.Core.Path.{_∙_}
 use borrow.Author.Needs.{needs}
 use Rattle.benchline.proofs.put_field.Statement.{statement}
 use Rattle.benchline.proofs.put_field.Tie as tie
@@ -12,9 +11,6 @@ unfolding hex4
 space-at-requires c κs =
     let w = wrote-fits _ _ _ _ (omega (arith, c .before .before .before .before .before .if1 .left)) (c .before .before .before .put-hex4 .ensures) in
     omega (arith, c .before .before .before .put-hex4 .kept .0, w .count)
-
-same-length : tie.Need-same-length
-same-length c = c .before .before .space-at .kept .0 ∙ c .before .before .before .before .before .before .put-hex4 .kept .0
 
 returns : tie.Need-returns
 unfolding field hex4
@@ -27,4 +23,4 @@ returns-2 c =
     written-is _ _ _ _ (omega (arith, room)) (then _ _ _ _ _ _ _ (wrote-fits _ _ _ _ (omega (arith, room)) (c .before .before .before .before .before .before .put-hex4 .ensures)) (c .before .before .space-at .ensures))
 
 pub put-field-spec : {M : Type 1} → statement M
-put-field-spec = tie.close (tie.spec returns (λ c κs. search needs) space-at-requires same-length returns-2)
+put-field-spec = tie.close (tie.spec returns (λ c κs. search needs) space-at-requires (λ c. search needs) returns-2)

@@ -5,7 +5,6 @@ use Rattle.benchline.proofs.Laws.Printed.{printed-is, printed-none}
 use Rattle.benchline.proofs.Laws.{name-length, refused-length, digits-few}
 use Rattle.benchline.specs.Line.{refusedText}
 use native.Mathlib.Omega.{arith}
-use mathlib.Core.Path.{_∙_}
 use Rattle.benchline.proofs.write_refused.Statement.{statement}
 use Rattle.benchline.proofs.write_refused.Tie as tie
 
@@ -20,9 +19,6 @@ put-name-requires c κs = omega (arith, c .before .if1 .left)
 
 decimal-at-requires : tie.Need-decimal-at-requires
 decimal-at-requires c κs = omega (arith, c .before .before .before .put-name .kept .0, c .before .before .before .put-name .ensures .count, name-length, c .before .before .before .before .before .before .digits-of .ensures, c .before .before .before .before .before .if1 .left)
-
-same-length : tie.Need-same-length
-same-length c = c .before .before .decimal-at .kept .0 ∙ c .before .before .before .before .before .before .put-name .kept .0
 
 returns-2 : tie.Need-returns-2
 unfolding refusedText
@@ -40,5 +36,5 @@ write-refused-spec =
     returns
     put-name-requires
     decimal-at-requires
-    same-length
+    (λ c. search needs)
     returns-2)

@@ -4,12 +4,6 @@ use borrow.Author.Needs.{needs}
 use Rattle.listing.proofs.put_line.Statement.{statement}
 use Rattle.listing.proofs.put_line.Tie as tie
 
-put-nothing-requires : tie.Need-put-nothing-requires
-put-nothing-requires c κs = c .before .before .before .before .pre .0
-
-put-cut-requires : tie.Need-put-cut-requires
-put-cut-requires c κs = c .before .before .before .before .pre .0
-
 put-whole-requires : tie.Need-put-whole-requires
 put-whole-requires c κs = let f = fits-whole _ _ _ (c .before .before .before .before .before .pre .1) (c .before .before .found .given .1) in (c .before .before .before .before .before .pre .0, f .0, f .1)
 
@@ -30,9 +24,9 @@ put-line-spec =
     tie.close
     (tie.spec
     (λ c. search needs)
-    put-nothing-requires
+    (λ c κs. search needs)
     (λ c. search needs)
-    put-cut-requires
+    (λ c κs. search needs)
     (λ c. search needs)
     put-whole-requires
     (λ c. search needs)

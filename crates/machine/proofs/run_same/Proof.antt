@@ -6,8 +6,6 @@ use Rattle.machine.proofs.Laws.Same.{same-refused, same-answered}
 use borrow.Author.Needs.{needs}
 use Rattle.machine.proofs.run_same.Statement.{statement}
 use Rattle.machine.proofs.run_same.Tie as tie
-use Rattle.machine.proofs.run_same.Reads as reads
-use Rattle.machine.proofs.run_same.Lts as lts
 
 returns : tie.Need-returns
 returns c = same-refused _ _ _ _ _ _ _ (c .before .step-refusal .ensures) (c .if1 .taken)
@@ -17,11 +15,8 @@ run-same-on-requires c κs =
     let k = step-sound (length (c .before .before .before .before .before .args .image .now)) (c .before .before .before .before .before .args .map .now) _ _ _ (c .before .before .before .before .before .args .line) (sym (c .before .before .step-refusal .ensures) ∙ c .before .if1 .left) in
     record { pages = k .pages; size = k .bytes; bytes = λ i. omega (arith, c .before .before .before .before .slice-known .given i) }
 
-same-length : tie.Need-same-length
-same-length c = search needs
-
 returns-2 : tie.Need-returns-2
 returns-2 c = same-answered _ _ _ _ _ _ _ _ (sym (c .before .before .before .before .before .step-refusal .ensures) ∙ c .before .before .before .before .if1 .left) (c .before .before .run-same-on .ensures .same)
 
 pub run-same-spec : {M : Type 1} → statement M
-run-same-spec = tie.close (tie.spec (λ c κs. search needs) returns run-same-on-requires same-length returns-2)
+run-same-spec = tie.close (tie.spec (λ c κs. search needs) returns run-same-on-requires (λ c. search needs) returns-2)

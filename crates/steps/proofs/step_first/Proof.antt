@@ -7,17 +7,8 @@ use Rattle.steps.proofs.step_first.Tie as tie
 slice-aggregate-step-up : tie.Need-slice-aggregate-step-up
 slice-aggregate-step-up c = sym (length-take-le _ _ (c .before .before .if1 .taken))
 
-step-up-requires : tie.Need-step-up-requires
-step-up-requires c κs = search needs
-
-same-length : tie.Need-same-length
-same-length c = search needs
-
 returns : tie.Need-returns
 returns c = search needs
-
-put-refused-requires : tie.Need-put-refused-requires
-put-refused-requires c κs = search needs
 
 returns-2 : tie.Need-returns-2
 returns-2 c = search needs
@@ -27,8 +18,8 @@ step-first-spec =
     tie.close
     (tie.spec
     slice-aggregate-step-up
-    step-up-requires
-    same-length
+    (λ c κs. search needs)
+    (λ c. search needs)
     returns
-    put-refused-requires
+    (λ c κs. search needs)
     returns-2)

@@ -5,21 +5,6 @@ use Rattle.assembler.proofs.Checked.{stopped, passed, finished}
 use borrow.Author.Needs.{needs}
 use Rattle.assembler.proofs.labelling.label_lines.Statement.{statement}
 use Rattle.assembler.proofs.labelling.label_lines.Tie as tie
-use Rattle.assembler.proofs.labelling.label_lines.Reads as reads
-use Rattle.assembler.proofs.labelling.label_lines.Lts as lts
-use Rattle.assembler.proofs.labelling.put_labels.Reads as put-labels-reads
-use Rattle.assembler.proofs.source.count.Reads as count-reads
-use Rattle.assembler.proofs.source.lowest_line.Reads as lowest-line-reads
-use Rattle.assembler.proofs.source.survey.Reads as survey-reads
-
-count-requires : tie.Need-count-requires
-count-requires c κs = search needs
-
-survey-requires : tie.Need-survey-requires
-survey-requires c κs = search needs
-
-lowest-line-requires : tie.Need-lowest-line-requires
-lowest-line-requires c κs = search needs
 
 cast-t16 : tie.Need-cast-t16
 cast-t16 c = search needs
@@ -29,9 +14,6 @@ unfolding labelFaults
 returns c =
     let a = c .before .before .before .before .before .before .before .before .before .before .args in
     stopped (a .source .now) (a .out .now) _ _ (c .before .before .before .before .before .before .before .count .ensures) Text _ _ (c .before .lowest-line .ensures .0) (c .if1 .taken)
-
-lowest-line-requires-2 : tie.Need-lowest-line-requires-2
-lowest-line-requires-2 c κs = search needs
 
 cast-t19 : tie.Need-cast-t19
 cast-t19 c = search needs
@@ -44,14 +26,8 @@ returns-2 c =
     stopped (a .source .now) (a .out .now) _ _ e Given _ _ (c .before .lowest-line2 .ensures .0) (c .if2 .taken)
     ∙ passed (a .source .now) (a .out .now) _ _ e Text _ _ (c .before .before .before .before .before .lowest-line .ensures .0) (c .before .before .before .before .if1 .left)
 
-put-labels-requires : tie.Need-put-labels-requires
-put-labels-requires c κs = search needs
-
 cast-t23 : tie.Need-cast-t23
 cast-t23 c = search needs
-
-same-length : tie.Need-same-length
-same-length c = search needs
 
 returns-3 : tie.Need-returns-3
 unfolding labelFaults
@@ -66,15 +42,15 @@ pub label-lines-spec : {M : Type 1} → statement M
 label-lines-spec =
     tie.close
     (tie.spec
-    count-requires
-    survey-requires
-    lowest-line-requires
+    (λ c κs. search needs)
+    (λ c κs. search needs)
+    (λ c κs. search needs)
     cast-t16
     returns
-    lowest-line-requires-2
+    (λ c κs. search needs)
     cast-t19
     returns-2
-    put-labels-requires
+    (λ c κs. search needs)
     cast-t23
-    same-length
+    (λ c. search needs)
     returns-3)

@@ -5,24 +5,14 @@ use borrow.Author.Needs.{needs}
 use Rattle.machine.proofs.Laws.Same.{run-tallied, among-below, parted}
 use Rattle.machine.proofs.same.part.Statement.{statement}
 use Rattle.machine.proofs.same.part.Tie as tie
-use Rattle.machine.proofs.same.part.Reads as reads
-use Rattle.machine.proofs.same.part.Lts as lts
-use Rattle.machine.proofs.runs.run_on.Reads as run-on-reads
-use Rattle.machine.proofs.same.joined.Reads as joined-reads
-
-run-on-requires : tie.Need-run-on-requires
-run-on-requires c κs = search needs
 
 joined-requires : tie.Need-joined-requires
 joined-requires c κs =
     let k = run-tallied _ _ (c .before .before .before .before .before .before .before .before .before .before .before .before .args .lines .now) _ _ _ _ (c .before .before .before .before .before .run-on .ensures .same) in
     (omega (arith, k .few, c .before .before .before .before .before .before .before .before .before .before .before .before .pre .1 .few, c .before .before .before .before .before .before .before .before .before .before .before .before .pre .3), among-below (length (c .before .before .before .before .before .before .before .before .before .before .before .before .args .lines .now)) (65536 - c .before .before .before .before .before .before .before .before .before .before .before .before .args .done) (c .before .before .before .before .before .run-on .result .ran .tally .first) (omega (arith, c .before .before .before .before .before .before .before .before .before .before .before .before .pre .3)) (k .among))
 
-same-length : tie.Need-same-length
-same-length c = search needs
-
 returns : tie.Need-returns
 returns c = parted _ _ _ _ _ _ _ _ _ (c .before .before .before .before .before .before .before .before .before .before .before .before .before .pre .1) (c .before .before .before .before .before .before .run-on .ensures .lent) (c .before .before .before .before .before .before .run-on .ensures .same) (c .joined .ensures)
 
 pub part-spec : {M : Type 1} → statement M
-part-spec = tie.close (tie.spec run-on-requires joined-requires same-length returns)
+part-spec = tie.close (tie.spec (λ c κs. search needs) joined-requires (λ c. search needs) returns)
