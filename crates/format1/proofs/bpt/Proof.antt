@@ -1,4 +1,3 @@
-use mathlib.Core.Path.{sym, _∙_}
 use Rattle.board.proofs.Laws.{got-then, got-gone, did}
 use Rattle.state.proofs.Laws.Answer.{went-is, went-none, went-store}
 use Rattle.format1.specs.Format1.{bpt}
@@ -6,23 +5,11 @@ use borrow.Author.Needs.{needs}
 use Rattle.format1.proofs.bpt.Statement.{statement}
 use Rattle.format1.proofs.bpt.Tie as tie
 
-push-both-requires : tie.Need-push-both-requires
-push-both-requires c κs = c .before .before .before .before .before .pre
-
-same-length : tie.Need-same-length
-same-length c = c .before .before .before .before .push-both .ensures .board .lent .size ∙ sym (c .before .before .before .before .before .before .before .before .before .before .pre .lent .size)
-
 returns : tie.Need-returns
 unfolding bpt
 returns c =
     did (went-store (c .before .before .before .before .push-both .result)) (c .before .before .before .before .before .before .before .before .before .before .pre)
     (got-gone _ ((rw (c .before .before .before .before .before .ps .ensures) at (c .before .before .before .before .push-both .ensures)) .got) (went-none (c .enum-told .given .1)) (went-none (c .enum-told .given .1)))
-
-from-loc-requires : tie.Need-from-loc-requires
-from-loc-requires c κs = c .before .before .before .before .before .before .push-both .ensures .board .lent
-
-same-length-2 : tie.Need-same-length-2
-same-length-2 c = c .before .before .before .before .before .before .before .push-both .ensures .board .lent .size ∙ sym (c .before .before .before .before .before .before .before .before .before .before .before .before .before .pre .lent .size)
 
 returns-2 : tie.Need-returns-2
 unfolding bpt
@@ -38,11 +25,11 @@ bpt-spec =
     tie.close
     (tie.spec
     (λ c κs. search needs)
-    push-both-requires
+    (λ c κs. search needs)
     (λ c. search needs)
     (λ c. search needs)
-    same-length
+    (λ c. search needs)
     returns
-    from-loc-requires
-    same-length-2
+    (λ c κs. search needs)
+    (λ c. search needs)
     returns-2)

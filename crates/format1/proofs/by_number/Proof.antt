@@ -1,4 +1,4 @@
-use mathlib.Core.Path.{refl, sym, _∙_}
+use mathlib.Core.Path.{refl}
 use Rattle.board.proofs.Laws.{got-give, did}
 use Rattle.opcodes.proofs.Laws.Past.{at-least}
 use Rattle.format1.specs.Format1.{format1}
@@ -6,33 +6,6 @@ use Rattle.format1.proofs.Laws.Format1.{format1-last}
 use borrow.Author.Needs.{needs}
 use Rattle.format1.proofs.by_number.Statement.{statement}
 use Rattle.format1.proofs.by_number.Tie as tie
-
-bpt-requires : tie.Need-bpt-requires
-bpt-requires c κs = c .before .before .before .before .before .pre
-
-rsvc-requires : tie.Need-rsvc-requires
-rsvc-requires c κs = c .before .before .before .before .pre .lent
-
-rrtt-requires : tie.Need-rrtt-requires
-rrtt-requires c κs = c .before .before .before .before .pre .lent
-
-save-requires : tie.Need-save-requires
-save-requires c κs = c .before .before .before .before .before .pre
-
-savs-requires : tie.Need-savs-requires
-savs-requires c κs = c .before .before .before .before .before .pre
-
-rest-requires : tie.Need-rest-requires
-rest-requires c κs = c .before .before .before .before .pre .lent
-
-rrtn-requires : tie.Need-rrtn-requires
-rrtn-requires c κs = c .before .before .before .before .pre .lent
-
-rsts-requires : tie.Need-rsts-requires
-rsts-requires c κs = c .before .before .before .before .before .pre
-
-rtt-requires : tie.Need-rtt-requires
-rtt-requires c κs = c .before .before .before .before .pre .lent
 
 returns : tie.Need-returns
 unfolding format1
@@ -58,9 +31,6 @@ returns-6 : tie.Need-returns-6
 unfolding format1
 returns-6 c = rw (c .match .keys6) (did refl (c .before .before .before .pre) (got-give refl))
 
-same-length : tie.Need-same-length
-same-length c = c .before .before .bpt .ensures .board .lent .size ∙ sym (c .before .before .before .before .before .before .before .before .pre .lent .size)
-
 returns-7 : tie.Need-returns-7
 unfolding format1
 returns-7 c = rw (c .before .before .before .before .before .match .keys7) (record { got = c .before .before .bpt .ensures .got; board = c .before .before .bpt .ensures .board })
@@ -77,15 +47,9 @@ returns-10 : tie.Need-returns-10
 unfolding format1
 returns-10 c = rw (c .before .before .match .keys10) (record { got = c .rrtt .ensures .got; board = c .before .before .before .before .before .pre })
 
-same-length-4 : tie.Need-same-length-4
-same-length-4 c = c .before .before .save .ensures .board .lent .size ∙ sym (c .before .before .before .before .before .before .before .before .pre .lent .size)
-
 returns-11 : tie.Need-returns-11
 unfolding format1
 returns-11 c = rw (c .before .before .before .before .before .match .keys11) (record { got = c .before .before .save .ensures .got; board = c .before .before .save .ensures .board })
-
-same-length-5 : tie.Need-same-length-5
-same-length-5 c = c .before .before .savs .ensures .board .lent .size ∙ sym (c .before .before .before .before .before .before .before .before .pre .lent .size)
 
 returns-12 : tie.Need-returns-12
 unfolding format1
@@ -98,9 +62,6 @@ returns-13 c = rw (c .before .before .match .keys13) (record { got = c .rest .en
 returns-14 : tie.Need-returns-14
 unfolding format1
 returns-14 c = rw (c .before .before .match .keys14) (record { got = c .rrtn .ensures .got; board = c .before .before .before .before .before .pre })
-
-same-length-8 : tie.Need-same-length-8
-same-length-8 c = c .before .before .rsts .ensures .board .lent .size ∙ sym (c .before .before .before .before .before .before .before .before .pre .lent .size)
 
 returns-15 : tie.Need-returns-15
 unfolding format1
@@ -117,38 +78,38 @@ by-number-spec =
     (λ c κs. search needs)
     (λ c κs. search needs)
     (λ c κs. search needs)
-    bpt-requires
     (λ c κs. search needs)
-    rsvc-requires
-    rrtt-requires
-    save-requires
-    savs-requires
-    rest-requires
-    rrtn-requires
-    rsts-requires
-    rtt-requires
+    (λ c κs. search needs)
+    (λ c κs. search needs)
+    (λ c κs. search needs)
+    (λ c κs. search needs)
+    (λ c κs. search needs)
+    (λ c κs. search needs)
+    (λ c κs. search needs)
+    (λ c κs. search needs)
+    (λ c κs. search needs)
     returns
     returns-2
     returns-3
     returns-4
     returns-5
     returns-6
-    same-length
+    (λ c. search needs)
     returns-7
     returns-8
     (λ c. search needs)
     returns-9
     (λ c. search needs)
     returns-10
-    same-length-4
+    (λ c. search needs)
     returns-11
-    same-length-5
+    (λ c. search needs)
     returns-12
     (λ c. search needs)
     returns-13
     (λ c. search needs)
     returns-14
-    same-length-8
+    (λ c. search needs)
     returns-15
     (λ c. search needs)
     returns-16)

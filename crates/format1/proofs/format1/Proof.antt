@@ -1,14 +1,7 @@
-use mathlib.Core.Path.{sym, _∙_}
 use Rattle.format1.specs.Format1.{format1}
 use borrow.Author.Needs.{needs}
 use Rattle.format1.proofs.format1.Statement.{statement}
 use Rattle.format1.proofs.format1.Tie as tie
-
-save-requires : tie.Need-save-requires
-save-requires c κs = c .before .before .before .before .before .pre
-
-same-length : tie.Need-same-length
-same-length c = c .before .before .before .save .ensures .board .lent .size ∙ sym (c .before .before .before .before .before .before .before .before .before .pre .lent .size)
 
 returns : tie.Need-returns
 unfolding format1
@@ -16,17 +9,11 @@ returns c =
     rw (c .before .before .before .before .before .before .if1 .taken, c .apart .ensures)
     (record { got = c .before .before .before .save .ensures .got; board = c .before .before .before .save .ensures .board })
 
-rest-requires : tie.Need-rest-requires
-rest-requires c κs = c .before .before .before .before .before .pre .lent
-
 returns-2 : tie.Need-returns-2
 unfolding format1
 returns-2 c =
     rw (c .before .before .if2 .taken)
     (record { got = c .rest .ensures .got; board = c .before .before .before .before .before .before .pre })
-
-rtt-requires : tie.Need-rtt-requires
-rtt-requires c κs = c .before .before .before .before .before .before .pre .lent
 
 returns-3 : tie.Need-returns-3
 unfolding format1
@@ -38,14 +25,14 @@ pub format1-spec : {M : Type 1} → statement M
 format1-spec =
     tie.close
     (tie.spec
-    save-requires
     (λ c κs. search needs)
-    same-length
+    (λ c κs. search needs)
+    (λ c. search needs)
     returns
-    rest-requires
+    (λ c κs. search needs)
     (λ c. search needs)
     returns-2
-    rtt-requires
+    (λ c κs. search needs)
     (λ c. search needs)
     returns-3
     (λ c κs. search needs)

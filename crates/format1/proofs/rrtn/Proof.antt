@@ -5,16 +5,10 @@ use borrow.Author.Needs.{needs}
 use Rattle.format1.proofs.rrtn.Statement.{statement}
 use Rattle.format1.proofs.rrtn.Tie as tie
 
-rest-requires : tie.Need-rest-requires
-rest-requires c κs = c .before .before .pre
-
 returns : tie.Need-returns
 unfolding rrtn
 returns c =
     record { got = got-gone _ (c .before .before .rest .ensures .got) (went-none (c .enum-told .given .1)) (went-none (c .enum-told .given .1)) }
-
-pop-reg-requires : tie.Need-pop-reg-requires
-pop-reg-requires c κs = c .before .before .before .before .before .before .pre
 
 returns-2 : tie.Need-returns-2
 unfolding rrtn
@@ -26,4 +20,4 @@ returns-2 c =
 
 pub rrtn-spec : {M : Type 1} → statement M
 rrtn-spec =
-    tie.close (tie.spec rest-requires (λ c. search needs) (λ c. search needs) returns pop-reg-requires returns-2)
+    tie.close (tie.spec (λ c κs. search needs) (λ c. search needs) (λ c. search needs) returns (λ c κs. search needs) returns-2)

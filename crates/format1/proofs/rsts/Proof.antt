@@ -1,4 +1,4 @@
-use mathlib.Core.Path.{refl, sym, _∙_}
+use mathlib.Core.Path.{refl}
 use Rattle.board.proofs.Laws.{got-then, got-gone, did, kept-is, kept-none, unwritten-at}
 use Rattle.state.proofs.Laws.Answer.{went-store, took-is, took-none, took-lost}
 use Rattle.format1.specs.Format1.{rsts}
@@ -6,20 +6,11 @@ use borrow.Author.Needs.{needs}
 use Rattle.format1.proofs.rsts.Statement.{statement}
 use Rattle.format1.proofs.rsts.Tie as tie
 
-pop-requires : tie.Need-pop-requires
-pop-requires c κs = c .before .before .before .pre .lent
-
 returns : tie.Need-returns
 unfolding rsts
 returns c =
     did (went-store (c .untaken .result)) (c .before .before .before .before .before .before .before .pre)
     (got-gone _ (c .before .before .before .pop .ensures .got) (took-none (c .before .enum-told .given .1)) (took-lost (c .untaken .ensures) (c .before .enum-told .given .1)))
-
-store-requires : tie.Need-store-requires
-store-requires c κs = c .before .before .before .before .before .before .before .before .before .pre
-
-same-length-2 : tie.Need-same-length-2
-same-length-2 c = c .before .before .before .before .store .ensures .board .lent .size ∙ sym (c .before .before .before .before .before .before .before .before .before .before .before .before .before .before .pre .lent .size)
 
 returns-2 : tie.Need-returns-2
 unfolding rsts
@@ -27,12 +18,6 @@ returns-2 c =
     did refl (c .before .before .before .before .before .before .before .before .before .before .before .before .before .before .pre)
     (got-then _ (c .before .before .before .before .before .before .before .before .before .before .pop .ensures .got) (took-is (c .before .before .before .before .before .before .before .before .took .given .1))
     (got-gone _ (c .before .before .before .before .store .ensures .got) (unwritten-at (c .before .before .before .before .store .ensures .got) (kept-none (c .enum-told3 .given .1))) refl))
-
-rrtt-requires : tie.Need-rrtt-requires
-rrtt-requires c κs = c .before .before .before .before .before .store .ensures .board .lent
-
-same-length-3 : tie.Need-same-length-3
-same-length-3 c = c .before .before .before .before .before .before .store .ensures .board .lent .size ∙ sym (c .before .before .before .before .before .before .before .before .before .before .before .before .before .before .before .before .pre .lent .size)
 
 returns-3 : tie.Need-returns-3
 unfolding rsts
@@ -48,17 +33,17 @@ pub rsts-spec : {M : Type 1} → statement M
 rsts-spec =
     tie.close
     (tie.spec
-    pop-requires
+    (λ c κs. search needs)
     (λ c. search needs)
     (λ c. search needs)
     (λ c κs. search needs)
     (λ c. search needs)
     returns
-    store-requires
+    (λ c κs. search needs)
     (λ c. search needs)
     (λ c. search needs)
-    same-length-2
+    (λ c. search needs)
     returns-2
-    rrtt-requires
-    same-length-3
+    (λ c κs. search needs)
+    (λ c. search needs)
     returns-3)

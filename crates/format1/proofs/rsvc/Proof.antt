@@ -5,16 +5,10 @@ use borrow.Author.Needs.{needs}
 use Rattle.format1.proofs.rsvc.Statement.{statement}
 use Rattle.format1.proofs.rsvc.Tie as tie
 
-rest-requires : tie.Need-rest-requires
-rest-requires c κs = c .before .before .pre
-
 returns : tie.Need-returns
 unfolding rsvc
 returns c =
     record { got = got-gone _ (c .before .before .rest .ensures .got) (went-none (c .enum-told .given .1)) (went-none (c .enum-told .given .1)) }
-
-rtt-requires : tie.Need-rtt-requires
-rtt-requires c κs = c .before .before .before .before .before .before .before .before .pre
 
 returns-2 : tie.Need-returns-2
 unfolding rsvc
@@ -28,11 +22,11 @@ pub rsvc-spec : {M : Type 1} → statement M
 rsvc-spec =
     tie.close
     (tie.spec
-    rest-requires
+    (λ c κs. search needs)
     (λ c. search needs)
     (λ c. search needs)
     returns
     (λ c κs. search needs)
     (λ c κs. search needs)
-    rtt-requires
+    (λ c κs. search needs)
     returns-2)

@@ -6,20 +6,11 @@ use borrow.Author.Needs.{needs}
 use Rattle.format1.proofs.savs.Statement.{statement}
 use Rattle.format1.proofs.savs.Tie as tie
 
-fetch-requires : tie.Need-fetch-requires
-fetch-requires c κs = c .before .before .before .pre .lent
-
 returns : tie.Need-returns
 unfolding savs
 returns c =
     did (went-store (c .untaken .result)) (c .before .before .before .before .before .before .before .pre)
     (got-gone _ (c .before .before .before .fetch .ensures .got) (took-none (c .before .enum-told .given .1)) (took-lost (c .untaken .ensures) (c .before .enum-told .given .1)))
-
-save-requires : tie.Need-save-requires
-save-requires c κs = c .before .before .before .before .before .before .before .before .before .pre
-
-same-length-2 : tie.Need-same-length-2
-same-length-2 c = c .before .before .before .before .save .ensures .board .lent .size ∙ sym (c .before .before .before .before .before .before .before .before .before .before .before .before .before .before .pre .lent .size)
 
 returns-2 : tie.Need-returns-2
 unfolding savs
@@ -27,12 +18,6 @@ returns-2 c =
     did (went-store (c .before .before .before .before .save .result)) (c .before .before .before .before .before .before .before .before .before .before .before .before .before .before .pre)
     (got-then _ (c .before .before .before .before .before .before .before .before .before .before .fetch .ensures .got) (took-is (c .before .before .before .before .before .before .before .before .took .given .1))
     (got-gone _ (c .before .before .before .before .save .ensures .got) (went-none (c .enum-told2 .given .1)) (went-none (c .enum-told2 .given .1))))
-
-load-requires : tie.Need-load-requires
-load-requires c κs = c .before .before .before .before .before .before .save .ensures .board .lent
-
-same-length-3 : tie.Need-same-length-3
-same-length-3 c = c .before .before .before .before .before .before .before .before .before .save .ensures .board .lent .size ∙ sym (c .before .before .before .before .before .before .before .before .before .before .before .before .before .before .before .before .before .before .before .pre .lent .size)
 
 returns-3 : tie.Need-returns-3
 unfolding savs
@@ -42,12 +27,6 @@ returns-3 c =
     (got-then _ (c .before .before .before .before .before .before .before .before .before .save .ensures .got) (went-is (c .before .before .before .before .before .went .given .1))
     (got-gone _ (c .before .before .load .ensures .got) (unread-at (c .before .before .load .ensures .got) (word-none (c .enum-told3 .given .1))) refl)))
 
-push-requires : tie.Need-push-requires
-push-requires c κs = c .before .before .before .before .before .before .before .before .before .before .before .before .save .ensures .board
-
-same-length-4 : tie.Need-same-length-4
-same-length-4 c = c .before .before .before .before .push .ensures .board .lent .size ∙ sym (c .before .before .before .before .before .before .before .before .before .before .before .before .before .before .before .before .before .before .before .before .before .before .before .before .before .before .before .pre .lent .size)
-
 returns-4 : tie.Need-returns-4
 unfolding savs
 returns-4 c =
@@ -56,9 +35,6 @@ returns-4 c =
     (got-then _ (c .before .before .before .before .before .before .before .before .before .before .before .before .before .before .before .before .before .save .ensures .got) (went-is (c .before .before .before .before .before .before .before .before .before .before .before .before .before .went .given .1))
     (got-then _ (c .before .before .before .before .before .before .before .before .before .before .load .ensures .got) (word-is (c .before .before .before .before .before .before .before .before .old .given .1))
     (got-gone _ (c .before .before .before .before .push .ensures .got) (went-none (c .enum-told4 .given .1)) (went-none (c .enum-told4 .given .1))))))
-
-store-requires : tie.Need-store-requires
-store-requires c κs = c .before .before .before .before .before .before .before .push .ensures .board
 
 same-length-5 : tie.Need-same-length-5
 same-length-5 c = c .before .before .before .before .store .ensures .board .lent .size ∙ sym (c .before .before .before .before .before .before .before .before .before .before .before .before .before .before .before .before .before .before .before .before .before .before .before .before .before .before .before .before .before .before .before .before .before .before .before .pre .lent .size)
@@ -91,28 +67,28 @@ pub savs-spec : {M : Type 1} → statement M
 savs-spec =
     tie.close
     (tie.spec
-    fetch-requires
+    (λ c κs. search needs)
     (λ c. search needs)
     (λ c. search needs)
     (λ c κs. search needs)
     (λ c. search needs)
     returns
-    save-requires
+    (λ c κs. search needs)
     (λ c. search needs)
     (λ c. search needs)
-    same-length-2
+    (λ c. search needs)
     returns-2
-    load-requires
+    (λ c κs. search needs)
     (λ c. search needs)
     (λ c. search needs)
-    same-length-3
+    (λ c. search needs)
     returns-3
-    push-requires
+    (λ c κs. search needs)
     (λ c. search needs)
     (λ c. search needs)
-    same-length-4
+    (λ c. search needs)
     returns-4
-    store-requires
+    (λ c κs. search needs)
     (λ c. search needs)
     (λ c. search needs)
     same-length-5

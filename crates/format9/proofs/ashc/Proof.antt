@@ -5,9 +5,6 @@ use borrow.Author.Needs.{needs}
 use Rattle.format9.proofs.ashc.Statement.{statement}
 use Rattle.format9.proofs.ashc.Tie as tie
 
-destination-byte-requires : tie.Need-destination-byte-requires
-destination-byte-requires c κs = c .before .before .before .pre
-
 returns : tie.Need-returns
 unfolding ashc
 returns c =
@@ -28,7 +25,7 @@ ashc-spec =
     tie.close
     (tie.spec
     (λ c κs. search needs)
-    destination-byte-requires
+    (λ c κs. search needs)
     (λ c. search needs)
     (λ c. search needs)
     (λ c κs. search needs)

@@ -5,9 +5,6 @@ use borrow.Author.Needs.{needs}
 use Rattle.format9.proofs.div.Statement.{statement}
 use Rattle.format9.proofs.div.Tie as tie
 
-destination-word-requires : tie.Need-destination-word-requires
-destination-word-requires c κs = c .before .before .before .pre
-
 returns : tie.Need-returns
 unfolding div
 returns c =
@@ -28,7 +25,7 @@ div-spec =
     tie.close
     (tie.spec
     (λ c κs. search needs)
-    destination-word-requires
+    (λ c κs. search needs)
     (λ c. search needs)
     (λ c. search needs)
     (λ c κs. search needs)

@@ -1,4 +1,4 @@
-use mathlib.Core.Path.{refl, sym, _∙_}
+use mathlib.Core.Path.{refl, _∙_}
 use Rattle.board.proofs.Laws.{got-give, did}
 use Rattle.format9.specs.Format9.{format9}
 use borrow.Author.Needs.{needs}
@@ -11,12 +11,6 @@ returns c =
     rw (← c .before .before .format9-code .ensures, c .before .if1 .taken)
     (did refl (c .before .before .before .before .before .pre)
     (got-give (rw (c .sob .ensures))))
-
-jsr-requires : tie.Need-jsr-requires
-jsr-requires c κs = c .before .before .before .before .before .before .before .before .before .pre
-
-same-length : tie.Need-same-length
-same-length c = c .before .before .jsr .ensures .board .lent .size ∙ sym (c .before .before .before .before .before .before .before .before .before .before .before .before .pre .lent .size)
 
 returns-2 : tie.Need-returns-2
 unfolding format9
@@ -36,8 +30,8 @@ format9-spec =
     returns
     (λ c κs. search needs)
     (λ c κs. search needs)
-    jsr-requires
-    same-length
+    (λ c κs. search needs)
+    (λ c. search needs)
     returns-2
     seldom-requires
     (λ c. search needs)

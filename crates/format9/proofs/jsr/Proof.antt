@@ -1,4 +1,4 @@
-use mathlib.Core.Path.{refl, sym, _∙_}
+use mathlib.Core.Path.{refl}
 use Rattle.board.proofs.Laws.{got-then, got-gone, did}
 use Rattle.state.proofs.Laws.Answer.{went-store}
 use Rattle.operand.proofs.Laws.Operand.{found-lost, decoded, undecoded}
@@ -8,21 +8,12 @@ use borrow.Author.Needs.{needs}
 use Rattle.format9.proofs.jsr.Statement.{statement}
 use Rattle.format9.proofs.jsr.Tie as tie
 
-locate-requires : tie.Need-locate-requires
-locate-requires c κs = c .before .before .before .before .before .before .before .pre .lent
-
 returns : tie.Need-returns
 unfolding jsr
 returns c =
     rw (← c .before .before .before .before .before .before .before .before .destination-register .ensures, ← c .before .before .before .before .before .before .before .destination-mode .ensures, ← c .before .before .before .before .before .before .register .ensures)
     (did (went-store (c .unfound .result)) (c .before .before .before .before .before .before .before .before .before .before .before .pre)
     (got-gone _ (undecoded word _ _ _ ((rw (c .before .before .before .before .reg .ensures) at (c .before .before .before .locate .ensures)) .got) (c .before .enum-told .given .1)) refl (found-lost (c .unfound .ensures) (c .before .enum-told .given .1))))
-
-jsr-to-requires : tie.Need-jsr-to-requires
-jsr-to-requires c κs = c .before .before .before .before .before .before .before .before .before .before .before .before .before .before .pre
-
-same-length-2 : tie.Need-same-length-2
-same-length-2 c = c .before .before .jsr-to .ensures .board .lent .size ∙ sym (c .before .before .before .before .before .before .before .before .before .before .before .before .before .before .before .before .before .pre .lent .size)
 
 returns-2 : tie.Need-returns-2
 unfolding jsr
@@ -42,13 +33,13 @@ jsr-spec =
     (λ c κs. search needs)
     (λ c κs. search needs)
     (λ c κs. search needs)
-    locate-requires
+    (λ c κs. search needs)
     (λ c. search needs)
     (λ c. search needs)
     (λ c κs. search needs)
     (λ c. search needs)
     returns
     (λ c κs. search needs)
-    jsr-to-requires
-    same-length-2
+    (λ c κs. search needs)
+    (λ c. search needs)
     returns-2)

@@ -1,4 +1,3 @@
-use mathlib.Core.Path.{sym, _∙_}
 use Rattle.format9.specs.Format9.{jsrTo}
 use borrow.Author.Needs.{needs}
 use Rattle.format9.proofs.jsr_to.Statement.{statement}
@@ -7,29 +6,14 @@ use Rattle.format9.proofs.jsr_to.Tie as tie
 enum-told : tie.Need-enum-told
 enum-told c = search needs
 
-trap-now-requires : tie.Need-trap-now-requires
-trap-now-requires c κs = c .before .before .before .before .before .before .pre
-
-apart-requires : tie.Need-apart-requires
-apart-requires c κs = search needs
-
 enum-known-place : tie.Need-enum-known-place
 enum-known-place c = search needs
-
-call-requires : tie.Need-call-requires
-call-requires c κs = c .before .before .before .before .before .before .before .pre
-
-same-length : tie.Need-same-length
-same-length c = c .before .before .before .trap-now .ensures .board .lent .size ∙ sym (c .before .before .before .before .before .before .before .before .before .before .pre .lent .size)
 
 returns : tie.Need-returns
 unfolding jsrTo
 returns c =
     rw (c .before .before .before .before .before .before .enum-told .given .1, c .apart .ensures)
     (record { got = c .before .before .before .trap-now .ensures .got; board = c .before .before .before .trap-now .ensures .board })
-
-same-length-2 : tie.Need-same-length-2
-same-length-2 c = c .before .before .call .ensures .board .lent .size ∙ sym (c .before .before .before .before .before .before .before .before .before .before .pre .lent .size)
 
 returns-2 : tie.Need-returns-2
 unfolding jsrTo
@@ -42,11 +26,11 @@ jsr-to-spec =
     tie.close
     (tie.spec
     enum-told
-    trap-now-requires
-    apart-requires
+    (λ c κs. search needs)
+    (λ c κs. search needs)
     enum-known-place
-    call-requires
-    same-length
+    (λ c κs. search needs)
+    (λ c. search needs)
     returns
-    same-length-2
+    (λ c. search needs)
     returns-2)

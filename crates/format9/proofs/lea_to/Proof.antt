@@ -1,15 +1,9 @@
-use mathlib.Core.Path.{refl, sym, _∙_}
+use mathlib.Core.Path.{refl}
 use Rattle.board.proofs.Laws.{got-give, did}
 use Rattle.format9.specs.Format9.{leaTo}
 use borrow.Author.Needs.{needs}
 use Rattle.format9.proofs.lea_to.Statement.{statement}
 use Rattle.format9.proofs.lea_to.Tie as tie
-
-trap-now-requires : tie.Need-trap-now-requires
-trap-now-requires c κs = c .before .before .before .before .before .before .pre
-
-same-length : tie.Need-same-length
-same-length c = c .before .before .trap-now .ensures .board .lent .size ∙ sym (c .before .before .before .before .before .before .before .before .before .pre .lent .size)
 
 returns : tie.Need-returns
 unfolding leaTo
@@ -29,9 +23,9 @@ lea-to-spec =
     tie.close
     (tie.spec
     (λ c. search needs)
-    trap-now-requires
+    (λ c κs. search needs)
     (λ c. search needs)
     (λ c κs. search needs)
-    same-length
+    (λ c. search needs)
     returns
     returns-2)

@@ -6,27 +6,6 @@ use borrow.Author.Needs.{needs}
 use Rattle.format9.proofs.preset_code.Statement.{statement}
 use Rattle.format9.proofs.preset_code.Tie as tie
 
-lea-requires : tie.Need-lea-requires
-lea-requires c κs = c .before .before .before .before .before .before .before .before .pre .0
-
-ash-requires : tie.Need-ash-requires
-ash-requires c κs = c .before .before .before .before .before .before .before .pre .0 .lent
-
-xch-requires : tie.Need-xch-requires
-xch-requires c κs = c .before .before .before .before .before .before .before .before .pre .0
-
-ashc-requires : tie.Need-ashc-requires
-ashc-requires c κs = c .before .before .before .before .before .before .before .pre .0 .lent
-
-mul-requires : tie.Need-mul-requires
-mul-requires c κs = c .before .before .before .before .before .before .before .pre .0 .lent
-
-div-requires : tie.Need-div-requires
-div-requires c κs = c .before .before .before .before .before .before .before .pre .0 .lent
-
-same-length : tie.Need-same-length
-same-length c = c .before .before .lea .ensures .board .lent .size ∙ sym (c .before .before .before .before .before .before .before .before .before .before .before .pre .0 .lent .size)
-
 returns : tie.Need-returns
 unfolding format9
 returns c =
@@ -40,9 +19,6 @@ returns-2 c =
     rw (← c .before .before .before .before .before .format9-code .ensures)
     (rw (c .before .before .match .keys2)
     (record { got = (rw (c .before .before .before .with-flags .ensures, c .before .before .before .before .preset .ensures) at (c .ash .ensures)) .got; board = c .before .before .before .before .before .before .before .before .pre .0 }))
-
-same-length-3 : tie.Need-same-length-3
-same-length-3 c = c .before .before .xch .ensures .board .lent .size ∙ sym (c .before .before .before .before .before .before .before .before .before .before .before .pre .0 .lent .size)
 
 returns-3 : tie.Need-returns-3
 unfolding format9
@@ -80,17 +56,17 @@ preset-code-spec =
     (λ c κs. search needs)
     (λ c κs. search needs)
     (λ c κs. search needs)
-    lea-requires
-    ash-requires
-    xch-requires
-    ashc-requires
-    mul-requires
-    div-requires
-    same-length
+    (λ c κs. search needs)
+    (λ c κs. search needs)
+    (λ c κs. search needs)
+    (λ c κs. search needs)
+    (λ c κs. search needs)
+    (λ c κs. search needs)
+    (λ c. search needs)
     returns
     (λ c. search needs)
     returns-2
-    same-length-3
+    (λ c. search needs)
     returns-3
     (λ c. search needs)
     returns-4

@@ -1,4 +1,3 @@
-use mathlib.Core.Path.{sym, _∙_}
 use Rattle.board.proofs.Laws.{got-then, got-gone, did}
 use Rattle.state.proofs.Laws.Answer.{went-store}
 use Rattle.operand.proofs.Laws.Destination.{held-is, held-none, held-lost}
@@ -7,21 +6,12 @@ use borrow.Author.Needs.{needs}
 use Rattle.format9.proofs.xch.Statement.{statement}
 use Rattle.format9.proofs.xch.Tie as tie
 
-destination-word-requires : tie.Need-destination-word-requires
-destination-word-requires c κs = c .before .before .before .before .before .pre .lent
-
 returns : tie.Need-returns
 unfolding xch
 returns c =
     rw (← c .before .before .before .before .before .before .register .ensures)
     (did (went-store (c .unheld .result)) (c .before .before .before .before .before .before .before .before .before .pre)
     (got-gone _ (c .before .before .before .destination-word .ensures .got) (held-none (c .before .enum-told .given .1)) (held-lost (c .unheld .ensures) (c .before .enum-told .given .1))))
-
-write-word-requires : tie.Need-write-word-requires
-write-word-requires c κs = c .before .before .before .before .before .before .before .before .before .before .before .before .before .pre
-
-same-length-2 : tie.Need-same-length-2
-same-length-2 c = c .before .before .write-word .ensures .board .lent .size ∙ sym (c .before .before .before .before .before .before .before .before .before .before .before .before .before .before .before .before .pre .lent .size)
 
 returns-2 : tie.Need-returns-2
 unfolding xch
@@ -39,7 +29,7 @@ xch-spec =
     (tie.spec
     (λ c κs. search needs)
     (λ c κs. search needs)
-    destination-word-requires
+    (λ c κs. search needs)
     (λ c. search needs)
     (λ c. search needs)
     (λ c κs. search needs)
@@ -47,6 +37,6 @@ xch-spec =
     returns
     (λ c κs. search needs)
     (λ c κs. search needs)
-    write-word-requires
-    same-length-2
+    (λ c κs. search needs)
+    (λ c. search needs)
     returns-2)

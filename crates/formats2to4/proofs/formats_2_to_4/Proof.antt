@@ -1,4 +1,4 @@
-use mathlib.Core.Path.{refl, sym, _∙_}
+use mathlib.Core.Path.{refl}
 use Rattle.board.proofs.Laws.{got-give, did}
 use borrow.Author.Tests.{lt-ltb, le-ltb}
 use Rattle.formats2to4.specs.Low.{formats2to4}
@@ -6,20 +6,11 @@ use borrow.Author.Needs.{needs}
 use Rattle.formats2to4.proofs.formats_2_to_4.Statement.{statement}
 use Rattle.formats2to4.proofs.formats_2_to_4.Tie as tie
 
-format2-requires : tie.Need-format2-requires
-format2-requires c κs = c .before .before .before .before .before .pre
-
-same-length : tie.Need-same-length
-same-length c = c .before .before .format2 .ensures .board .lent .size ∙ sym (c .before .before .before .before .before .before .before .before .pre .lent .size)
-
 returns : tie.Need-returns
 unfolding formats2to4
 returns c =
     rw (lt-ltb _ _ (c .before .before .before .before .before .if1 .taken))
     (record { got = c .before .before .format2 .ensures .got; board = c .before .before .format2 .ensures .board })
-
-lcc-requires : tie.Need-lcc-requires
-lcc-requires c κs = search needs
 
 returns-2 : tie.Need-returns-2
 unfolding formats2to4
@@ -27,12 +18,6 @@ returns-2 c =
     rw (le-ltb _ _ (c .before .before .if1 .left), lt-ltb _ _ (c .before .if2 .taken))
     (did refl (c .before .before .before .before .before .pre)
     (got-give (rw (c .lcc .ensures))))
-
-format4-requires : tie.Need-format4-requires
-format4-requires c κs = c .before .before .before .before .before .before .pre
-
-same-length-2 : tie.Need-same-length-2
-same-length-2 c = c .before .before .format4 .ensures .board .lent .size ∙ sym (c .before .before .before .before .before .before .before .before .before .pre .lent .size)
 
 returns-3 : tie.Need-returns-3
 unfolding formats2to4
@@ -44,11 +29,11 @@ pub formats-2-to-4-spec : {M : Type 1} → statement M
 formats-2-to-4-spec =
     tie.close
     (tie.spec
-    format2-requires
-    same-length
+    (λ c κs. search needs)
+    (λ c. search needs)
     returns
-    lcc-requires
+    (λ c κs. search needs)
     returns-2
-    format4-requires
-    same-length-2
+    (λ c κs. search needs)
+    (λ c. search needs)
     returns-3)

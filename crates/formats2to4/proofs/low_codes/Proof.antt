@@ -6,20 +6,11 @@ use borrow.Author.Needs.{needs}
 use Rattle.formats2to4.proofs.low_codes.Statement.{statement}
 use Rattle.formats2to4.proofs.low_codes.Tie as tie
 
-format1-requires : tie.Need-format1-requires
-format1-requires c κs = c .before .before .before .before .before .pre
-
-same-length : tie.Need-same-length
-same-length c = c .before .before .format1 .ensures .board .lent .size ∙ sym (c .before .before .before .before .before .before .before .before .pre .lent .size)
-
 returns : tie.Need-returns
 unfolding lowCodes
 returns c =
     rw (lt-ltb _ _ (c .before .before .before .before .before .if1 .taken))
     (record { got = c .before .before .format1 .ensures .got; board = c .before .before .format1 .ensures .board })
-
-rtn-requires : tie.Need-rtn-requires
-rtn-requires c κs = c .before .before .before .before .before .before .before .pre .lent
 
 returns-2 : tie.Need-returns-2
 returns-2 c =
@@ -36,12 +27,12 @@ pub low-codes-spec : {M : Type 1} → statement M
 low-codes-spec =
     tie.close
     (tie.spec
-    format1-requires
-    same-length
+    (λ c κs. search needs)
+    (λ c. search needs)
     returns
     (λ c κs. search needs)
     (λ c κs. search needs)
-    rtn-requires
+    (λ c κs. search needs)
     (λ c. search needs)
     returns-2
     (λ c κs. search needs)

@@ -1,19 +1,10 @@
-use mathlib.Core.Path.{refl, sym, _∙_}
+use mathlib.Core.Path.{refl}
 use Rattle.board.proofs.Laws.{got-give, did}
 use borrow.Author.Tests.{ne-eqb}
 use Rattle.formats2to4.specs.Format2.{format2}
 use borrow.Author.Needs.{needs}
 use Rattle.formats2to4.proofs.format2.format2.Statement.{statement}
 use Rattle.formats2to4.proofs.format2.format2.Tie as tie
-
-rtn-requires : tie.Need-rtn-requires
-rtn-requires c κs = c .before .before .before .before .before .before .pre .lent
-
-msko-requires : tie.Need-msko-requires
-msko-requires c κs = c .before .before .before .before .before .before .before .pre
-
-prtn-requires : tie.Need-prtn-requires
-prtn-requires c κs = c .before .before .before .before .before .before .pre .lent
 
 returns : tie.Need-returns
 unfolding format2
@@ -26,9 +17,6 @@ unfolding format2
 returns-2 c =
     rw (← c .before .before .before .before .only-register .ensures, ← c .before .before .before .format2-code .ensures)
     (rw (c .before .before .match .keys2) (record { got = c .rtn .ensures .got; board = c .before .before .before .before .before .before .before .pre }))
-
-same-length-2 : tie.Need-same-length-2
-same-length-2 c = c .before .before .msko .ensures .board .lent .size ∙ sym (c .before .before .before .before .before .before .before .before .before .before .pre .lent .size)
 
 returns-3 : tie.Need-returns-3
 unfolding format2
@@ -49,13 +37,13 @@ format2-spec =
     (λ c κs. search needs)
     (λ c κs. search needs)
     (λ c κs. search needs)
-    rtn-requires
-    msko-requires
-    prtn-requires
+    (λ c κs. search needs)
+    (λ c κs. search needs)
+    (λ c κs. search needs)
     returns
     (λ c. search needs)
     returns-2
-    same-length-2
+    (λ c. search needs)
     returns-3
     (λ c. search needs)
     returns-4)

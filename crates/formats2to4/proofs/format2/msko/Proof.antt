@@ -1,24 +1,15 @@
-use mathlib.Core.Path.{refl, sym, _∙_}
+use mathlib.Core.Path.{refl}
 use Rattle.board.proofs.Laws.{got-then, got-gone, got-give, did, kept-is, kept-none, unwritten-at}
 use Rattle.formats2to4.specs.Format2.{msko}
 use borrow.Author.Needs.{needs}
 use Rattle.formats2to4.proofs.format2.msko.Statement.{statement}
 use Rattle.formats2to4.proofs.format2.msko.Tie as tie
 
-store-requires : tie.Need-store-requires
-store-requires c κs = c .before .before .before .before .before .pre
-
-same-length : tie.Need-same-length
-same-length c = c .before .before .before .before .store .ensures .board .lent .size ∙ sym (c .before .before .before .before .before .before .before .before .before .before .pre .lent .size)
-
 returns : tie.Need-returns
 unfolding msko
 returns c =
     let kept = (rw (c .before .before .before .before .before .reg .ensures) at (c .before .before .before .before .store .ensures)) .got in
     did refl (c .before .before .before .before .before .before .before .before .before .before .pre) (got-gone _ kept (unwritten-at kept (kept-none (c .enum-told2 .given .1))) refl)
-
-same-length-2 : tie.Need-same-length-2
-same-length-2 c = c .before .before .before .before .store .ensures .board .lent .size ∙ sym (c .before .before .before .before .before .before .before .before .before .before .pre .lent .size)
 
 returns-2 : tie.Need-returns-2
 unfolding msko
@@ -32,10 +23,10 @@ msko-spec =
     tie.close
     (tie.spec
     (λ c κs. search needs)
-    store-requires
+    (λ c κs. search needs)
     (λ c. search needs)
     (λ c. search needs)
-    same-length
+    (λ c. search needs)
     returns
-    same-length-2
+    (λ c. search needs)
     returns-2)

@@ -5,16 +5,10 @@ use borrow.Author.Needs.{needs}
 use Rattle.formats2to4.proofs.format2.prtn.Statement.{statement}
 use Rattle.formats2to4.proofs.format2.prtn.Tie as tie
 
-load-requires : tie.Need-load-requires
-load-requires c κs = c .before .before .pre
-
 returns : tie.Need-returns
 unfolding prtn
 returns c =
     record { got = got-gone _ (c .before .before .load .ensures .got) (unread-at (c .before .before .load .ensures .got) (word-none (c .enum-told .given .1))) refl }
-
-rtn-requires : tie.Need-rtn-requires
-rtn-requires c κs = c .before .before .before .before .before .before .before .before .before .pre
 
 returns-2 : tie.Need-returns-2
 unfolding prtn
@@ -28,12 +22,12 @@ pub prtn-spec : {M : Type 1} → statement M
 prtn-spec =
     tie.close
     (tie.spec
-    load-requires
+    (λ c κs. search needs)
     (λ c. search needs)
     (λ c. search needs)
     returns
     (λ c κs. search needs)
     (λ c κs. search needs)
     (λ c κs. search needs)
-    rtn-requires
+    (λ c κs. search needs)
     returns-2)

@@ -3,13 +3,10 @@ use borrow.Author.Needs.{needs}
 use Rattle.formats2to4.proofs.format2.rtn.Statement.{statement}
 use Rattle.formats2to4.proofs.format2.rtn.Tie as tie
 
-pop-reg-requires : tie.Need-pop-reg-requires
-pop-reg-requires c κs = c .before .before .before .before .pre
-
 returns : tie.Need-returns
 unfolding rtn
 returns c =
     record { got = (rw (c .before .with-pc .ensures, c .before .before .reg .ensures) at (c .pop-reg .ensures)) .got }
 
 pub rtn-spec : {M : Type 1} → statement M
-rtn-spec = tie.close (tie.spec (λ c κs. search needs) (λ c κs. search needs) pop-reg-requires returns)
+rtn-spec = tie.close (tie.spec (λ c κs. search needs) (λ c κs. search needs) (λ c κs. search needs) returns)

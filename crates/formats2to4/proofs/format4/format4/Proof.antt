@@ -1,15 +1,8 @@
-use mathlib.Core.Path.{sym, _∙_}
 use borrow.Author.Tests.{eq-eqb, ne-eqb}
 use Rattle.formats2to4.specs.Format4.{format4}
 use borrow.Author.Needs.{needs}
 use Rattle.formats2to4.proofs.format4.format4.Statement.{statement}
 use Rattle.formats2to4.proofs.format4.format4.Tie as tie
-
-svca-requires : tie.Need-svca-requires
-svca-requires c κs = c .before .before .before .before .before .before .before .pre
-
-same-length : tie.Need-same-length
-same-length c = c .before .before .svca .ensures .board .lent .size ∙ sym (c .before .before .before .before .before .before .before .before .before .before .pre .lent .size)
 
 returns : tie.Need-returns
 unfolding format4
@@ -18,24 +11,12 @@ returns c =
     (rw (eq-eqb _ _ (c .before .before .before .before .before .if1 .taken))
     (record { got = c .before .before .svca .ensures .got; board = c .before .before .svca .ensures .board }))
 
-svc-requires : tie.Need-svc-requires
-svc-requires c κs = c .before .before .before .before .before .before .before .before .pre
-
-same-length-2 : tie.Need-same-length-2
-same-length-2 c = c .before .before .svc .ensures .board .lent .size ∙ sym (c .before .before .before .before .before .before .before .before .before .before .before .pre .lent .size)
-
 returns-2 : tie.Need-returns-2
 unfolding format4
 returns-2 c =
     rw (← c .before .before .before .before .before .before .before .before .argument .ensures, ← c .before .before .before .before .before .before .before .format4-code .ensures)
     (rw (ne-eqb _ _ (c .before .before .before .before .before .before .if1 .left), eq-eqb _ _ (c .before .before .before .before .before .if2 .taken))
     (record { got = c .before .before .svc .ensures .got; board = c .before .before .svc .ensures .board }))
-
-svc-requires-2 : tie.Need-svc-requires-2
-svc-requires-2 c κs = c .before .before .before .before .before .before .before .before .pre
-
-same-length-3 : tie.Need-same-length-3
-same-length-3 c = c .before .before .svc2 .ensures .board .lent .size ∙ sym (c .before .before .before .before .before .before .before .before .before .before .before .pre .lent .size)
 
 returns-3 : tie.Need-returns-3
 unfolding format4
@@ -50,12 +31,12 @@ format4-spec =
     (tie.spec
     (λ c κs. search needs)
     (λ c κs. search needs)
-    svca-requires
-    same-length
+    (λ c κs. search needs)
+    (λ c. search needs)
     returns
-    svc-requires
-    same-length-2
+    (λ c κs. search needs)
+    (λ c. search needs)
     returns-2
-    svc-requires-2
-    same-length-3
+    (λ c κs. search needs)
+    (λ c. search needs)
     returns-3)

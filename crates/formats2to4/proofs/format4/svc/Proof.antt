@@ -6,23 +6,11 @@ use borrow.Author.Needs.{needs}
 use Rattle.formats2to4.proofs.format4.svc.Statement.{statement}
 use Rattle.formats2to4.proofs.format4.svc.Tie as tie
 
-push-both-requires : tie.Need-push-both-requires
-push-both-requires c κs = c .before .before .before .before .before .pre
-
-same-length : tie.Need-same-length
-same-length c = c .before .before .before .before .push-both .ensures .board .lent .size ∙ sym (c .before .before .before .before .before .before .before .before .before .before .pre .lent .size)
-
 returns : tie.Need-returns
 unfolding svc
 returns c =
     did (went-store (c .before .before .before .before .push-both .result)) (c .before .before .before .before .before .before .before .before .before .before .pre)
     (got-gone _ ((rw (c .before .before .before .before .before .ps .ensures) at (c .before .before .before .before .push-both .ensures)) .got) (went-none (c .enum-told .given .1)) (went-none (c .enum-told .given .1)))
-
-push-requires : tie.Need-push-requires
-push-requires c κs = c .before .before .before .before .before .before .before .push-both .ensures .board
-
-same-length-2 : tie.Need-same-length-2
-same-length-2 c = c .before .before .before .before .push .ensures .board .lent .size ∙ sym (c .before .before .before .before .before .before .before .before .before .before .before .before .before .before .before .before .before .before .pre .lent .size)
 
 returns-2 : tie.Need-returns-2
 unfolding svc
@@ -30,9 +18,6 @@ returns-2 c =
     did (went-store (c .before .before .before .before .push .result)) (c .before .before .before .before .before .before .before .before .before .before .before .before .before .before .before .before .before .before .pre)
     (got-then _ ((rw (c .before .before .before .before .before .before .before .before .before .before .before .before .before .ps .ensures) at (c .before .before .before .before .before .before .before .before .before .before .before .before .push-both .ensures)) .got) (went-is (c .before .before .before .before .before .before .before .before .went .given .1))
     (got-gone _ (c .before .before .before .before .push .ensures .got) (went-none (c .enum-told2 .given .1)) (went-none (c .enum-told2 .given .1))))
-
-save-requires : tie.Need-save-requires
-save-requires c κs = c .before .before .before .before .before .before .before .push .ensures .board
 
 same-length-3 : tie.Need-same-length-3
 same-length-3 c = c .before .before .before .before .save .ensures .board .lent .size ∙ sym (c .before .before .before .before .before .before .before .before .before .before .before .before .before .before .before .before .before .before .before .before .before .before .before .before .before .before .pre .lent .size)
@@ -67,17 +52,17 @@ svc-spec =
     tie.close
     (tie.spec
     (λ c κs. search needs)
-    push-both-requires
+    (λ c κs. search needs)
     (λ c. search needs)
     (λ c. search needs)
-    same-length
+    (λ c. search needs)
     returns
-    push-requires
+    (λ c κs. search needs)
     (λ c. search needs)
     (λ c. search needs)
-    same-length-2
+    (λ c. search needs)
     returns-2
-    save-requires
+    (λ c κs. search needs)
     (λ c. search needs)
     (λ c. search needs)
     same-length-3

@@ -1,4 +1,4 @@
-use mathlib.Core.Path.{refl, sym, _∙_}
+use mathlib.Core.Path.{refl}
 use Rattle.board.proofs.Laws.{got-then, got-gone, did, word-is, word-none, unread-at}
 use Rattle.state.proofs.Laws.Answer.{went-is, went-none, went-store}
 use Rattle.formats2to4.specs.Format4.{svca}
@@ -6,23 +6,11 @@ use borrow.Author.Needs.{needs}
 use Rattle.formats2to4.proofs.format4.svca.Statement.{statement}
 use Rattle.formats2to4.proofs.format4.svca.Tie as tie
 
-push-both-requires : tie.Need-push-both-requires
-push-both-requires c κs = c .before .before .before .before .before .pre
-
-same-length : tie.Need-same-length
-same-length c = c .before .before .before .before .push-both .ensures .board .lent .size ∙ sym (c .before .before .before .before .before .before .before .before .before .before .pre .lent .size)
-
 returns : tie.Need-returns
 unfolding svca
 returns c =
     did (went-store (c .before .before .before .before .push-both .result)) (c .before .before .before .before .before .before .before .before .before .before .pre)
     (got-gone _ ((rw (c .before .before .before .before .before .ps .ensures) at (c .before .before .before .before .push-both .ensures)) .got) (went-none (c .enum-told .given .1)) (went-none (c .enum-told .given .1)))
-
-load-requires : tie.Need-load-requires
-load-requires c κs = c .before .before .before .before .before .before .push-both .ensures .board .lent
-
-same-length-2 : tie.Need-same-length-2
-same-length-2 c = c .before .before .before .before .before .before .before .before .before .push-both .ensures .board .lent .size ∙ sym (c .before .before .before .before .before .before .before .before .before .before .before .before .before .before .before .pre .lent .size)
 
 returns-2 : tie.Need-returns-2
 unfolding svca
@@ -30,12 +18,6 @@ returns-2 c =
     did refl (c .before .before .before .before .before .before .before .before .before .before .before .before .before .before .before .pre)
     (got-then _ ((rw (c .before .before .before .before .before .before .before .before .before .before .ps .ensures) at (c .before .before .before .before .before .before .before .before .before .push-both .ensures)) .got) (went-is (c .before .before .before .before .before .went .given .1))
     (got-gone _ (c .before .before .load .ensures .got) (unread-at (c .before .before .load .ensures .got) (word-none (c .enum-told2 .given .1))) refl))
-
-tabled-requires : tie.Need-tabled-requires
-tabled-requires c κs = c .before .before .before .before .before .before .before .before .before .before .before .before .before .push-both .ensures .board .lent
-
-same-length-3 : tie.Need-same-length-3
-same-length-3 c = c .before .before .before .before .before .before .before .before .before .before .before .before .before .before .push-both .ensures .board .lent .size ∙ sym (c .before .before .before .before .before .before .before .before .before .before .before .before .before .before .before .before .before .before .before .before .pre .lent .size)
 
 returns-3 : tie.Need-returns-3
 unfolding svca
@@ -52,18 +34,18 @@ svca-spec =
     tie.close
     (tie.spec
     (λ c κs. search needs)
-    push-both-requires
+    (λ c κs. search needs)
     (λ c. search needs)
     (λ c. search needs)
-    same-length
+    (λ c. search needs)
     returns
-    load-requires
+    (λ c κs. search needs)
     (λ c. search needs)
     (λ c. search needs)
-    same-length-2
+    (λ c. search needs)
     returns-2
     (λ c κs. search needs)
     (λ c κs. search needs)
-    tabled-requires
-    same-length-3
+    (λ c κs. search needs)
+    (λ c. search needs)
     returns-3)
