@@ -1,7 +1,7 @@
 use mathlib.Core.Path.{refl, sym, _∙_}
-use Rattle.board.proofs.Laws.{got-then, got-gone, did}
-use Rattle.state.proofs.Laws.Answer.{went-store}
-use Rattle.operand.proofs.Laws.Operand.{found-lost, decoded, undecoded}
+use Rattle.board.proofs.Laws.{got-then, got-gone, did, passes}
+use Rattle.state.proofs.Laws.Answer.{went-store, wentAs}
+use Rattle.operand.proofs.Laws.Operand.{decoded, undecoded, unfound}
 use Rattle.board.specs.Work.{word}
 use Rattle.format9.specs.Format9.{lea}
 use borrow.Author.Needs.{needs}
@@ -16,7 +16,7 @@ unfolding lea
 returns c =
     rw (← c .before .before .before .before .before .before .before .before .destination-register .ensures, ← c .before .before .before .before .before .before .before .destination-mode .ensures, ← c .before .before .before .before .before .before .register .ensures)
     (did (went-store (c .unfound .result)) (c .before .before .before .before .before .before .before .before .before .before .before .pre)
-    (got-gone _ (undecoded word _ _ _ ((rw (c .before .before .before .before .reg .ensures) at (c .before .before .before .locate .ensures)) .got) (c .before .enum-told .given .1)) refl (found-lost (c .unfound .ensures) (c .before .enum-told .given .1))))
+    (got-gone _ (undecoded word _ _ _ ((rw (c .before .before .before .before .reg .ensures) at (c .before .before .before .locate .ensures)) .got) (c .before .enum-told .given .1)) refl (passes wentAs unfound (c .unfound .ensures) (c .before .enum-told .given .1))))
 
 lea-to-requires : tie.Need-lea-to-requires
 lea-to-requires c κs = c .before .before .before .before .before .before .before .before .before .before .before .before .before .before .pre

@@ -1,5 +1,5 @@
 use mathlib.Core.Path.{sym, _∙_}
-use Rattle.board.proofs.Laws.{got-then, got-gone, did, kept-is, kept-none}
+use Rattle.board.proofs.Laws.{got-then, got-gone, did, keptAs, means}
 use Rattle.step.specs.Places.{keepRegisters}
 use Rattle.state.proofs.Laws.Answer.{kept-store}
 use borrow.Author.Needs.{needs}
@@ -15,7 +15,7 @@ same-length c = c .before .before .before .before .keep .ensures .board .lent .s
 returns : tie.Need-returns
 unfolding keepRegisters
 returns c = did (kept-store (c .before .before .before .before .keep .result)) (c .before .before .before .before .before .before .before .before .before .pre)
-    (got-gone _ (c .before .before .before .before .keep .ensures .got) (kept-none (c .enum-told2 .given .1)) (kept-none (c .enum-told2 .given .1)))
+    (got-gone _ (c .before .before .before .before .keep .ensures .got) (means keptAs (c .enum-told2 .given .1)) (means keptAs (c .enum-told2 .given .1)))
 
 keep-requires-2 : tie.Need-keep-requires-2
 keep-requires-2 c κs = c .before .before .before .before .before .before .keep .ensures .board
@@ -26,8 +26,8 @@ same-length-2 c = c .before .before .before .before .keep2 .ensures .board .lent
 returns-2 : tie.Need-returns-2
 unfolding keepRegisters
 returns-2 c = did (kept-store (c .before .before .before .before .keep2 .result)) (c .before .before .before .before .before .before .before .before .before .before .before .before .before .before .before .before .pre)
-    (got-then _ (c .before .before .before .before .before .before .before .before .before .before .before .keep .ensures .got) (kept-is (c .before .before .before .before .before .before .before .enum-told .given .1))
-    (got-gone _ (c .before .before .before .before .keep2 .ensures .got) (kept-none (c .enum-told4 .given .1)) (kept-none (c .enum-told4 .given .1))))
+    (got-then _ (c .before .before .before .before .before .before .before .before .before .before .before .keep .ensures .got) (means keptAs (c .before .before .before .before .before .before .before .enum-told .given .1))
+    (got-gone _ (c .before .before .before .before .keep2 .ensures .got) (means keptAs (c .enum-told4 .given .1)) (means keptAs (c .enum-told4 .given .1))))
 
 keep-requires-3 : tie.Need-keep-requires-3
 keep-requires-3 c κs = c .before .before .before .before .before .before .keep2 .ensures .board
@@ -38,9 +38,9 @@ same-length-3 c = c .before .before .before .before .keep3 .ensures .board .lent
 returns-3 : tie.Need-returns-3
 unfolding keepRegisters
 returns-3 c = did (kept-store (c .before .before .before .before .keep3 .result)) (c .before .before .before .before .before .before .before .before .before .before .before .before .before .before .before .before .before .before .before .before .before .before .before .pre)
-    (got-then _ (c .before .before .before .before .before .before .before .before .before .before .before .before .before .before .before .before .before .before .keep .ensures .got) (kept-is (c .before .before .before .before .before .before .before .before .before .before .before .before .before .before .enum-told .given .1))
-    (got-then _ (c .before .before .before .before .before .before .before .before .before .before .before .keep2 .ensures .got) (kept-is (c .before .before .before .before .before .before .before .enum-told3 .given .1))
-    (got-gone _ (c .before .before .before .before .keep3 .ensures .got) (kept-none (c .enum-told6 .given .1)) (kept-none (c .enum-told6 .given .1)))))
+    (got-then _ (c .before .before .before .before .before .before .before .before .before .before .before .before .before .before .before .before .before .before .keep .ensures .got) (means keptAs (c .before .before .before .before .before .before .before .before .before .before .before .before .before .before .enum-told .given .1))
+    (got-then _ (c .before .before .before .before .before .before .before .before .before .before .before .keep2 .ensures .got) (means keptAs (c .before .before .before .before .before .before .before .enum-told3 .given .1))
+    (got-gone _ (c .before .before .before .before .keep3 .ensures .got) (means keptAs (c .enum-told6 .given .1)) (means keptAs (c .enum-told6 .given .1)))))
 
 keep-requires-4 : tie.Need-keep-requires-4
 keep-requires-4 c κs = c .before .before .before .before .before .before .keep3 .ensures .board
@@ -51,10 +51,10 @@ same-length-4 c = c .before .before .before .before .keep4 .ensures .board .lent
 returns-4 : tie.Need-returns-4
 unfolding keepRegisters
 returns-4 c = did (kept-store (c .before .before .before .before .keep4 .result)) (c .before .before .before .before .before .before .before .before .before .before .before .before .before .before .before .before .before .before .before .before .before .before .before .before .before .before .before .before .before .before .pre)
-    (got-then _ (c .before .before .before .before .before .before .before .before .before .before .before .before .before .before .before .before .before .before .before .before .before .before .before .before .before .keep .ensures .got) (kept-is (c .before .before .before .before .before .before .before .before .before .before .before .before .before .before .before .before .before .before .before .before .before .enum-told .given .1))
-    (got-then _ (c .before .before .before .before .before .before .before .before .before .before .before .before .before .before .before .before .before .before .keep2 .ensures .got) (kept-is (c .before .before .before .before .before .before .before .before .before .before .before .before .before .before .enum-told3 .given .1))
-    (got-then _ (c .before .before .before .before .before .before .before .before .before .before .before .keep3 .ensures .got) (kept-is (c .before .before .before .before .before .before .before .enum-told5 .given .1))
-    (got-gone _ (c .before .before .before .before .keep4 .ensures .got) (kept-none (c .enum-told8 .given .1)) (kept-none (c .enum-told8 .given .1))))))
+    (got-then _ (c .before .before .before .before .before .before .before .before .before .before .before .before .before .before .before .before .before .before .before .before .before .before .before .before .before .keep .ensures .got) (means keptAs (c .before .before .before .before .before .before .before .before .before .before .before .before .before .before .before .before .before .before .before .before .before .enum-told .given .1))
+    (got-then _ (c .before .before .before .before .before .before .before .before .before .before .before .before .before .before .before .before .before .before .keep2 .ensures .got) (means keptAs (c .before .before .before .before .before .before .before .before .before .before .before .before .before .before .enum-told3 .given .1))
+    (got-then _ (c .before .before .before .before .before .before .before .before .before .before .before .keep3 .ensures .got) (means keptAs (c .before .before .before .before .before .before .before .enum-told5 .given .1))
+    (got-gone _ (c .before .before .before .before .keep4 .ensures .got) (means keptAs (c .enum-told8 .given .1)) (means keptAs (c .enum-told8 .given .1))))))
 
 keep-requires-5 : tie.Need-keep-requires-5
 keep-requires-5 c κs = c .before .before .before .before .before .before .keep4 .ensures .board
@@ -65,11 +65,11 @@ same-length-5 c = c .before .before .before .before .keep5 .ensures .board .lent
 returns-5 : tie.Need-returns-5
 unfolding keepRegisters
 returns-5 c = did (kept-store (c .before .before .before .before .keep5 .result)) (c .before .before .before .before .before .before .before .before .before .before .before .before .before .before .before .before .before .before .before .before .before .before .before .before .before .before .before .before .before .before .before .before .before .before .before .before .before .pre)
-    (got-then _ (c .before .before .before .before .before .before .before .before .before .before .before .before .before .before .before .before .before .before .before .before .before .before .before .before .before .before .before .before .before .before .before .before .keep .ensures .got) (kept-is (c .before .before .before .before .before .before .before .before .before .before .before .before .before .before .before .before .before .before .before .before .before .before .before .before .before .before .before .before .enum-told .given .1))
-    (got-then _ (c .before .before .before .before .before .before .before .before .before .before .before .before .before .before .before .before .before .before .before .before .before .before .before .before .before .keep2 .ensures .got) (kept-is (c .before .before .before .before .before .before .before .before .before .before .before .before .before .before .before .before .before .before .before .before .before .enum-told3 .given .1))
-    (got-then _ (c .before .before .before .before .before .before .before .before .before .before .before .before .before .before .before .before .before .before .keep3 .ensures .got) (kept-is (c .before .before .before .before .before .before .before .before .before .before .before .before .before .before .enum-told5 .given .1))
-    (got-then _ (c .before .before .before .before .before .before .before .before .before .before .before .keep4 .ensures .got) (kept-is (c .before .before .before .before .before .before .before .enum-told7 .given .1))
-    (got-gone _ (c .before .before .before .before .keep5 .ensures .got) (kept-none (c .enum-told10 .given .1)) (kept-none (c .enum-told10 .given .1)))))))
+    (got-then _ (c .before .before .before .before .before .before .before .before .before .before .before .before .before .before .before .before .before .before .before .before .before .before .before .before .before .before .before .before .before .before .before .before .keep .ensures .got) (means keptAs (c .before .before .before .before .before .before .before .before .before .before .before .before .before .before .before .before .before .before .before .before .before .before .before .before .before .before .before .before .enum-told .given .1))
+    (got-then _ (c .before .before .before .before .before .before .before .before .before .before .before .before .before .before .before .before .before .before .before .before .before .before .before .before .before .keep2 .ensures .got) (means keptAs (c .before .before .before .before .before .before .before .before .before .before .before .before .before .before .before .before .before .before .before .before .before .enum-told3 .given .1))
+    (got-then _ (c .before .before .before .before .before .before .before .before .before .before .before .before .before .before .before .before .before .before .keep3 .ensures .got) (means keptAs (c .before .before .before .before .before .before .before .before .before .before .before .before .before .before .enum-told5 .given .1))
+    (got-then _ (c .before .before .before .before .before .before .before .before .before .before .before .keep4 .ensures .got) (means keptAs (c .before .before .before .before .before .before .before .enum-told7 .given .1))
+    (got-gone _ (c .before .before .before .before .keep5 .ensures .got) (means keptAs (c .enum-told10 .given .1)) (means keptAs (c .enum-told10 .given .1)))))))
 
 keep-requires-6 : tie.Need-keep-requires-6
 keep-requires-6 c κs = c .before .before .before .before .before .before .keep5 .ensures .board
@@ -80,12 +80,12 @@ same-length-6 c = c .before .before .before .before .keep6 .ensures .board .lent
 returns-6 : tie.Need-returns-6
 unfolding keepRegisters
 returns-6 c = did (kept-store (c .before .before .before .before .keep6 .result)) (c .before .before .before .before .before .before .before .before .before .before .before .before .before .before .before .before .before .before .before .before .before .before .before .before .before .before .before .before .before .before .before .before .before .before .before .before .before .before .before .before .before .before .before .before .pre)
-    (got-then _ (c .before .before .before .before .before .before .before .before .before .before .before .before .before .before .before .before .before .before .before .before .before .before .before .before .before .before .before .before .before .before .before .before .before .before .before .before .before .before .before .keep .ensures .got) (kept-is (c .before .before .before .before .before .before .before .before .before .before .before .before .before .before .before .before .before .before .before .before .before .before .before .before .before .before .before .before .before .before .before .before .before .before .before .enum-told .given .1))
-    (got-then _ (c .before .before .before .before .before .before .before .before .before .before .before .before .before .before .before .before .before .before .before .before .before .before .before .before .before .before .before .before .before .before .before .before .keep2 .ensures .got) (kept-is (c .before .before .before .before .before .before .before .before .before .before .before .before .before .before .before .before .before .before .before .before .before .before .before .before .before .before .before .before .enum-told3 .given .1))
-    (got-then _ (c .before .before .before .before .before .before .before .before .before .before .before .before .before .before .before .before .before .before .before .before .before .before .before .before .before .keep3 .ensures .got) (kept-is (c .before .before .before .before .before .before .before .before .before .before .before .before .before .before .before .before .before .before .before .before .before .enum-told5 .given .1))
-    (got-then _ (c .before .before .before .before .before .before .before .before .before .before .before .before .before .before .before .before .before .before .keep4 .ensures .got) (kept-is (c .before .before .before .before .before .before .before .before .before .before .before .before .before .before .enum-told7 .given .1))
-    (got-then _ (c .before .before .before .before .before .before .before .before .before .before .before .keep5 .ensures .got) (kept-is (c .before .before .before .before .before .before .before .enum-told9 .given .1))
-    (got-gone _ (c .before .before .before .before .keep6 .ensures .got) (kept-none (c .enum-told12 .given .1)) (kept-none (c .enum-told12 .given .1))))))))
+    (got-then _ (c .before .before .before .before .before .before .before .before .before .before .before .before .before .before .before .before .before .before .before .before .before .before .before .before .before .before .before .before .before .before .before .before .before .before .before .before .before .before .before .keep .ensures .got) (means keptAs (c .before .before .before .before .before .before .before .before .before .before .before .before .before .before .before .before .before .before .before .before .before .before .before .before .before .before .before .before .before .before .before .before .before .before .before .enum-told .given .1))
+    (got-then _ (c .before .before .before .before .before .before .before .before .before .before .before .before .before .before .before .before .before .before .before .before .before .before .before .before .before .before .before .before .before .before .before .before .keep2 .ensures .got) (means keptAs (c .before .before .before .before .before .before .before .before .before .before .before .before .before .before .before .before .before .before .before .before .before .before .before .before .before .before .before .before .enum-told3 .given .1))
+    (got-then _ (c .before .before .before .before .before .before .before .before .before .before .before .before .before .before .before .before .before .before .before .before .before .before .before .before .before .keep3 .ensures .got) (means keptAs (c .before .before .before .before .before .before .before .before .before .before .before .before .before .before .before .before .before .before .before .before .before .enum-told5 .given .1))
+    (got-then _ (c .before .before .before .before .before .before .before .before .before .before .before .before .before .before .before .before .before .before .keep4 .ensures .got) (means keptAs (c .before .before .before .before .before .before .before .before .before .before .before .before .before .before .enum-told7 .given .1))
+    (got-then _ (c .before .before .before .before .before .before .before .before .before .before .before .keep5 .ensures .got) (means keptAs (c .before .before .before .before .before .before .before .enum-told9 .given .1))
+    (got-gone _ (c .before .before .before .before .keep6 .ensures .got) (means keptAs (c .enum-told12 .given .1)) (means keptAs (c .enum-told12 .given .1))))))))
 
 keep-requires-7 : tie.Need-keep-requires-7
 keep-requires-7 c κs = c .before .before .before .before .before .before .keep6 .ensures .board
@@ -96,13 +96,13 @@ same-length-7 c = c .before .before .before .before .keep7 .ensures .board .lent
 returns-7 : tie.Need-returns-7
 unfolding keepRegisters
 returns-7 c = did (kept-store (c .before .before .before .before .keep7 .result)) (c .before .before .before .before .before .before .before .before .before .before .before .before .before .before .before .before .before .before .before .before .before .before .before .before .before .before .before .before .before .before .before .before .before .before .before .before .before .before .before .before .before .before .before .before .before .before .before .before .before .before .before .pre)
-    (got-then _ (c .before .before .before .before .before .before .before .before .before .before .before .before .before .before .before .before .before .before .before .before .before .before .before .before .before .before .before .before .before .before .before .before .before .before .before .before .before .before .before .before .before .before .before .before .before .before .keep .ensures .got) (kept-is (c .before .before .before .before .before .before .before .before .before .before .before .before .before .before .before .before .before .before .before .before .before .before .before .before .before .before .before .before .before .before .before .before .before .before .before .before .before .before .before .before .before .before .enum-told .given .1))
-    (got-then _ (c .before .before .before .before .before .before .before .before .before .before .before .before .before .before .before .before .before .before .before .before .before .before .before .before .before .before .before .before .before .before .before .before .before .before .before .before .before .before .before .keep2 .ensures .got) (kept-is (c .before .before .before .before .before .before .before .before .before .before .before .before .before .before .before .before .before .before .before .before .before .before .before .before .before .before .before .before .before .before .before .before .before .before .before .enum-told3 .given .1))
-    (got-then _ (c .before .before .before .before .before .before .before .before .before .before .before .before .before .before .before .before .before .before .before .before .before .before .before .before .before .before .before .before .before .before .before .before .keep3 .ensures .got) (kept-is (c .before .before .before .before .before .before .before .before .before .before .before .before .before .before .before .before .before .before .before .before .before .before .before .before .before .before .before .before .enum-told5 .given .1))
-    (got-then _ (c .before .before .before .before .before .before .before .before .before .before .before .before .before .before .before .before .before .before .before .before .before .before .before .before .before .keep4 .ensures .got) (kept-is (c .before .before .before .before .before .before .before .before .before .before .before .before .before .before .before .before .before .before .before .before .before .enum-told7 .given .1))
-    (got-then _ (c .before .before .before .before .before .before .before .before .before .before .before .before .before .before .before .before .before .before .keep5 .ensures .got) (kept-is (c .before .before .before .before .before .before .before .before .before .before .before .before .before .before .enum-told9 .given .1))
-    (got-then _ (c .before .before .before .before .before .before .before .before .before .before .before .keep6 .ensures .got) (kept-is (c .before .before .before .before .before .before .before .enum-told11 .given .1))
-    (got-gone _ (c .before .before .before .before .keep7 .ensures .got) (kept-none (c .enum-told14 .given .1)) (kept-none (c .enum-told14 .given .1)))))))))
+    (got-then _ (c .before .before .before .before .before .before .before .before .before .before .before .before .before .before .before .before .before .before .before .before .before .before .before .before .before .before .before .before .before .before .before .before .before .before .before .before .before .before .before .before .before .before .before .before .before .before .keep .ensures .got) (means keptAs (c .before .before .before .before .before .before .before .before .before .before .before .before .before .before .before .before .before .before .before .before .before .before .before .before .before .before .before .before .before .before .before .before .before .before .before .before .before .before .before .before .before .before .enum-told .given .1))
+    (got-then _ (c .before .before .before .before .before .before .before .before .before .before .before .before .before .before .before .before .before .before .before .before .before .before .before .before .before .before .before .before .before .before .before .before .before .before .before .before .before .before .before .keep2 .ensures .got) (means keptAs (c .before .before .before .before .before .before .before .before .before .before .before .before .before .before .before .before .before .before .before .before .before .before .before .before .before .before .before .before .before .before .before .before .before .before .before .enum-told3 .given .1))
+    (got-then _ (c .before .before .before .before .before .before .before .before .before .before .before .before .before .before .before .before .before .before .before .before .before .before .before .before .before .before .before .before .before .before .before .before .keep3 .ensures .got) (means keptAs (c .before .before .before .before .before .before .before .before .before .before .before .before .before .before .before .before .before .before .before .before .before .before .before .before .before .before .before .before .enum-told5 .given .1))
+    (got-then _ (c .before .before .before .before .before .before .before .before .before .before .before .before .before .before .before .before .before .before .before .before .before .before .before .before .before .keep4 .ensures .got) (means keptAs (c .before .before .before .before .before .before .before .before .before .before .before .before .before .before .before .before .before .before .before .before .before .enum-told7 .given .1))
+    (got-then _ (c .before .before .before .before .before .before .before .before .before .before .before .before .before .before .before .before .before .before .keep5 .ensures .got) (means keptAs (c .before .before .before .before .before .before .before .before .before .before .before .before .before .before .enum-told9 .given .1))
+    (got-then _ (c .before .before .before .before .before .before .before .before .before .before .before .keep6 .ensures .got) (means keptAs (c .before .before .before .before .before .before .before .enum-told11 .given .1))
+    (got-gone _ (c .before .before .before .before .keep7 .ensures .got) (means keptAs (c .enum-told14 .given .1)) (means keptAs (c .enum-told14 .given .1)))))))))
 
 keep-requires-8 : tie.Need-keep-requires-8
 keep-requires-8 c κs = c .before .before .before .before .before .before .keep7 .ensures .board
@@ -114,13 +114,13 @@ returns-8 : tie.Need-returns-8
 unfolding keepRegisters
 returns-8 c = record {
   got =
-      (got-then _ (c .before .before .before .before .before .before .before .before .before .before .before .before .before .before .before .before .before .before .before .before .before .before .before .before .before .before .before .before .before .before .before .before .before .before .before .before .before .before .before .before .before .before .before .before .before .before .before .before .before .before .before .keep .ensures .got) (kept-is (c .before .before .before .before .before .before .before .before .before .before .before .before .before .before .before .before .before .before .before .before .before .before .before .before .before .before .before .before .before .before .before .before .before .before .before .before .before .before .before .before .before .before .before .before .before .before .before .enum-told .given .1))
-      (got-then _ (c .before .before .before .before .before .before .before .before .before .before .before .before .before .before .before .before .before .before .before .before .before .before .before .before .before .before .before .before .before .before .before .before .before .before .before .before .before .before .before .before .before .before .before .before .keep2 .ensures .got) (kept-is (c .before .before .before .before .before .before .before .before .before .before .before .before .before .before .before .before .before .before .before .before .before .before .before .before .before .before .before .before .before .before .before .before .before .before .before .before .before .before .before .before .enum-told3 .given .1))
-      (got-then _ (c .before .before .before .before .before .before .before .before .before .before .before .before .before .before .before .before .before .before .before .before .before .before .before .before .before .before .before .before .before .before .before .before .before .before .before .before .before .keep3 .ensures .got) (kept-is (c .before .before .before .before .before .before .before .before .before .before .before .before .before .before .before .before .before .before .before .before .before .before .before .before .before .before .before .before .before .before .before .before .before .enum-told5 .given .1))
-      (got-then _ (c .before .before .before .before .before .before .before .before .before .before .before .before .before .before .before .before .before .before .before .before .before .before .before .before .before .before .before .before .before .before .keep4 .ensures .got) (kept-is (c .before .before .before .before .before .before .before .before .before .before .before .before .before .before .before .before .before .before .before .before .before .before .before .before .before .before .enum-told7 .given .1))
-      (got-then _ (c .before .before .before .before .before .before .before .before .before .before .before .before .before .before .before .before .before .before .before .before .before .before .before .keep5 .ensures .got) (kept-is (c .before .before .before .before .before .before .before .before .before .before .before .before .before .before .before .before .before .before .before .enum-told9 .given .1))
-      (got-then _ (c .before .before .before .before .before .before .before .before .before .before .before .before .before .before .before .before .keep6 .ensures .got) (kept-is (c .before .before .before .before .before .before .before .before .before .before .before .before .enum-told11 .given .1))
-      (got-then _ (c .before .before .before .before .before .before .before .before .before .keep7 .ensures .got) (kept-is (c .before .before .before .before .before .enum-told13 .given .1))
+      (got-then _ (c .before .before .before .before .before .before .before .before .before .before .before .before .before .before .before .before .before .before .before .before .before .before .before .before .before .before .before .before .before .before .before .before .before .before .before .before .before .before .before .before .before .before .before .before .before .before .before .before .before .before .before .keep .ensures .got) (means keptAs (c .before .before .before .before .before .before .before .before .before .before .before .before .before .before .before .before .before .before .before .before .before .before .before .before .before .before .before .before .before .before .before .before .before .before .before .before .before .before .before .before .before .before .before .before .before .before .before .enum-told .given .1))
+      (got-then _ (c .before .before .before .before .before .before .before .before .before .before .before .before .before .before .before .before .before .before .before .before .before .before .before .before .before .before .before .before .before .before .before .before .before .before .before .before .before .before .before .before .before .before .before .before .keep2 .ensures .got) (means keptAs (c .before .before .before .before .before .before .before .before .before .before .before .before .before .before .before .before .before .before .before .before .before .before .before .before .before .before .before .before .before .before .before .before .before .before .before .before .before .before .before .before .enum-told3 .given .1))
+      (got-then _ (c .before .before .before .before .before .before .before .before .before .before .before .before .before .before .before .before .before .before .before .before .before .before .before .before .before .before .before .before .before .before .before .before .before .before .before .before .before .keep3 .ensures .got) (means keptAs (c .before .before .before .before .before .before .before .before .before .before .before .before .before .before .before .before .before .before .before .before .before .before .before .before .before .before .before .before .before .before .before .before .before .enum-told5 .given .1))
+      (got-then _ (c .before .before .before .before .before .before .before .before .before .before .before .before .before .before .before .before .before .before .before .before .before .before .before .before .before .before .before .before .before .before .keep4 .ensures .got) (means keptAs (c .before .before .before .before .before .before .before .before .before .before .before .before .before .before .before .before .before .before .before .before .before .before .before .before .before .before .enum-told7 .given .1))
+      (got-then _ (c .before .before .before .before .before .before .before .before .before .before .before .before .before .before .before .before .before .before .before .before .before .before .before .keep5 .ensures .got) (means keptAs (c .before .before .before .before .before .before .before .before .before .before .before .before .before .before .before .before .before .before .before .enum-told9 .given .1))
+      (got-then _ (c .before .before .before .before .before .before .before .before .before .before .before .before .before .before .before .before .keep6 .ensures .got) (means keptAs (c .before .before .before .before .before .before .before .before .before .before .before .before .enum-told11 .given .1))
+      (got-then _ (c .before .before .before .before .before .before .before .before .before .keep7 .ensures .got) (means keptAs (c .before .before .before .before .before .enum-told13 .given .1))
       (c .before .before .keep8 .ensures .got))))))));
   board = c .before .before .keep8 .ensures .board;
 }
