@@ -17,14 +17,9 @@ use lib.Seq.{getD-set-same, getD-set-other, set-out}
 use borrow.Author.Tests.{ltb-true}
 use Rattle.board.specs.Work.{Work, give, readAt, writeAt, Size, word, byte, fitted, writable, even, wordAt, withWord, withByte, get, put, _>>=_}
 use Rattle.board.specs.Work as Work
-use Rattle.board.specs.Exec.{and, Store, Now, good, gone, logCount, logRoom, note, withNote, allowed, exec, Board, Got, Did, wordAs, byteAs, keptAs}
+use Rattle.board.specs.Exec.{and, Store, Now, good, gone, logCount, logRoom, note, withNote, allowed, exec, Board, Got, Did}
+pub use Rattle.board.specs.Exec.{wordAs, byteAs, keptAs}
 use Rattle.board.proofs.Laws.Exec.{stateOf}
-use Rattle.board.specs.declared.Word.{Word}
-use Rattle.board.specs.declared.Word.the-variants.{Value, Blank}
-use Rattle.board.specs.declared.Byte.{Byte}
-use Rattle.board.specs.declared.Byte.the-variants as Byte
-use Rattle.board.specs.declared.Kept.{Kept}
-use Rattle.board.specs.declared.Kept.the-variants as Kept
 
 abbrev pub after : {A B : Type 0} → Now A → (A → Store → Now B) → Now B
 after (good x st) f = f x st
@@ -160,21 +155,10 @@ exec-board map (writeAt z a v w) st b =
 pub did : {A : Type 0} {map : List ℕ} {w : Work A} {st st′ : Store} {r : Now A} → stateOf r ≡ st′ → Board map st → Got map w st r → Did map w st r st′
 did {map = map} {w = w} {st = st} e b g = record { got = g; board = subst (λ (t : Store). Board map t) (ap stateOf (sym (g .came)) ∙ e) (exec-board map w st b) }
 
--- what an answer says, for the laws above
-pub word-is : {r : Word} {v : ℕ} {st : Store} → r ≡ Value v → wordAs r st ≡ good v st
-word-is {st = st} e = ap (λ z. wordAs z st) e
+-- what an answer means, for the laws above; `meant` is how an answer of its type is meant: `wordAs`, `keptAs`, ..
+pub means : {R A : Type 0} (meant : R → Store → Now A) {r x : R} {st : Store} → r ≡ x → meant r st ≡ meant x st
+means meant {st = st} e = ap (λ z. meant z st) e
 
-pub word-none : {r : Word} {a : ℕ} {st : Store} → r ≡ Blank a → wordAs r st ≡ gone a st
-word-none {st = st} e = ap (λ z. wordAs z st) e
-
-pub byte-is : {r : Byte} {v : ℕ} {st : Store} → r ≡ Byte.Value v → byteAs r st ≡ good v st
-byte-is {st = st} e = ap (λ z. byteAs z st) e
-
-pub byte-none : {r : Byte} {a : ℕ} {st : Store} → r ≡ Byte.Blank a → byteAs r st ≡ gone a st
-byte-none {st = st} e = ap (λ z. byteAs z st) e
-
-pub kept-is : {r : Kept} {st : Store} → r ≡ Kept.Done → keptAs r st ≡ good tt st
-kept-is {st = st} e = ap (λ z. keptAs z st) e
-
-pub kept-none : {r : Kept} {a : ℕ} {st : Store} → r ≡ Kept.Blank a → keptAs r st ≡ gone a st
-kept-none {st = st} e = ap (λ z. keptAs z st) e
+-- the same of an answer that a function makes of its callee's
+pub passes : {Q R A : Type 0} (meant : R → Store → Now A) (made : Q → R) {r : R} {q x : Q} {st : Store} → r ≡ made q → q ≡ x → meant r st ≡ meant (made x) st
+passes meant made e h = means meant (e ∙ ap made h)

@@ -1,5 +1,5 @@
-use Rattle.board.proofs.Laws.{got-then, got-gone, did}
-use Rattle.state.proofs.Laws.Answer.{went-is, went-none, went-store}
+use Rattle.board.proofs.Laws.{got-then, got-gone, did, means}
+use Rattle.state.proofs.Laws.Answer.{went-store, wentAs}
 use Rattle.format1.specs.Format1.{save}
 use borrow.Author.Needs.{needs}
 use Rattle.format1.proofs.save.Statement.{statement}
@@ -9,13 +9,13 @@ returns : tie.Need-returns
 unfolding save
 returns c =
     did (went-store (c .before .before .before .before .push-three .result)) (c .before .before .before .before .before .before .before .before .before .pre)
-    (got-gone _ (c .before .before .before .before .push-three .ensures .got) (went-none (c .enum-told .given .1)) (went-none (c .enum-told .given .1)))
+    (got-gone _ (c .before .before .before .before .push-three .ensures .got) (means wentAs (c .enum-told .given .1)) (means wentAs (c .enum-told .given .1)))
 
 returns-2 : tie.Need-returns-2
 unfolding save
 returns-2 c =
     record {
-      got = got-then _ (c .before .before .before .before .before .before .before .before .before .before .push-three .ensures .got) (went-is (c .before .before .before .before .before .before .went .given .1)) (c .before .before .push-three2 .ensures .got);
+      got = got-then _ (c .before .before .before .before .before .before .before .before .before .before .push-three .ensures .got) (means wentAs (c .before .before .before .before .before .before .went .given .1)) (c .before .before .push-three2 .ensures .got);
       board = c .before .before .push-three2 .ensures .board;
     }
 

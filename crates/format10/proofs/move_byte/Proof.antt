@@ -1,12 +1,9 @@
-use mathlib.Core.Path.{refl, sym, _∙_}
+use mathlib.Core.Path.{refl}
 use Rattle.board.proofs.Laws.{got-give, did}
 use Rattle.format10.specs.Format10.{moveByte}
 use borrow.Author.Needs.{needs}
 use Rattle.format10.proofs.move_byte.Statement.{statement}
 use Rattle.format10.proofs.move_byte.Tie as tie
-
-write-byte-requires : tie.Need-write-byte-requires
-write-byte-requires c κs = c .before .before .before .before .before .before .pre
 
 returns : tie.Need-returns
 unfolding moveByte
@@ -14,9 +11,6 @@ returns c =
     rw (c .before .before .before .enum-told .given .1)
     (did refl (c .before .before .before .before .before .before .before .pre)
     (got-give (rw (c .with-reg .ensures, c .before .extend .ensures, c .before .before .low .ensures))))
-
-same-length : tie.Need-same-length
-same-length c = c .before .before .write-byte .ensures .board .lent .size ∙ sym (c .before .before .before .before .before .before .before .before .before .pre .lent .size)
 
 returns-2 : tie.Need-returns-2
 unfolding moveByte
@@ -33,7 +27,7 @@ move-byte-spec =
     (λ c κs. search needs)
     (λ c κs. search needs)
     (λ c. search needs)
-    write-byte-requires
+    (λ c κs. search needs)
     returns
-    same-length
+    (λ c. search needs)
     returns-2)

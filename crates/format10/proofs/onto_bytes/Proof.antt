@@ -1,8 +1,8 @@
 use mathlib.Core.Path.{refl, sym, _∙_}
 use Rattle.board.specs.Work.{byte}
-use Rattle.board.proofs.Laws.{got-then, got-gone, did, byte-is, byte-none}
-use Rattle.state.proofs.Laws.Answer.{went-none, went-store}
-use Rattle.operand.proofs.Laws.Operand.{located, decoded, found-lost}
+use Rattle.board.proofs.Laws.{got-then, got-gone, did, byteAs, means, passes}
+use Rattle.state.proofs.Laws.Answer.{went-store, wentAs}
+use Rattle.operand.proofs.Laws.Operand.{located, decoded, unfound}
 use Rattle.operand.proofs.Laws.Destination.{never-found, never-read, held}
 use Rattle.format10.specs.Format10.{onto, settleByte}
 use Rattle.format10.proofs.Laws.Direct.{placed, movb-code, byte-there}
@@ -10,20 +10,14 @@ use borrow.Author.Needs.{needs}
 use Rattle.format10.proofs.onto_bytes.Statement.{statement}
 use Rattle.format10.proofs.onto_bytes.Tie as tie
 
-locate-requires : tie.Need-locate-requires
-locate-requires c κs = c .before .before .before .before .before .before .before .before .pre .lent
-
 returns : tie.Need-returns
 unfolding onto
 returns c =
     rw (← c .before .before .before .before .before .before .before .before .before .destination-register .ensures, ← c .before .before .before .before .before .before .before .before .destination-mode .ensures)
-    (did (went-store (c .unfound .result)) (c .before .before .before .before .before .before .before .before .before .before .before .before .pre) (got-gone _ (never-found byte _ _ _ (c .before .before .before .before .before .before .byte-step .ensures) (c .before .before .before .before .reg .ensures) (c .before .before .before .locate .ensures) (c .before .enum-told .given .1)) refl (found-lost (c .unfound .ensures) (c .before .enum-told .given .1))))
+    (did (went-store (c .unfound .result)) (c .before .before .before .before .before .before .before .before .before .before .before .before .pre) (got-gone _ (never-found byte _ _ _ (c .before .before .before .before .before .before .byte-step .ensures) (c .before .before .before .before .reg .ensures) (c .before .before .before .locate .ensures) (c .before .enum-told .given .1)) refl (passes wentAs unfound (c .unfound .ensures) (c .before .enum-told .given .1))))
 
 move-byte-requires : tie.Need-move-byte-requires
 move-byte-requires c κs = c .before .before .before .before .before .before .before .before .before .before .before .before .before .before .before .before .before .before .pre
-
-same-length-2 : tie.Need-same-length-2
-same-length-2 c = c .before .before .move-byte .ensures .board .lent .size ∙ sym (c .before .before .before .before .before .before .before .before .before .before .before .before .before .before .before .before .before .before .before .before .before .pre .lent .size)
 
 returns-2 : tie.Need-returns-2
 unfolding onto settleByte
@@ -42,20 +36,17 @@ returns-3 : tie.Need-returns-3
 unfolding onto
 returns-3 c =
     rw (← c .before .before .before .before .before .before .before .before .before .before .before .before .before .before .before .before .before .destination-register .ensures, ← c .before .before .before .before .before .before .before .before .before .before .before .before .before .before .before .before .destination-mode .ensures)
-    (did (went-store (c .unanswered .result)) (c .before .before .before .before .before .before .before .before .before .before .before .before .before .before .before .before .before .before .before .before .pre) (got-gone _ (never-read byte _ _ _ (c .before .before .before .before .before .before .before .before .before .before .before .before .before .before .byte-step .ensures) (c .before .before .before .before .before .before .before .before .before .before .before .before .reg .ensures) (c .before .before .before .before .before .before .before .before .before .before .before .locate .ensures) (c .before .before .before .before .before .before .before .before .before .found .given .1) (c .before .before .before .before .before .before .before .moved .ensures) (c .before .before .before .before .reg2 .ensures) (c .before .before .before .read-byte .ensures) (byte-none (c .before .enum-told2 .given .1))) refl (went-none (c .unanswered .ensures))))
+    (did (went-store (c .unanswered .result)) (c .before .before .before .before .before .before .before .before .before .before .before .before .before .before .before .before .before .before .before .before .pre) (got-gone _ (never-read byte _ _ _ (c .before .before .before .before .before .before .before .before .before .before .before .before .before .before .byte-step .ensures) (c .before .before .before .before .before .before .before .before .before .before .before .before .reg .ensures) (c .before .before .before .before .before .before .before .before .before .before .before .locate .ensures) (c .before .before .before .before .before .before .before .before .before .found .given .1) (c .before .before .before .before .before .before .before .moved .ensures) (c .before .before .before .before .reg2 .ensures) (c .before .before .before .read-byte .ensures) (means byteAs (c .before .enum-told2 .given .1))) refl (means wentAs (c .unanswered .ensures))))
 
 settle-byte-requires : tie.Need-settle-byte-requires
 settle-byte-requires c κs = c .before .before .before .before .before .before .before .before .before .before .before .before .before .before .before .before .before .before .before .before .before .before .before .before .before .before .pre
-
-same-length-4 : tie.Need-same-length-4
-same-length-4 c = c .before .before .settle-byte .ensures .board .lent .size ∙ sym (c .before .before .before .before .before .before .before .before .before .before .before .before .before .before .before .before .before .before .before .before .before .before .before .before .before .before .before .before .before .pre .lent .size)
 
 returns-4 : tie.Need-returns-4
 unfolding onto
 returns-4 c =
     rw (← c .before .before .before .before .before .before .before .before .before .before .before .before .before .before .before .before .before .before .before .before .before .before .before .before .before .before .destination-register .ensures, ← c .before .before .before .before .before .before .before .before .before .before .before .before .before .before .before .before .before .before .before .before .before .before .before .before .before .destination-mode .ensures)
     (record {
-      got = got-then _ (held byte _ _ _ (c .before .before .before .before .before .before .before .before .before .before .before .before .before .before .before .before .before .before .before .before .before .before .before .byte-step .ensures) (c .before .before .before .before .before .before .before .before .before .before .before .before .before .before .before .before .before .before .before .before .before .reg .ensures) (c .before .before .before .before .before .before .before .before .before .before .before .before .before .before .before .before .before .before .before .before .locate .ensures) (c .before .before .before .before .before .before .before .before .before .before .before .before .before .before .before .before .before .before .found .given .1) (c .before .before .before .before .before .before .before .before .before .before .before .before .before .before .before .before .moved .ensures) (c .before .before .before .before .before .before .before .before .before .before .before .before .before .reg2 .ensures) (c .before .before .before .before .before .before .before .before .before .before .before .before .read-byte .ensures) (byte-is (c .before .before .before .before .before .before .before .before .before .before .y .given .1))) refl
+      got = got-then _ (held byte _ _ _ (c .before .before .before .before .before .before .before .before .before .before .before .before .before .before .before .before .before .before .before .before .before .before .before .byte-step .ensures) (c .before .before .before .before .before .before .before .before .before .before .before .before .before .before .before .before .before .before .before .before .before .reg .ensures) (c .before .before .before .before .before .before .before .before .before .before .before .before .before .before .before .before .before .before .before .before .locate .ensures) (c .before .before .before .before .before .before .before .before .before .before .before .before .before .before .before .before .before .before .found .given .1) (c .before .before .before .before .before .before .before .before .before .before .before .before .before .before .before .before .moved .ensures) (c .before .before .before .before .before .before .before .before .before .before .before .before .before .reg2 .ensures) (c .before .before .before .before .before .before .before .before .before .before .before .before .read-byte .ensures) (means byteAs (c .before .before .before .before .before .before .before .before .before .before .y .given .1))) refl
           ((rw (c .before .before .before .before .before .with-flags2 .ensures, c .before .before .before .before .before .before .byte-binary .ensures, c .before .before .before .before .before .before .before .byte-binary-at .ensures, c .before .before .before .before .before .before .before .before .minus .ensures, c .before .before .before .before .before .before .before .before .before .before .before .before .before .before .before .before .before .before .before .before .before .before .before .before .high-digit .ensures) at (c .before .before .settle-byte .ensures)) .got);
       board = c .before .before .settle-byte .ensures .board;
     })
@@ -69,7 +60,7 @@ onto-bytes-spec =
     (λ c κs. search needs)
     (λ c κs. search needs)
     (λ c κs. search needs)
-    locate-requires
+    (λ c κs. search needs)
     (λ c. search needs)
     (λ c. search needs)
     (λ c κs. search needs)
@@ -79,7 +70,7 @@ onto-bytes-spec =
     (λ c κs. search needs)
     (λ c κs. search needs)
     move-byte-requires
-    same-length-2
+    (λ c. search needs)
     returns-2
     (λ c κs. search needs)
     read-byte-requires
@@ -93,5 +84,5 @@ onto-bytes-spec =
     (λ c κs. search needs)
     (λ c κs. search needs)
     settle-byte-requires
-    same-length-4
+    (λ c. search needs)
     returns-4)

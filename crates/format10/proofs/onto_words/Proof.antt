@@ -1,8 +1,8 @@
 use mathlib.Core.Path.{refl, sym, _∙_}
 use Rattle.board.specs.Work.{word}
-use Rattle.board.proofs.Laws.{got-then, got-gone, did, word-is, word-none}
-use Rattle.state.proofs.Laws.Answer.{went-none, went-store}
-use Rattle.operand.proofs.Laws.Operand.{located, decoded, found-lost}
+use Rattle.board.proofs.Laws.{got-then, got-gone, did, wordAs, means, passes}
+use Rattle.state.proofs.Laws.Answer.{went-store, wentAs}
+use Rattle.operand.proofs.Laws.Operand.{located, decoded, unfound}
 use Rattle.operand.proofs.Laws.Destination.{never-found, never-read, held}
 use Rattle.opcodes.specs.declared.Binary.the-variants.{Mov}
 use Rattle.format10.specs.Format10.{onto}
@@ -12,20 +12,14 @@ use borrow.Author.Needs.{needs}
 use Rattle.format10.proofs.onto_words.Statement.{statement}
 use Rattle.format10.proofs.onto_words.Tie as tie
 
-locate-requires : tie.Need-locate-requires
-locate-requires c κs = c .before .before .before .before .before .before .before .pre .lent
-
 returns : tie.Need-returns
 unfolding onto
 returns c =
     rw (← c .before .before .before .before .before .before .before .before .destination-register .ensures, ← c .before .before .before .before .before .before .before .destination-mode .ensures)
-    (did (went-store (c .unfound .result)) (c .before .before .before .before .before .before .before .before .before .before .before .pre) (got-gone _ (never-found word _ _ _ refl (c .before .before .before .before .reg .ensures) (c .before .before .before .locate .ensures) (c .before .enum-told .given .1)) refl (found-lost (c .unfound .ensures) (c .before .enum-told .given .1))))
+    (did (went-store (c .unfound .result)) (c .before .before .before .before .before .before .before .before .before .before .before .pre) (got-gone _ (never-found word _ _ _ refl (c .before .before .before .before .reg .ensures) (c .before .before .before .locate .ensures) (c .before .enum-told .given .1)) refl (passes wentAs unfound (c .unfound .ensures) (c .before .enum-told .given .1))))
 
 write-word-requires : tie.Need-write-word-requires
 write-word-requires c κs = c .before .before .before .before .before .before .before .before .before .before .before .before .before .before .before .before .before .pre
-
-same-length-2 : tie.Need-same-length-2
-same-length-2 c = c .before .before .write-word .ensures .board .lent .size ∙ sym (c .before .before .before .before .before .before .before .before .before .before .before .before .before .before .before .before .before .before .before .before .pre .lent .size)
 
 returns-2 : tie.Need-returns-2
 unfolding onto
@@ -37,27 +31,21 @@ returns-2 c =
       board = c .before .before .write-word .ensures .board;
     }))
 
-read-word-requires : tie.Need-read-word-requires
-read-word-requires c κs = c .before .before .before .before .before .before .before .before .before .before .before .before .before .before .before .pre .lent
-
 returns-3 : tie.Need-returns-3
 unfolding onto
 returns-3 c =
     rw (← c .before .before .before .before .before .before .before .before .before .before .before .before .before .before .before .before .destination-register .ensures, ← c .before .before .before .before .before .before .before .before .before .before .before .before .before .before .before .destination-mode .ensures)
-    (did (went-store (c .unanswered .result)) (c .before .before .before .before .before .before .before .before .before .before .before .before .before .before .before .before .before .before .before .pre) (got-gone _ (never-read word _ _ _ refl (c .before .before .before .before .before .before .before .before .before .before .before .before .reg .ensures) (c .before .before .before .before .before .before .before .before .before .before .before .locate .ensures) (c .before .before .before .before .before .before .before .before .before .found .given .1) (c .before .before .before .before .before .before .before .moved .ensures) (c .before .before .before .before .reg2 .ensures) (c .before .before .before .read-word .ensures) (word-none (c .before .enum-told2 .given .1))) refl (went-none (c .unanswered .ensures))))
+    (did (went-store (c .unanswered .result)) (c .before .before .before .before .before .before .before .before .before .before .before .before .before .before .before .before .before .before .before .pre) (got-gone _ (never-read word _ _ _ refl (c .before .before .before .before .before .before .before .before .before .before .before .before .reg .ensures) (c .before .before .before .before .before .before .before .before .before .before .before .locate .ensures) (c .before .before .before .before .before .before .before .before .before .found .given .1) (c .before .before .before .before .before .before .before .moved .ensures) (c .before .before .before .before .reg2 .ensures) (c .before .before .before .read-word .ensures) (means wordAs (c .before .enum-told2 .given .1))) refl (means wentAs (c .unanswered .ensures))))
 
 settle-requires : tie.Need-settle-requires
 settle-requires c κs = c .before .before .before .before .before .before .before .before .before .before .before .before .before .before .before .before .before .before .before .before .before .before .before .before .before .pre
-
-same-length-4 : tie.Need-same-length-4
-same-length-4 c = c .before .before .settle .ensures .board .lent .size ∙ sym (c .before .before .before .before .before .before .before .before .before .before .before .before .before .before .before .before .before .before .before .before .before .before .before .before .before .before .before .before .pre .lent .size)
 
 returns-4 : tie.Need-returns-4
 unfolding onto
 returns-4 c =
     rw (← c .before .before .before .before .before .before .before .before .before .before .before .before .before .before .before .before .before .before .before .before .before .before .before .before .before .destination-register .ensures, ← c .before .before .before .before .before .before .before .before .before .before .before .before .before .before .before .before .before .before .before .before .before .before .before .before .destination-mode .ensures)
     (record {
-      got = got-then _ (held word _ _ _ refl (c .before .before .before .before .before .before .before .before .before .before .before .before .before .before .before .before .before .before .before .before .before .reg .ensures) (c .before .before .before .before .before .before .before .before .before .before .before .before .before .before .before .before .before .before .before .before .locate .ensures) (c .before .before .before .before .before .before .before .before .before .before .before .before .before .before .before .before .before .before .found .given .1) (c .before .before .before .before .before .before .before .before .before .before .before .before .before .before .before .before .moved .ensures) (c .before .before .before .before .before .before .before .before .before .before .before .before .before .reg2 .ensures) (c .before .before .before .before .before .before .before .before .before .before .before .before .read-word .ensures) (word-is (c .before .before .before .before .before .before .before .before .before .before .y .given .1))) refl
+      got = got-then _ (held word _ _ _ refl (c .before .before .before .before .before .before .before .before .before .before .before .before .before .before .before .before .before .before .before .before .before .reg .ensures) (c .before .before .before .before .before .before .before .before .before .before .before .before .before .before .before .before .before .before .before .before .locate .ensures) (c .before .before .before .before .before .before .before .before .before .before .before .before .before .before .before .before .before .before .found .given .1) (c .before .before .before .before .before .before .before .before .before .before .before .before .before .before .before .before .moved .ensures) (c .before .before .before .before .before .before .before .before .before .before .before .before .before .reg2 .ensures) (c .before .before .before .before .before .before .before .before .before .before .before .before .read-word .ensures) (means wordAs (c .before .before .before .before .before .before .before .before .before .before .y .given .1))) refl
           ((rw (c .before .before .before .before .before .with-flags2 .ensures, c .before .before .before .before .before .before .binary .ensures, c .before .before .before .before .before .before .before .binary-at .ensures, c .before .before .before .before .before .before .before .before .binary-number .ensures) at (c .before .before .settle .ensures)) .got);
       board = c .before .before .settle .ensures .board;
     })
@@ -70,7 +58,7 @@ onto-words-spec =
     (λ c κs. search needs)
     (λ c κs. search needs)
     (λ c κs. search needs)
-    locate-requires
+    (λ c κs. search needs)
     (λ c. search needs)
     (λ c. search needs)
     (λ c κs. search needs)
@@ -80,10 +68,10 @@ onto-words-spec =
     (λ c κs. search needs)
     (λ c κs. search needs)
     write-word-requires
-    same-length-2
+    (λ c. search needs)
     returns-2
     (λ c κs. search needs)
-    read-word-requires
+    (λ c κs. search needs)
     (λ c. search needs)
     (λ c. search needs)
     (λ c κs. search needs)
@@ -94,5 +82,5 @@ onto-words-spec =
     (λ c κs. search needs)
     (λ c κs. search needs)
     settle-requires
-    same-length-4
+    (λ c. search needs)
     returns-4)

@@ -5,12 +5,6 @@ use borrow.Author.Needs.{needs}
 use Rattle.format10.proofs.settle.Statement.{statement}
 use Rattle.format10.proofs.settle.Tie as tie
 
-write-word-requires : tie.Need-write-word-requires
-write-word-requires c κs = c .before .before .before .before .before .before .pre
-
-same-length : tie.Need-same-length
-same-length c = c .before .before .write-word .ensures .board .lent .size ∙ sym (c .before .before .before .before .before .before .before .before .before .pre .lent .size)
-
 returns : tie.Need-returns
 returns c =
     rw (settle-yes (c .before .before .before .before .before .before .before .before .before .args .b) (c .before .before .before .before .before .before .before .before .before .args .s) (c .before .before .before .before .before .before .before .before .before .args .k) (c .before .before .before .before .before .before .before .before .before .args .place) (c .before .before .before .before .before .before .before .before .before .args .v) (sym (c .before .before .before .before .before .before .stores .ensures) ∙ c .before .before .before .before .before .if1 .taken))
@@ -23,4 +17,4 @@ returns-2 c =
 
 pub settle-spec : {M : Type 1} → statement M
 settle-spec =
-    tie.close (tie.spec (λ c κs. search needs) write-word-requires same-length returns returns-2)
+    tie.close (tie.spec (λ c κs. search needs) (λ c κs. search needs) (λ c. search needs) returns returns-2)

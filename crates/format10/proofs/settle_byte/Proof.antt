@@ -1,15 +1,9 @@
-use mathlib.Core.Path.{refl, sym, _∙_}
+use mathlib.Core.Path.{refl}
 use Rattle.board.proofs.Laws.{got-give, did}
 use Rattle.format10.specs.Format10.{settleByte}
 use borrow.Author.Needs.{needs}
 use Rattle.format10.proofs.settle_byte.Statement.{statement}
 use Rattle.format10.proofs.settle_byte.Tie as tie
-
-move-byte-requires : tie.Need-move-byte-requires
-move-byte-requires c κs = c .before .before .before .before .before .before .pre
-
-write-byte-requires : tie.Need-write-byte-requires
-write-byte-requires c κs = c .before .before .before .before .before .before .pre
 
 returns : tie.Need-returns
 unfolding settleByte
@@ -18,17 +12,11 @@ returns c =
     (did refl (c .before .before .before .before .pre)
     (got-give refl))
 
-same-length : tie.Need-same-length
-same-length c = c .before .before .move-byte .ensures .board .lent .size ∙ sym (c .before .before .before .before .before .before .before .before .before .pre .lent .size)
-
 returns-2 : tie.Need-returns-2
 unfolding settleByte
 returns-2 c =
     rw (c .before .before .before .before .before .enum-told2 .given .1)
     (record { got = c .before .before .move-byte .ensures .got; board = c .before .before .move-byte .ensures .board })
-
-same-length-2 : tie.Need-same-length-2
-same-length-2 c = c .before .before .write-byte .ensures .board .lent .size ∙ sym (c .before .before .before .before .before .before .before .before .before .pre .lent .size)
 
 returns-3 : tie.Need-returns-3
 unfolding settleByte
@@ -42,11 +30,11 @@ settle-byte-spec =
     (tie.spec
     (λ c. search needs)
     (λ c. search needs)
-    move-byte-requires
+    (λ c κs. search needs)
     (λ c. search needs)
-    write-byte-requires
+    (λ c κs. search needs)
     returns
-    same-length
+    (λ c. search needs)
     returns-2
-    same-length-2
+    (λ c. search needs)
     returns-3)

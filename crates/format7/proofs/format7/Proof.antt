@@ -5,22 +5,10 @@ use borrow.Author.Needs.{needs}
 use Rattle.format7.proofs.format7.Statement.{statement}
 use Rattle.format7.proofs.format7.Tie as tie
 
-modify-word-requires : tie.Need-modify-word-requires
-modify-word-requires c κs = c .before .before .before .before .before .before .before .pre
-
-same-length : tie.Need-same-length
-same-length c = c .before .before .modify-word .ensures .board .lent .size ∙ sym (c .before .before .before .before .before .before .before .before .before .before .pre .lent .size)
-
 returns : tie.Need-returns
 returns c =
     rw (columns _ _ _, ← c .before .before .before .before .before .before .before .row-of .ensures, sym (c .before .before .before .before .before .before .on-word .ensures) ∙ c .before .before .before .before .before .if1 .taken)
     (record { got = c .before .before .modify-word .ensures .got; board = c .before .before .modify-word .ensures .board })
-
-modify-byte-requires : tie.Need-modify-byte-requires
-modify-byte-requires c κs = c .before .before .before .before .before .before .before .before .pre
-
-same-length-2 : tie.Need-same-length-2
-same-length-2 c = c .before .before .modify-byte .ensures .board .lent .size ∙ sym (c .before .before .before .before .before .before .before .before .before .before .before .pre .lent .size)
 
 returns-2 : tie.Need-returns-2
 returns-2 c =
@@ -38,11 +26,11 @@ format7-spec =
     (tie.spec
     (λ c κs. search needs)
     (λ c κs. search needs)
-    modify-word-requires
-    same-length
+    (λ c κs. search needs)
+    (λ c. search needs)
     returns
-    modify-byte-requires
-    same-length-2
+    (λ c κs. search needs)
+    (λ c. search needs)
     returns-2
     (λ c κs. search needs)
     (λ c. search needs)

@@ -1,27 +1,14 @@
-use mathlib.Core.Path.{sym, _∙_}
 use borrow.Author.Tests.{eq-eqb, ne-eqb}
 use Rattle.format7.specs.Rows.{statusAt}
 use borrow.Author.Needs.{needs}
 use Rattle.format7.proofs.status_code.Statement.{statement}
 use Rattle.format7.proofs.status_code.Tie as tie
 
-lsts-requires : tie.Need-lsts-requires
-lsts-requires c κs = c .before .before .before .before .pre .lent
-
-same-length : tie.Need-same-length
-same-length c = search needs
-
 returns : tie.Need-returns
 unfolding statusAt
 returns c =
     rw (eq-eqb _ _ (c .before .before .if1 .taken))
     (record { got = c .lsts .ensures .got; board = c .before .before .before .before .before .pre })
-
-ssts-requires : tie.Need-ssts-requires
-ssts-requires c κs = c .before .before .before .before .before .pre
-
-same-length-2 : tie.Need-same-length-2
-same-length-2 c = c .before .before .ssts .ensures .board .lent .size ∙ sym (c .before .before .before .before .before .before .before .before .pre .lent .size)
 
 returns-2 : tie.Need-returns-2
 unfolding statusAt
@@ -31,4 +18,4 @@ returns-2 c =
 
 pub status-code-spec : {M : Type 1} → statement M
 status-code-spec =
-    tie.close (tie.spec lsts-requires same-length returns ssts-requires same-length-2 returns-2)
+    tie.close (tie.spec (λ c κs. search needs) (λ c. search needs) returns (λ c κs. search needs) (λ c. search needs) returns-2)

@@ -1,4 +1,4 @@
-use mathlib.Core.Path.{refl, sym, _∙_}
+use mathlib.Core.Path.{refl}
 use Rattle.board.proofs.Laws.{got-give, did}
 use borrow.Author.Tests.{eq-eqb, ne-eqb}
 use Rattle.format7.specs.Rows.{storedAt}
@@ -13,12 +13,6 @@ returns c =
     (did refl (c .before .before .before .before .pre)
     (got-give refl))
 
-write-byte-requires : tie.Need-write-byte-requires
-write-byte-requires c κs = c .before .before .before .before .before .before .pre
-
-same-length : tie.Need-same-length
-same-length c = c .before .before .write-byte .ensures .board .lent .size ∙ sym (c .before .before .before .before .before .before .before .before .before .pre .lent .size)
-
 returns-2 : tie.Need-returns-2
 unfolding storedAt
 returns-2 c =
@@ -27,4 +21,4 @@ returns-2 c =
     (record { got = c .before .before .write-byte .ensures .got; board = c .before .before .write-byte .ensures .board }))
 
 pub stored-byte-spec : {M : Type 1} → statement M
-stored-byte-spec = tie.close (tie.spec (λ c κs. search needs) returns write-byte-requires same-length returns-2)
+stored-byte-spec = tie.close (tie.spec (λ c κs. search needs) returns (λ c κs. search needs) (λ c. search needs) returns-2)

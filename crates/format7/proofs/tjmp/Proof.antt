@@ -1,26 +1,21 @@
-use Rattle.board.proofs.Laws.{got-then, got-gone}
-use Rattle.operand.proofs.Laws.Destination.{held-is, held-none, held-lost}
+use Rattle.board.proofs.Laws.{got-then, got-gone, means, passes}
+use Rattle.operand.proofs.Laws.Destination.{heldAs, unheld}
+use Rattle.state.proofs.Laws.Answer.{wentAs}
 use Rattle.format7.specs.Format7.{tjmp}
 use borrow.Author.Needs.{needs}
 use Rattle.format7.proofs.tjmp.Statement.{statement}
 use Rattle.format7.proofs.tjmp.Tie as tie
 
-destination-word-requires : tie.Need-destination-word-requires
-destination-word-requires c κs = c .before .before .pre
-
 returns : tie.Need-returns
 unfolding tjmp
 returns c =
-    record { got = got-gone _ (c .before .before .before .destination-word .ensures .got) (held-none (c .before .enum-told .given .1)) (held-lost (c .unheld .ensures) (c .before .enum-told .given .1)) }
-
-tabled-requires : tie.Need-tabled-requires
-tabled-requires c κs = c .before .before .before .before .before .before .before .pre
+    record { got = got-gone _ (c .before .before .before .destination-word .ensures .got) (means heldAs (c .before .enum-told .given .1)) (passes wentAs unheld (c .unheld .ensures) (c .before .enum-told .given .1)) }
 
 returns-2 : tie.Need-returns-2
 unfolding tjmp
 returns-2 c =
     record {
-      got = got-then _ (c .before .before .before .before .before .destination-word .ensures .got) (held-is (c .before .before .before .held .given .1))
+      got = got-then _ (c .before .before .before .before .before .destination-word .ensures .got) (means heldAs (c .before .before .before .held .given .1))
           ((rw (c .before .plus .ensures) at (c .tabled .ensures)) .got);
     }
 
@@ -28,11 +23,11 @@ pub tjmp-spec : {M : Type 1} → statement M
 tjmp-spec =
     tie.close
     (tie.spec
-    destination-word-requires
+    (λ c κs. search needs)
     (λ c. search needs)
     (λ c. search needs)
     (λ c κs. search needs)
     returns
     (λ c κs. search needs)
-    tabled-requires
+    (λ c κs. search needs)
     returns-2)

@@ -1,6 +1,6 @@
 use mathlib.Core.Path.{refl}
-use Rattle.board.proofs.Laws.{got-then, got-gone, got-give, did}
-use Rattle.state.proofs.Laws.Answer.{went-is, went-none, went-store}
+use Rattle.board.proofs.Laws.{got-then, got-gone, got-give, did, means}
+use Rattle.state.proofs.Laws.Answer.{went-store, wentAs}
 use Rattle.format9.specs.Format9.{call}
 use borrow.Author.Needs.{needs}
 use Rattle.format9.proofs.call.Statement.{statement}
@@ -10,13 +10,13 @@ returns : tie.Need-returns
 unfolding call
 returns c =
     did (went-store (c .before .before .before .before .push-reg .result)) (c .before .before .before .before .before .before .before .before .before .pre)
-    (got-gone _ (c .before .before .before .before .push-reg .ensures .got) (went-none (c .enum-told .given .1)) (went-none (c .enum-told .given .1)))
+    (got-gone _ (c .before .before .before .before .push-reg .ensures .got) (means wentAs (c .enum-told .given .1)) (means wentAs (c .enum-told .given .1)))
 
 returns-2 : tie.Need-returns-2
 unfolding call
 returns-2 c =
     did refl (c .before .before .before .before .before .before .before .before .before .before .before .before .pre)
-    (got-then _ (c .before .before .before .before .before .before .before .push-reg .ensures .got) (went-is (c .before .before .before .went .given .1))
+    (got-then _ (c .before .before .before .before .before .before .before .push-reg .ensures .got) (means wentAs (c .before .before .before .went .given .1))
     (got-give (rw (c .with-pc .ensures, c .before .with-reg .ensures))))
 
 pub call-spec : {M : Type 1} → statement M

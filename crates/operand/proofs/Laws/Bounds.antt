@@ -1,43 +1,45 @@
--- How often decoding, reading and writing an operand writes, at most.
+-- Decoding and reading an operand writes nothing, and writing it writes once.
 use Prim.Native.Nat.{ℕ}
 use native.Mathlib.Omega.{arith}
-use Rattle.board.specs.Work.{give, load, Size, word, _>>=_}
-use Rattle.board.proofs.Laws.Bounded.{Bounded, gives}
-use Rattle.board.proofs.Laws.Bounded.{bounded-then, bounded-load, bounded-store, bounded-getD, none, also}
+use mathlib.Core.Bool.{true}
+use mathlib.Core.Path.{_≡_}
+use lib.Dec.{ltb}
+use Rattle.board.specs.Work.{Work, Size, _>>=_}
+use Rattle.board.proofs.Laws.Bounded.{Bounded, gives, bounded-then, bounded-write, bounds}
 use Rattle.state.specs.declared.State.{State}
 use Rattle.operand.specs.declared.Place.{Place}
 use Rattle.operand.specs.declared.Place.the-variants.{Reg, Mem}
-use Rattle.operand.specs.Destination.{operandOf}
-use Rattle.operand.specs.Operand.{locate, incrementDeferred, decrementDeferred, indexed, indexedDeferred, deferred, decode, readOf, writeTo}
+use Rattle.operand.specs.Destination.{Holding, operandOf}
+use Rattle.operand.specs.Operand.{locate, incrementDeferred, decrementDeferred, indexed, indexedDeferred, deferred, Seen, decode, readOf, writeTo}
 
--- a word read, and a place given
-one : (a : ℕ) (f : ℕ → Place) → Bounded 0 (load a >>= (λ v. give (f v)))
-one a f = bounded-then (omega arith) (bounded-load {n = 0} word a) (λ v. gives {n = 0} (f v))
+located : (step k r pc mode : ℕ) → Bounded 0 (locate step k r pc mode)
+unfolding locate incrementDeferred decrementDeferred indexed indexedDeferred deferred _>>=_
+located step k r pc mode = search bounds depth 20
 
-pub bounded-locate : (step k r pc mode : ℕ) → Bounded 0 (locate step k r pc mode)
-unfolding locate incrementDeferred decrementDeferred indexed indexedDeferred deferred
-bounded-locate step k r pc mode =
-    bounded-getD mode
-    (also (gives _) (also (gives _) (also (gives _) (also (one r _) (also (gives _) (also (one _ _) (also (one pc _) none)))))))
-    (bounded-then (omega arith) (bounded-load {n = 0} word _) (λ x. one _ _))
-
-pub bounded-decode : (z : Size) (s : State) (mode k : ℕ) → Bounded 0 (decode z s mode k)
+decoded : (z : Size) (s : State) (mode k : ℕ) → Bounded 0 (decode z s mode k)
 unfolding decode
-bounded-decode z s mode k = bounded-then (omega arith) (bounded-locate _ k _ _ mode) (λ _. gives {n = 0} _)
+decoded z s mode k = bounded-then {k = 0} (omega arith) (located _ k _ _ mode) (λ _. gives _)
 
-pub bounded-read : (z : Size) (r : ℕ) (p : Place) → Bounded 0 (readOf z r p)
+read : (z : Size) (r : ℕ) (p : Place) → Bounded 0 (readOf z r p)
 unfolding readOf
-bounded-read z r Reg = gives _
-bounded-read z r (Mem a which v) = bounded-load z a
+read z r Reg = search bounds
+read z r (Mem a which v) = search bounds
 
-pub bounded-write : (z : Size) (s : State) (k : ℕ) (p : Place) (v : ℕ) → Bounded 1 (writeTo z s k p v)
-unfolding writeTo
-bounded-write z s k Reg v = gives _
-bounded-write z s k (Mem a which w) v = bounded-then (omega arith) (bounded-store z a v) (λ _. gives {n = 0} _)
+module _ {A : Type 0} {n : ℕ} (z : Size) (s : State) (mode k : ℕ) where
+  -- and then the work that follows
+  pub bounded-decode : {f : Seen → Work A} → ((to : Seen) → Bounded n (f to)) → Bounded n (decode z s mode k >>= f)
+  bounded-decode h = bounded-then {k = n} (omega arith) (decoded z s mode k) h
 
-pub bounded-operand : (z : Size) (s : State) (mode k : ℕ) → Bounded 0 (operandOf z s mode k)
-unfolding operandOf
-bounded-operand z s mode k =
-    bounded-then {k = 0} (omega arith) (bounded-decode z s mode k) λ to.
-    bounded-then {k = 0} (omega arith) (bounded-read z _ _) λ v.
-    gives _
+  pub bounded-operand : {f : Holding → Work A} → ((o : Holding) → Bounded n (f o)) → Bounded n (operandOf z s mode k >>= f)
+  unfolding operandOf
+  bounded-operand h =
+      bounded-then {n = 0} {k = n} (omega arith)
+      (bounded-then {k = 0} (omega arith) (decoded z s mode k) (λ to. bounded-then {k = 0} (omega arith) (read z _ _) (λ v. gives _))) h
+
+pub bounded-written : {n : ℕ} (z : Size) (s : State) (k : ℕ) (p : Place) (v : ℕ) → ltb 0 n ≡ true → Bounded n (writeTo z s k p v)
+unfolding writeTo _>>=_
+bounded-written z s k Reg v e = gives _
+bounded-written z s k (Mem a which w) v e = bounded-write z a v e (gives _)
+
+-- for `search`
+pub ruleset operand-bounds = (bounds, bounded-decode, bounded-operand, bounded-written)

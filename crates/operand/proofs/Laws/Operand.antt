@@ -1,34 +1,20 @@
 -- What a decode, a read and a write of an operand come to, answered or not.
 use Prim.Native.Nat.{ℕ}
 use mathlib.Core.List.{List}
-use mathlib.Core.Path.{_≡_, refl, ap, _∙_}
+use mathlib.Core.Path.{_≡_, refl}
 use Rattle.board.specs.Work.{Work, Size}
 use Rattle.board.specs.Work as Work
 use native.Mathlib.Omega.{arith}
 use Rattle.board.specs.Exec.{Store, beside, Now, good, gone, exec, Got, Saw}
-use Rattle.board.proofs.Laws.{got-then, got-gone, got-give, unread-at, unwritten-at}
+use Rattle.board.proofs.Laws.{got-then, got-gone, got-give, unread-at, unwritten-at, means}
 use Rattle.state.specs.declared.State.{State}
-use Rattle.state.specs.declared.Went.{Went}
-use Rattle.state.specs.declared.Went.the-variants as Went
 use Rattle.state.specs.State.{reg}
-use Rattle.state.specs.Answer.{wentAs}
-use Rattle.state.proofs.Laws.Answer.{went-none}
 use Rattle.operand.specs.declared.Place.{Place}
 use Rattle.operand.specs.declared.Place.the-variants.{Reg, Mem}
 use Rattle.operand.specs.declared.Found.{Found}
 use Rattle.operand.specs.declared.Found.the-variants as Found
-use Rattle.operand.specs.Operand.{incrementOf, locate, moved, seen, decode, readOf, withPart, writeTo, foundAs, unfound, addressOf}
-
--- ---- what the answers say
-
-pub found-is : {r : Found} {p : Place} {st : Store} → r ≡ Found.At p → foundAs r st ≡ good p st
-found-is {st = st} e = ap (λ z. foundAs z st) e
-
-pub found-none : {r : Found} {a : ℕ} {st : Store} → r ≡ Found.Blank a → foundAs r st ≡ gone a st
-found-none {st = st} e = ap (λ z. foundAs z st) e
-
-pub found-lost : {r : Went} {f : Found} {a : ℕ} {st : Store} → r ≡ unfound f → f ≡ Found.Blank a → wentAs r st ≡ gone a st
-found-lost e h = went-none (e ∙ ap unfound h)
+use Rattle.operand.specs.Operand.{incrementOf, locate, moved, seen, decode, readOf, withPart, writeTo, addressOf}
+pub use Rattle.operand.specs.Operand.{foundAs, unfound}
 
 -- ---- how code comes to an operand, of words and of bytes alike
 
@@ -43,13 +29,13 @@ pub decoded : {map : List ℕ} (z : Size) (s : State) (mode k : ℕ) {st : Store
     → Got map (locate (incrementOf z k) k (reg s k) (s .regs .pc) mode) st (foundAs r st) → r ≡ Found.At p → t ≡ moved s p
     → Got map (decode z s mode k) st (good (seen t k p) st)
 unfolding decode
-decoded z s mode k g e h = got-then _ g (found-is e) (got-give (rw h))
+decoded z s mode k g e h = got-then _ g (means foundAs e) (got-give (rw h))
 
 pub undecoded : {map : List ℕ} (z : Size) (s : State) (mode k : ℕ) {st : Store} {r : Found} {a : ℕ}
     → Got map (locate (incrementOf z k) k (reg s k) (s .regs .pc) mode) st (foundAs r st) → r ≡ Found.Blank a
     → Got map (decode z s mode k) st (gone a st)
 unfolding decode
-undecoded z s mode k g e = got-gone _ g (found-none e) refl
+undecoded z s mode k g e = got-gone _ g (means foundAs e) refl
 
 -- a read that was not answered was of an operand in memory, and at its address
 pub unread-operand : {map : List ℕ} (z : Size) (x : ℕ) (p : Place) {st st₁ : Store} {r : Now ℕ} {b : ℕ} → Got map (readOf z x p) st r → r ≡ gone b st₁ → r ≡ gone (addressOf p) st₁

@@ -5,9 +5,6 @@ use borrow.Author.Needs.{needs}
 use Rattle.operand.proofs.pointed.Statement.{statement}
 use Rattle.operand.proofs.pointed.Tie as tie
 
-deferred-requires : tie.Need-deferred-requires
-deferred-requires c κs = c .before .before .before .before .before .before .before .pre
-
 returns : tie.Need-returns
 returns c =
     rw (pointed-is _ _ _ _ (c .before .before .before .before .before .stride .ensures) (c .before .before .before .before .pointer .ensures) (c .before .before .before .beyond .ensures) (sym (c .before .before .defers .ensures) ∙ c .before .if1 .taken))
@@ -26,6 +23,6 @@ pointed-spec =
     (λ c κs. search needs)
     (λ c κs. search needs)
     (λ c κs. search needs)
-    deferred-requires
+    (λ c κs. search needs)
     returns
     returns-2)

@@ -4,9 +4,6 @@ use borrow.Author.Needs.{needs}
 use Rattle.operand.proofs.read_byte.Statement.{statement}
 use Rattle.operand.proofs.read_byte.Tie as tie
 
-load-byte-requires : tie.Need-load-byte-requires
-load-byte-requires c κs = c .before .before .before .before .before .pre
-
 returns : tie.Need-returns
 unfolding readOf
 returns c =
@@ -22,4 +19,4 @@ returns-2 c =
 pub read-byte-spec : {M : Type 1} → statement M
 read-byte-spec =
     tie.close
-    (tie.spec (λ c. search needs) (λ c κs. search needs) (λ c. search needs) load-byte-requires returns returns-2)
+    (tie.spec (λ c. search needs) (λ c κs. search needs) (λ c. search needs) (λ c κs. search needs) returns returns-2)

@@ -5,9 +5,6 @@ use borrow.Author.Needs.{needs}
 use Rattle.operand.proofs.read_word.Statement.{statement}
 use Rattle.operand.proofs.read_word.Tie as tie
 
-load-requires : tie.Need-load-requires
-load-requires c κs = c .before .before .before .before .before .pre
-
 returns : tie.Need-returns
 unfolding readOf
 returns c =
@@ -21,4 +18,4 @@ returns-2 c =
     (record { got = c .load .ensures .got })
 
 pub read-word-spec : {M : Type 1} → statement M
-read-word-spec = tie.close (tie.spec (λ c. search needs) (λ c. search needs) load-requires returns returns-2)
+read-word-spec = tie.close (tie.spec (λ c. search needs) (λ c. search needs) (λ c κs. search needs) returns returns-2)

@@ -73,7 +73,7 @@ begun-well map out s op m h = rw (ne-eqb op 5 (λ e. omega arith))
 abbrev pub elementIn : ℕ → State → List ℕ → List ℕ
 elementIn op s m = put (moveSize (moveRow op .bytes)) m (reg s (blockDestination op)) (get (moveSize (moveRow op .bytes)) m (reg s (blockSource op)))
 
--- R0 says that n elements are left
+-- R0 means that n elements are left
 pub record Left (n : ℕ) (s : State) : Type 0 where
   pub togo : reg s 0 ≡ n % 65536
   pub some : 1 ≤ n

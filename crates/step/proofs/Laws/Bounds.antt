@@ -1,17 +1,14 @@
 -- A step writes at most 11 words: XCT with SVCB or SVCC.
 use Prim.Native.Nat.{ℕ, _/_}
 use native.Mathlib.Omega.{arith}
-use mathlib.Core.Bool.{Bool}
 use lib.Dec.{eqb}
 use Rattle.plate.specs.Plate.{formatOf}
 use Rattle.board.specs.Work.{word}
-use Rattle.board.proofs.Laws.Bounded.{Bounded, gives}
-use Rattle.board.proofs.Laws.Bounded.{bounded-then, bounded-more, bounded-load, bounded-store}
+use Rattle.board.proofs.Laws.Bounded.{Bounded, gives, reads, bounded-then, bounded-more, bounded-cond, bounds}
 use Rattle.state.specs.declared.State.{State}
 use Rattle.state.specs.declared.Outside.{Outside}
-use Rattle.state.proofs.Laws.Bounds.{bounded-cond, bounded-popReg, bounded-pop, bounded-fetch, bounded-fromLoc, bounded-pushBoth, bounded-trap}
+use Rattle.state.proofs.Laws.Bounds.{opened}
 use Rattle.formats2to4.proofs.Laws.Bounds.{bounded-lowCodes}
-use Rattle.state.proofs.Laws.Bounds.{bounded-tabled}
 use Rattle.format7.proofs.Laws.Bounds.{bounded-format7}
 use Rattle.format8.proofs.Laws.Bounds.{bounded-format8}
 use Rattle.format9.proofs.Laws.Bounds.{bounded-format9}
@@ -24,7 +21,7 @@ use Rattle.step.specs.Places.{keep, pickUp, keepFour, pickUpFour, keepRe
 use Rattle.step.specs.Step.{vectored, workOf, busError}
 
 bounded-byFormat : (out : Outside) (f : ℕ) (s : State) (op : ℕ) → Bounded 9 (byFormat out f s op)
-unfolding byFormat
+unfolding byFormat opened
 bounded-byFormat out f s op =
     bounded-cond (eqb f 1) (bounded-lowCodes out s op)
     (bounded-cond (eqb f 5) (gives _)
@@ -33,105 +30,35 @@ bounded-byFormat out f s op =
     (bounded-cond (moves out f) (bounded-more (omega arith) (bounded-format8 s op))
     (bounded-cond (eqb f 9) (bounded-more (omega arith) (bounded-format9 out s op))
     (bounded-cond (eqb f 10) (bounded-more (omega arith) (bounded-format10 s op))
-    (bounded-more (omega arith) (bounded-trap s _ _))))))))
-
-bounded-beginXct : (out : Outside) (s : State) → Bounded 0 (beginXct out s)
-unfolding beginXct
-bounded-beginXct out s =
-    bounded-then {k = 0} (omega arith) (bounded-popReg s 7) λ s.
-    bounded-then {k = 0} (omega arith) (bounded-pop s) λ ps.
-    bounded-then {k = 0} (omega arith) (bounded-fetch _) λ op.
-    gives _
+    (search bounds)))))))
 
 bounded-begun : (out : Outside) (s : State) (op : ℕ) → Bounded 0 (begun out s op)
-unfolding begun
-bounded-begun out s op = bounded-cond (eqb op 5) (bounded-beginXct out s) (gives _)
-
-bounded-trace : (out : Outside) (s : State) → Bounded 2 (trace out s)
-unfolding trace
-bounded-trace out s = bounded-then {k = 0} (omega arith) (bounded-pushBoth s _) (λ s. bounded-fromLoc s _)
-
-bounded-traced : (out : Outside) (b : Bool) (s : State) → Bounded 2 (traced out b s)
-unfolding traced
-bounded-traced out b s = bounded-cond b (bounded-trace out s) (gives s)
+unfolding begun beginXct opened
+bounded-begun out s op = bounded-cond (eqb op 5) (search bounds) (gives _)
 
 bounded-carry : (out : Outside) (b : Begin) → Bounded 11 (carry out b)
-unfolding carry
-bounded-carry out (code s op b) = bounded-then {k = 2} (omega arith) (bounded-byFormat out (formatOf (op / 256)) _ op) (λ s. bounded-traced out b s)
-bounded-carry out (abort s) = bounded-more (omega arith) (bounded-trap s _ _)
+unfolding carry traced trace opened
+bounded-carry out (code s op b) = bounded-then {k = 2} (omega arith) (bounded-byFormat out (formatOf (op / 256)) _ op) (λ s. bounded-cond b (search bounds) (gives _))
+bounded-carry out (abort s) = search bounds
 
 pub bounded-opWork : (out : Outside) (s : State) → Bounded 11 (opWork out s)
-unfolding opWork
-bounded-opWork out s =
-    bounded-then {k = 11} (omega arith) (bounded-fetch s) λ op.
-    bounded-then {k = 11} (omega arith) (bounded-begun out _ _) λ next.
-    bounded-carry out next
-
-bounded-vectored : (out : Outside) (s : State) → Bounded 2 (vectored out s)
-unfolding vectored
-bounded-vectored out s = bounded-then {k = 0} (omega arith) (bounded-trap s _ _) (λ s. bounded-tabled s _)
-
--- a save writes 9 words, and picking up writes none
-bounded-keep : (s : State) (k : ℕ) → Bounded 1 (keep s k)
-unfolding keep
-bounded-keep s k = bounded-store word _ _
-
-bounded-keepFour : (s : State) (h i j k : ℕ) → Bounded 4 (keepFour s h i j k)
-unfolding keepFour
-bounded-keepFour s h i j k =
-    bounded-then {k = 3} (omega arith) (bounded-keep s h) λ _.
-    bounded-then {k = 2} (omega arith) (bounded-keep s i) λ _.
-    bounded-then {k = 1} (omega arith) (bounded-keep s j) λ _.
-    bounded-keep s k
-
-bounded-keepRegisters : (s : State) → Bounded 8 (keepRegisters s)
-unfolding keepRegisters
-bounded-keepRegisters s = bounded-then {k = 4} (omega arith) (bounded-keepFour s 0 1 2 3) (λ _. bounded-keepFour s 4 5 6 7)
-
-bounded-save : (out : Outside) (s : State) → Bounded 9 (save out s)
-unfolding save
-bounded-save out s =
-    bounded-then {k = 1} (omega arith) (bounded-keepRegisters s) λ _.
-    bounded-then {k = 0} (omega arith) (bounded-store word _ _) λ _.
-    gives _
-
-bounded-pickUp : (s : State) (k : ℕ) → Bounded 0 (pickUp s k)
-unfolding pickUp
-bounded-pickUp s k = bounded-then {k = 0} (omega arith) (bounded-load {n = 0} word _) (λ _. gives _)
-
-bounded-pickUpFour : (s : State) (h i j k : ℕ) → Bounded 0 (pickUpFour s h i j k)
-unfolding pickUpFour
-bounded-pickUpFour s h i j k =
-    bounded-then {k = 0} (omega arith) (bounded-pickUp s h) λ s.
-    bounded-then {k = 0} (omega arith) (bounded-pickUp s i) λ s.
-    bounded-then {k = 0} (omega arith) (bounded-pickUp s j) λ s.
-    bounded-pickUp s k
-
-bounded-pickUpRegisters : (s : State) → Bounded 0 (pickUpRegisters s)
-unfolding pickUpRegisters
-bounded-pickUpRegisters s = bounded-then {k = 0} (omega arith) (bounded-pickUpFour s 0 1 2 3) (λ s. bounded-pickUpFour s 4 5 6 7)
-
-bounded-restore : (s : State) → Bounded 0 (restore s)
-unfolding restore
-bounded-restore s =
-    bounded-then {k = 0} (omega arith) (bounded-pickUpRegisters s) λ s.
-    bounded-then {k = 0} (omega arith) (bounded-load {n = 0} word _) λ _.
-    gives _
+unfolding opWork opened
+bounded-opWork out s = reads {n = 11} word _ (λ v. bounded-then {n = 0} {k = 11} (omega arith) (bounded-begun out _ _) (λ next. bounded-carry out next))
 
 pub bounded-step : (k : Kind) (out : Outside) (s : State) → Bounded 15 (workOf k out s)
-unfolding workOf
+unfolding workOf vectored save keepRegisters keepFour keep restore pickUpRegisters pickUpFour pickUp opened
 bounded-step OpCode out s = bounded-more (omega arith) (bounded-opWork out s)
-bounded-step HaltEnd out s = bounded-more (omega arith) (bounded-fromLoc _ _)
-bounded-step Boots out s = gives _
-bounded-step Saves out s = bounded-more (omega arith) (bounded-save out s)
-bounded-step LocksUp out s = gives _
-bounded-step Restarts out s = bounded-more (omega arith) (bounded-fromLoc _ _)
-bounded-step Restores out s = bounded-more (omega arith) (bounded-restore s)
-bounded-step NonVectored out s = bounded-more (omega arith) (bounded-trap s _ _)
-bounded-step Vectored out s = bounded-more (omega arith) (bounded-vectored out s)
-bounded-step Waits out s = gives s
-bounded-step Stuck out s = gives s
+bounded-step HaltEnd out s = search bounds
+bounded-step Boots out s = search bounds
+bounded-step Saves out s = search bounds depth 12
+bounded-step LocksUp out s = search bounds
+bounded-step Restarts out s = search bounds
+bounded-step Restores out s = search bounds depth 12
+bounded-step NonVectored out s = search bounds
+bounded-step Vectored out s = search bounds
+bounded-step Waits out s = search bounds
+bounded-step Stuck out s = search bounds
 
 pub bounded-error : (k : Kind) (out : Outside) (s : State) → Bounded 15 (busError k out s)
-unfolding busError
-bounded-error k out s = bounded-more (omega arith) (bounded-trap _ _ _)
+unfolding busError opened
+bounded-error k out s = search bounds

@@ -1,5 +1,6 @@
 use Rattle.board.proofs.Laws.Ended.{ended-well, ended-blank, taken-back}
-use Rattle.state.proofs.Laws.Answer.{went-is, went-none}
+use Rattle.state.proofs.Laws.Answer.{wentAs}
+use Rattle.board.proofs.Laws.{means}
 use Rattle.step.specs.declared.Kind.the-variants.{OpCode}
 use Rattle.step.specs.Step.{workOf}
 use Rattle.step.proofs.Laws.Bounds.{bounded-step}
@@ -14,9 +15,9 @@ op-work-requires c κs = (fresh-clear (c .before .before .before .before .before
 returns : tie.Need-returns
 unfolding workOf
 returns c = record {
-  done = λ e. ended-well (fresh-clear (c .before .before .before .before .before .before .before .before .before .pre) (c .before .before .before .before .before .clear .ensures)) (bounded-step OpCode _ _) (c .before .before .op-work .ensures .got) (went-is e);
-  lost = λ e. ended-blank (fresh-clear (c .before .before .before .before .before .before .before .before .before .pre) (c .before .before .before .before .before .clear .ensures)) (bounded-step OpCode _ _) (c .before .before .op-work .ensures .got) (went-none e);
-  back = λ e. taken-back (fresh-clear (c .before .before .before .before .before .before .before .before .before .pre) (c .before .before .before .before .before .clear .ensures)) (c .before .before .op-work .ensures .got) (went-none e);
+  done = λ e. ended-well (fresh-clear (c .before .before .before .before .before .before .before .before .before .pre) (c .before .before .before .before .before .clear .ensures)) (bounded-step OpCode _ _) (c .before .before .op-work .ensures .got) (means wentAs e);
+  lost = λ e. ended-blank (fresh-clear (c .before .before .before .before .before .before .before .before .before .pre) (c .before .before .before .before .before .clear .ensures)) (bounded-step OpCode _ _) (c .before .before .op-work .ensures .got) (means wentAs e);
+  back = λ e. taken-back (fresh-clear (c .before .before .before .before .before .before .before .before .before .pre) (c .before .before .before .before .before .clear .ensures)) (c .before .before .op-work .ensures .got) (means wentAs e);
   board = c .before .before .op-work .ensures .board;
 }
 

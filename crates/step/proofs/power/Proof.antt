@@ -1,6 +1,7 @@
 use mathlib.Core.Path.{sym, _∙_}
 use Rattle.board.proofs.Laws.Ended.{ended-well, ended-blank, taken-back}
-use Rattle.state.proofs.Laws.Answer.{went-is, went-none}
+use Rattle.state.proofs.Laws.Answer.{wentAs}
+use Rattle.board.proofs.Laws.{means}
 use Rattle.step.proofs.Laws.Bounds.{bounded-step}
 use Rattle.step.proofs.Laws.Ends.{fresh-none, fresh-back, powered, unpowered, option-no-code}
 use borrow.Author.Needs.{needs}
@@ -13,7 +14,7 @@ seldom-requires c κs = ((fresh-none (c .before .before .before .before .before 
 returns : tie.Need-returns
 returns c = record {
   came = powered _ _ _ (c .before .before .before .before .before .before .before .before .before .before .cleared .ensures) (c .before .before .before .before .before .before .before .before .before .hear .ensures) (c .before .before .before .before .before .before .before .before .power-up-option .ensures)
-      (ended-well (fresh-none (c .before .before .before .before .before .before .before .before .before .before .before .before .before .pre)) (bounded-step _ _ _) (c .before .before .before .before .before .seldom .ensures .got) (went-is (c .before .t .given .1)));
+      (ended-well (fresh-none (c .before .before .before .before .before .before .before .before .before .before .before .before .before .pre)) (bounded-step _ _ _) (c .before .before .before .before .before .seldom .ensures .got) (means wentAs (c .before .t .given .1)));
   lent = c .before .before .before .before .before .seldom .ensures .board .lent;
 }
 
@@ -26,8 +27,8 @@ same-length-2 c = (fresh-back (c .before .before .before .before .before .before
 returns-2 : tie.Need-returns-2
 returns-2 c = record {
   came = unpowered _ _ _ (c .before .before .before .before .before .before .before .before .before .before .before .before .before .before .before .cleared .ensures) (c .before .before .before .before .before .before .before .before .before .before .before .before .before .before .hear .ensures) (c .before .before .before .before .before .before .before .before .before .before .before .before .before .power-up-option .ensures)
-      (ended-blank (fresh-none (c .before .before .before .before .before .before .before .before .before .before .before .before .before .before .before .before .before .before .pre)) (bounded-step _ _ _) (c .before .before .before .before .before .before .before .before .before .before .seldom .ensures .got) (went-none (c .before .before .before .before .before .before .enum-told .given .1)))
-      (c .before .before .before .rollback .ensures .0 ∙ taken-back (fresh-none (c .before .before .before .before .before .before .before .before .before .before .before .before .before .before .before .before .before .before .pre)) (c .before .before .before .before .before .before .before .before .before .before .seldom .ensures .got) (went-none (c .before .before .before .before .before .before .enum-told .given .1)))
+      (ended-blank (fresh-none (c .before .before .before .before .before .before .before .before .before .before .before .before .before .before .before .before .before .before .pre)) (bounded-step _ _ _) (c .before .before .before .before .before .before .before .before .before .before .seldom .ensures .got) (means wentAs (c .before .before .before .before .before .before .enum-told .given .1)))
+      (c .before .before .before .rollback .ensures .0 ∙ taken-back (fresh-none (c .before .before .before .before .before .before .before .before .before .before .before .before .before .before .before .before .before .before .pre)) (c .before .before .before .before .before .before .before .before .before .before .seldom .ensures .got) (means wentAs (c .before .before .before .before .before .before .enum-told .given .1)))
       (c .with-mode .ensures);
   lent = (fresh-back (c .before .before .before .before .before .before .before .before .before .before .seldom .ensures .board) (c .before .before .before .rollback .ensures .0) (c .before .before .before .rollback .ensures .1)) .board .lent;
 }

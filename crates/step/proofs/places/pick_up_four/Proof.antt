@@ -1,5 +1,5 @@
-use Rattle.board.proofs.Laws.{got-then, got-gone}
-use Rattle.state.proofs.Laws.Answer.{went-is, went-none}
+use Rattle.board.proofs.Laws.{got-then, got-gone, means}
+use Rattle.state.proofs.Laws.Answer.{wentAs}
 use Rattle.step.specs.Places.{pickUpFour}
 use borrow.Author.Needs.{needs}
 use Rattle.step.proofs.places.pick_up_four.Statement.{statement}
@@ -11,32 +11,32 @@ pick-up-requires-4 c κs = c .before .before .before .before .before .before .be
 returns : tie.Need-returns
 unfolding pickUpFour
 returns c =
-    record { got = got-gone _ (c .before .before .pick-up .ensures .got) (went-none (c .enum-told .given .1)) (went-none (c .enum-told .given .1)) }
+    record { got = got-gone _ (c .before .before .pick-up .ensures .got) (means wentAs (c .enum-told .given .1)) (means wentAs (c .enum-told .given .1)) }
 
 returns-2 : tie.Need-returns-2
 unfolding pickUpFour
 returns-2 c =
     record {
-      got = got-then _ (c .before .before .before .before .before .before .pick-up .ensures .got) (went-is (c .before .before .before .before .went1 .given .1))
-          (got-gone _ (c .before .before .pick-up2 .ensures .got) (went-none (c .enum-told2 .given .1)) (went-none (c .enum-told2 .given .1)));
+      got = got-then _ (c .before .before .before .before .before .before .pick-up .ensures .got) (means wentAs (c .before .before .before .before .went1 .given .1))
+          (got-gone _ (c .before .before .pick-up2 .ensures .got) (means wentAs (c .enum-told2 .given .1)) (means wentAs (c .enum-told2 .given .1)));
     }
 
 returns-3 : tie.Need-returns-3
 unfolding pickUpFour
 returns-3 c =
     record {
-      got = got-then _ (c .before .before .before .before .before .before .before .before .before .before .pick-up .ensures .got) (went-is (c .before .before .before .before .before .before .before .before .went1 .given .1))
-          (got-then _ (c .before .before .before .before .before .before .pick-up2 .ensures .got) (went-is (c .before .before .before .before .went2 .given .1))
-          (got-gone _ (c .before .before .pick-up3 .ensures .got) (went-none (c .enum-told3 .given .1)) (went-none (c .enum-told3 .given .1))));
+      got = got-then _ (c .before .before .before .before .before .before .before .before .before .before .pick-up .ensures .got) (means wentAs (c .before .before .before .before .before .before .before .before .went1 .given .1))
+          (got-then _ (c .before .before .before .before .before .before .pick-up2 .ensures .got) (means wentAs (c .before .before .before .before .went2 .given .1))
+          (got-gone _ (c .before .before .pick-up3 .ensures .got) (means wentAs (c .enum-told3 .given .1)) (means wentAs (c .enum-told3 .given .1))));
     }
 
 returns-4 : tie.Need-returns-4
 unfolding pickUpFour
 returns-4 c =
     record {
-      got = got-then _ (c .before .before .before .before .before .before .before .before .before .before .before .before .pick-up .ensures .got) (went-is (c .before .before .before .before .before .before .before .before .before .before .went1 .given .1))
-          (got-then _ (c .before .before .before .before .before .before .before .before .pick-up2 .ensures .got) (went-is (c .before .before .before .before .before .before .went2 .given .1))
-          (got-then _ (c .before .before .before .before .pick-up3 .ensures .got) (went-is (c .before .before .went3 .given .1))
+      got = got-then _ (c .before .before .before .before .before .before .before .before .before .before .before .before .pick-up .ensures .got) (means wentAs (c .before .before .before .before .before .before .before .before .before .before .went1 .given .1))
+          (got-then _ (c .before .before .before .before .before .before .before .before .pick-up2 .ensures .got) (means wentAs (c .before .before .before .before .before .before .went2 .given .1))
+          (got-then _ (c .before .before .before .before .pick-up3 .ensures .got) (means wentAs (c .before .before .went3 .given .1))
           (c .pick-up4 .ensures .got)));
     }
 

@@ -1,5 +1,5 @@
-use Rattle.board.proofs.Laws.{got-then, got-gone}
-use Rattle.state.proofs.Laws.Answer.{went-is, went-none}
+use Rattle.board.proofs.Laws.{got-then, got-gone, means}
+use Rattle.state.proofs.Laws.Answer.{wentAs}
 use Rattle.step.specs.Places.{pickUpRegisters}
 use borrow.Author.Needs.{needs}
 use Rattle.step.proofs.places.pick_up_registers.Statement.{statement}
@@ -8,13 +8,13 @@ use Rattle.step.proofs.places.pick_up_registers.Tie as tie
 returns : tie.Need-returns
 unfolding pickUpRegisters
 returns c =
-    record { got = got-gone _ (c .before .before .pick-up-four .ensures .got) (went-none (c .enum-told .given .1)) (went-none (c .enum-told .given .1)) }
+    record { got = got-gone _ (c .before .before .pick-up-four .ensures .got) (means wentAs (c .enum-told .given .1)) (means wentAs (c .enum-told .given .1)) }
 
 returns-2 : tie.Need-returns-2
 unfolding pickUpRegisters
 returns-2 c =
     record {
-      got = got-then _ (c .before .before .before .before .pick-up-four .ensures .got) (went-is (c .before .before .went .given .1))
+      got = got-then _ (c .before .before .before .before .pick-up-four .ensures .got) (means wentAs (c .before .before .went .given .1))
           (c .pick-up-four2 .ensures .got);
     }
 

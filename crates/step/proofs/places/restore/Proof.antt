@@ -1,6 +1,6 @@
 use mathlib.Core.Path.{refl}
-use Rattle.board.proofs.Laws.{got-then, got-gone, got-give, word-is, word-none, unread-at}
-use Rattle.state.proofs.Laws.Answer.{went-is, went-none}
+use Rattle.board.proofs.Laws.{got-then, got-gone, got-give, unread-at, wordAs, means}
+use Rattle.state.proofs.Laws.Answer.{wentAs}
 use Rattle.step.specs.Places.{restore}
 use borrow.Author.Needs.{needs}
 use Rattle.step.proofs.places.restore.Statement.{statement}
@@ -8,20 +8,20 @@ use Rattle.step.proofs.places.restore.Tie as tie
 
 returns : tie.Need-returns
 unfolding restore
-returns c = record { got = got-gone _ (c .before .before .pick-up-registers .ensures .got) (went-none (c .enum-told .given .1)) (went-none (c .enum-told .given .1)) }
+returns c = record { got = got-gone _ (c .before .before .pick-up-registers .ensures .got) (means wentAs (c .enum-told .given .1)) (means wentAs (c .enum-told .given .1)) }
 
 returns-2 : tie.Need-returns-2
 unfolding restore
 returns-2 c = record {
-  got = got-then _ (c .before .before .before .before .before .before .pick-up-registers .ensures .got) (went-is (c .before .before .before .before .went .given .1))
-      (got-gone _ (c .before .before .load .ensures .got) (unread-at (c .before .before .load .ensures .got) (word-none (c .enum-told2 .given .1))) refl);
+  got = got-then _ (c .before .before .before .before .before .before .pick-up-registers .ensures .got) (means wentAs (c .before .before .before .before .went .given .1))
+      (got-gone _ (c .before .before .load .ensures .got) (unread-at (c .before .before .load .ensures .got) (means wordAs (c .enum-told2 .given .1))) refl);
 }
 
 returns-3 : tie.Need-returns-3
 unfolding restore
 returns-3 c = record {
-  got = got-then _ (c .before .before .before .before .before .before .before .before .before .pick-up-registers .ensures .got) (went-is (c .before .before .before .before .before .before .before .went .given .1))
-      (got-then _ (c .before .before .before .before .before .load .ensures .got) (word-is (c .before .before .before .ps .given .1))
+  got = got-then _ (c .before .before .before .before .before .before .before .before .before .pick-up-registers .ensures .got) (means wentAs (c .before .before .before .before .before .before .before .went .given .1))
+      (got-then _ (c .before .before .before .before .before .load .ensures .got) (means wordAs (c .before .before .before .ps .given .1))
       (got-give (rw (c .with-mode .ensures, c .before .with-status .ensures))));
 }
 

@@ -1,6 +1,6 @@
 use mathlib.Core.Path.{refl}
-use Rattle.board.proofs.Laws.{got-then, got-gone, got-give, did, kept-is, kept-none, unwritten-at}
-use Rattle.state.proofs.Laws.Answer.{went-store, kept-lost}
+use Rattle.board.proofs.Laws.{got-then, got-gone, got-give, did, unwritten-at, keptAs, means, passes}
+use Rattle.state.proofs.Laws.Answer.{went-store, wentAs, unwritten}
 use Rattle.step.specs.Places.{save}
 use borrow.Author.Needs.{needs}
 use Rattle.step.proofs.places.save.Statement.{statement}
@@ -9,21 +9,21 @@ use Rattle.step.proofs.places.save.Tie as tie
 returns : tie.Need-returns
 unfolding save
 returns c = did (went-store (c .unwritten .result)) (c .before .before .before .before .before .before .before .before .before .before .pre)
-    (got-gone _ (c .before .before .before .before .before .keep-registers .ensures .got) (kept-none (c .before .enum-told2 .given .1)) (kept-lost (c .unwritten .ensures) (c .before .enum-told2 .given .1)))
+    (got-gone _ (c .before .before .before .before .before .keep-registers .ensures .got) (means keptAs (c .before .enum-told2 .given .1)) (passes wentAs unwritten (c .unwritten .ensures) (c .before .enum-told2 .given .1)))
 
 returns-2 : tie.Need-returns-2
 unfolding save
 returns-2 c =
     let kept = (rw (c .before .before .before .before .before .ps .ensures) at (c .before .before .before .before .store .ensures)) .got in
     did refl (c .before .before .before .before .before .before .before .before .before .before .before .before .before .before .before .before .before .pre)
-    (got-then _ (c .before .before .before .before .before .before .before .before .before .before .before .before .keep-registers .ensures .got) (kept-is (c .before .before .before .before .before .before .before .before .enum-told .given .1))
-    (got-gone _ kept (unwritten-at kept (kept-none (c .enum-told4 .given .1))) refl))
+    (got-then _ (c .before .before .before .before .before .before .before .before .before .before .before .before .keep-registers .ensures .got) (means keptAs (c .before .before .before .before .before .before .before .before .enum-told .given .1))
+    (got-gone _ kept (unwritten-at kept (means keptAs (c .enum-told4 .given .1))) refl))
 
 returns-3 : tie.Need-returns-3
 unfolding save
 returns-3 c = did refl (c .before .before .before .before .before .before .before .before .before .before .before .before .before .before .before .before .before .before .pre)
-    (got-then _ (c .before .before .before .before .before .before .before .before .before .before .before .before .before .keep-registers .ensures .got) (kept-is (c .before .before .before .before .before .before .before .before .before .enum-told .given .1))
-    (got-then _ ((rw (c .before .before .before .before .before .before .ps .ensures) at (c .before .before .before .before .before .store .ensures)) .got) (kept-is (c .before .enum-told3 .given .1))
+    (got-then _ (c .before .before .before .before .before .before .before .before .before .before .before .before .before .keep-registers .ensures .got) (means keptAs (c .before .before .before .before .before .before .before .before .before .enum-told .given .1))
+    (got-then _ ((rw (c .before .before .before .before .before .before .ps .ensures) at (c .before .before .before .before .before .store .ensures)) .got) (means keptAs (c .before .enum-told3 .given .1))
     (got-give (rw (c .with-mode .ensures)))))
 
 pub save-spec : {M : Type 1} → statement M

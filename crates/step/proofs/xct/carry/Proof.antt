@@ -1,5 +1,5 @@
-use Rattle.board.proofs.Laws.{got-then, got-gone, did}
-use Rattle.state.proofs.Laws.Answer.{went-is, went-none, went-store}
+use Rattle.board.proofs.Laws.{got-then, got-gone, did, means}
+use Rattle.state.proofs.Laws.Answer.{went-store, wentAs}
 use Rattle.step.specs.Xct.{carry}
 use borrow.Author.Needs.{needs}
 use Rattle.step.proofs.xct.carry.Statement.{statement}
@@ -9,13 +9,13 @@ returns : tie.Need-returns
 unfolding carry
 returns c =
     did (went-store (c .before .before .before .before .execute .result)) (c .before .before .before .before .before .before .before .before .before .before .pre)
-    (got-gone _ ((rw (c .before .before .before .before .before .before .before .with-mark .ensures) at (c .before .before .before .before .execute .ensures)) .got) (went-none (c .enum-told .given .1)) (went-none (c .enum-told .given .1)))
+    (got-gone _ ((rw (c .before .before .before .before .before .before .before .with-mark .ensures) at (c .before .before .before .before .execute .ensures)) .got) (means wentAs (c .enum-told .given .1)) (means wentAs (c .enum-told .given .1)))
 
 returns-2 : tie.Need-returns-2
 unfolding carry
 returns-2 c =
     record {
-      got = got-then _ ((rw (c .before .before .before .before .before .before .before .before .before .before .before .before .before .with-mark .ensures) at (c .before .before .before .before .before .before .before .before .before .before .execute .ensures)) .got) (went-is (c .before .before .before .before .before .before .went .given .1))
+      got = got-then _ ((rw (c .before .before .before .before .before .before .before .before .before .before .before .before .before .with-mark .ensures) at (c .before .before .before .before .before .before .before .before .before .before .execute .ensures)) .got) (means wentAs (c .before .before .before .before .before .before .went .given .1))
           (c .before .before .traced .ensures .got);
       board = c .before .before .traced .ensures .board;
     }
