@@ -3,7 +3,7 @@
 // each. Where the answer could not be written standard error says so.
 ghost use Prim.Native.Nat.{_<_};
 use benchline::Printed;
-use job::Answer;
+use job::JobRead;
 use libc::STDERR_FILENO;
 use libc::STDIN_FILENO;
 use libc::STDOUT_FILENO;
@@ -117,8 +117,8 @@ fn run_job(input: &[u8], board: Settings) -> bool {
     let mut map = [0u8; 256];
     let mut lines = [0u16; 4096];
     match job::read_job(input, &mut image, &mut map, &mut lines) {
-        Answer::Refused(why) => put_refused(why),
-        Answer::Lines(count) => run_first(&mut image, &map, board, &lines, count),
+        JobRead::Refused(why) => put_refused(why),
+        JobRead::Lines(count) => run_first(&mut image, &map, board, &lines, count),
     }
 }
 

@@ -15,26 +15,26 @@ use mathlib.Core.Path.{_≡_, refl, sym, ap, _∙_, subst}
 use lib.ListN.{getD, set, length, length-set}
 use lib.Seq.{getD-set-same, getD-set-other, set-out}
 use borrow.Author.Tests.{ltb-true}
-use Rattle.board.specs.Work.{Work, give, readAt, writeAt, Size, word, byte, fitted, writable, even, wordAt, withWord, withByte, get, put, _>>=_}
+use Rattle.board.specs.Work.{Work, give, readAt, writeAt, Size, word, byte, fitted, writable, even, imageWord, withWord, withByte, get, put, _>>=_}
 use Rattle.board.specs.Work as Work
-use Rattle.board.specs.Exec.{and, Store, Now, good, gone, logCount, logRoom, note, withNote, allowed, exec, Board, Got, Did, wordAs, byteAs, keptAs}
-use Rattle.board.proofs.Laws.Exec.{stateOf}
+use Rattle.board.specs.Exec.{and, Store, Now, good, gone, logCount, logRoom, note, withNote, allowed, exec, Board, Got, Did, wordAs, byteAs, storedAs}
+use Rattle.board.proofs.Laws.Exec.{storeOf}
 use Rattle.board.specs.declared.Word.{Word}
 use Rattle.board.specs.declared.Word.the-variants.{Value, Blank}
 use Rattle.board.specs.declared.Byte.{Byte}
 use Rattle.board.specs.declared.Byte.the-variants as Byte
-use Rattle.board.specs.declared.Kept.{Kept}
-use Rattle.board.specs.declared.Kept.the-variants as Kept
+use Rattle.board.specs.declared.Stored.{Stored}
+use Rattle.board.specs.declared.Stored.the-variants as Stored
 
-abbrev pub after : {A B : Type 0} → Now A → (A → Store → Now B) → Now B
-after (good x st) f = f x st
-after (gone a st) f = gone a st
+abbrev andThen : {A B : Type 0} → Now A → (A → Store → Now B) → Now B
+andThen (good x st) f = f x st
+andThen (gone a st) f = gone a st
 
-allowed-after : {A B : Type 0} (b : Bool) (a : ℕ) (st : Store) (x : Now A) (f : A → Store → Now B) → after (allowed b a st x) f ≡ allowed b a st (after x f)
+allowed-after : {A B : Type 0} (b : Bool) (a : ℕ) (st : Store) (x : Now A) (f : A → Store → Now B) → andThen (allowed b a st x) f ≡ allowed b a st (andThen x f)
 allowed-after true a st x f = refl
 allowed-after false a st x f = refl
 
-pub exec-bind : {A B : Type 0} (map : List ℕ) (w : Work A) (f : A → Work B) (st : Store) → exec map (w >>= f) st ≡ after (exec map w st) (λ x t. exec map (f x) t)
+exec-bind : {A B : Type 0} (map : List ℕ) (w : Work A) (f : A → Work B) (st : Store) → exec map (w >>= f) st ≡ andThen (exec map w st) (λ x t. exec map (f x) t)
 unfolding exec _>>=_
 exec-bind map (give x) f st = refl
 exec-bind map (readAt z a k) f st = rw (exec-bind map (k (get z (st .image) a)) f st, allowed-after)
@@ -59,12 +59,12 @@ module _ {map : List ℕ} where
   -- work that came to a value, and then the work that follows it
   pub got-then : {A B : Type 0} {w : Work A} (f : A → Work B) {st st₁ : Store} {x : A} {r₁ : Now A} {r : Now B}
       → Got map w st r₁ → r₁ ≡ good x st₁ → Got map (f x) st₁ r → Got map (w >>= f) st r
-  got-then {w = w} f {st} d e u = record { came = u .came ∙ sym (exec-bind map w f st ∙ ap (λ c. after c (λ x t. exec map (f x) t)) (sym (d .came) ∙ e)) }
+  got-then {w = w} f {st} d e u = record { came = u .came ∙ sym (exec-bind map w f st ∙ ap (λ c. andThen c (λ x t. exec map (f x) t)) (sym (d .came) ∙ e)) }
 
   -- work that came to nothing ends there, with the address that was reached
   pub got-gone : {A B : Type 0} {w : Work A} (f : A → Work B) {a : ℕ} {st st₁ : Store} {r₁ : Now A} {r : Now B}
       → Got map w st r₁ → r₁ ≡ gone a st₁ → r ≡ gone a st₁ → Got map (w >>= f) st r
-  got-gone {w = w} f {st = st} d e u = record { came = u ∙ sym (exec-bind map w f st ∙ ap (λ c. after c (λ x t. exec map (f x) t)) (sym (d .came) ∙ e)) }
+  got-gone {w = w} f {st = st} d e u = record { came = u ∙ sym (exec-bind map w f st ∙ ap (λ c. andThen c (λ x t. exec map (f x) t)) (sym (d .came) ∙ e)) }
 
   -- the same in other words
   pub got-as : {A : Type 0} {w : Work A} {st : Store} {x r : Now A} → Got map w st x → r ≡ x → Got map w st r
@@ -124,7 +124,7 @@ unfolding withWord withByte
 size-put word m a v = simp length-set
 size-put byte m a v = simp length-set
 
-pub size-note : (l : List ℕ) (a v : ℕ) → length (note l a v) ≡ length l
+size-note : (l : List ℕ) (a v : ℕ) → length (note l a v) ≡ length l
 unfolding note
 size-note l a v = simp length-set
 
@@ -141,15 +141,15 @@ board-noted z a v st e b =
     let f = room-few (st .log) e in
     record {
       lent = record { pages = b .lent .pages; size = size-put z (st .image) a v ∙ b .lent .size; bytes = bytes-put z (st .image) a v (b .lent .bytes) };
-      whole = size-note (st .log) a (wordAt (st .image) a) ∙ b .whole;
-      few = rw (count-note (st .log) a (wordAt (st .image) a) (b .whole)) (omega arith);
+      whole = size-note (st .log) a (imageWord (st .image) a) ∙ b .whole;
+      few = rw (count-note (st .log) a (imageWord (st .image) a) (b .whole)) (omega arith);
     }
 
-allowed-board : {A : Type 0} {map : List ℕ} (b : Bool) (a : ℕ) (st : Store) (x : Now A) → Board map st → (b ≡ true → Board map (stateOf x)) → Board map (stateOf (allowed b a st x))
+allowed-board : {A : Type 0} {map : List ℕ} (b : Bool) (a : ℕ) (st : Store) (x : Now A) → Board map st → (b ≡ true → Board map (storeOf x)) → Board map (storeOf (allowed b a st x))
 allowed-board true a st x h g = g refl
 allowed-board false a st x h g = h
 
-pub exec-board : {A : Type 0} (map : List ℕ) (w : Work A) (st : Store) → Board map st → Board map (stateOf (exec map w st))
+pub exec-board : {A : Type 0} (map : List ℕ) (w : Work A) (st : Store) → Board map st → Board map (storeOf (exec map w st))
 unfolding exec
 exec-board map (give x) st b = b
 exec-board map (readAt z a k) st b = allowed-board (fitted map a) a st _ b (λ _. exec-board map (k (get z (st .image) a)) st b)
@@ -157,8 +157,8 @@ exec-board map (writeAt z a v w) st b =
     allowed-board (writable map a) a st _ b (λ _. allowed-board (logRoom (st .log)) a st _ b (λ e. exec-board map w (withNote z a v st) (board-noted z a v st e b)))
 
 -- what a function that writes promises follows from what it got
-pub did : {A : Type 0} {map : List ℕ} {w : Work A} {st st′ : Store} {r : Now A} → stateOf r ≡ st′ → Board map st → Got map w st r → Did map w st r st′
-did {map = map} {w = w} {st = st} e b g = record { got = g; board = subst (λ (t : Store). Board map t) (ap stateOf (sym (g .came)) ∙ e) (exec-board map w st b) }
+pub did : {A : Type 0} {map : List ℕ} {w : Work A} {st st′ : Store} {r : Now A} → storeOf r ≡ st′ → Board map st → Got map w st r → Did map w st r st′
+did {map = map} {w = w} {st = st} e b g = record { got = g; board = subst (λ (t : Store). Board map t) (ap storeOf (sym (g .came)) ∙ e) (exec-board map w st b) }
 
 -- what an answer says, for the laws above
 pub word-is : {r : Word} {v : ℕ} {st : Store} → r ≡ Value v → wordAs r st ≡ good v st
@@ -173,8 +173,8 @@ byte-is {st = st} e = ap (λ z. byteAs z st) e
 pub byte-none : {r : Byte} {a : ℕ} {st : Store} → r ≡ Byte.Blank a → byteAs r st ≡ gone a st
 byte-none {st = st} e = ap (λ z. byteAs z st) e
 
-pub kept-is : {r : Kept} {st : Store} → r ≡ Kept.Done → keptAs r st ≡ good tt st
-kept-is {st = st} e = ap (λ z. keptAs z st) e
+pub kept-is : {r : Stored} {st : Store} → r ≡ Stored.Done → storedAs r st ≡ good tt st
+kept-is {st = st} e = ap (λ z. storedAs z st) e
 
-pub kept-none : {r : Kept} {a : ℕ} {st : Store} → r ≡ Kept.Blank a → keptAs r st ≡ gone a st
-kept-none {st = st} e = ap (λ z. keptAs z st) e
+pub kept-none : {r : Stored} {a : ℕ} {st : Store} → r ≡ Stored.Blank a → storedAs r st ≡ gone a st
+kept-none {st = st} e = ap (λ z. storedAs z st) e

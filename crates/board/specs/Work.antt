@@ -24,7 +24,7 @@ pub data Came (A : Type 0) : Type 0 where
   blank : ℕ → Came A
 
 -- The map's byte for the page of an address: 0 unfitted, 1 fitted, 2 fitted and read-only.
-abbrev pub pageOf : List ℕ → ℕ → ℕ
+abbrev pageOf : List ℕ → ℕ → ℕ
 pageOf map a = getD map (a / 256) 0
 
 -- A read asks this: the page is 1 or 2. (A map byte over 2 is refused.)
@@ -39,9 +39,9 @@ writable map a = eqb (pageOf map a) 1
 unfoldable pub even : ℕ → ℕ
 even a = a / 2 * 2
 
-unfoldable pub wordAt : List ℕ → ℕ → ℕ
+unfoldable pub imageWord : List ℕ → ℕ → ℕ
 unfolding even
-wordAt m a = Words.wordAt m (even a)
+imageWord m a = Words.wordAt m (even a)
 
 unfoldable pub withWord : List ℕ → ℕ → ℕ → List ℕ
 unfolding even
@@ -51,7 +51,7 @@ unfoldable pub withByte : List ℕ → ℕ → ℕ → List ℕ
 withByte m a v = set m a (v % 256)
 
 abbrev pub get : Size → List ℕ → ℕ → ℕ
-get word m a = wordAt m a
+get word m a = imageWord m a
 get byte m a = getD m a 0
 
 abbrev pub put : Size → List ℕ → ℕ → ℕ → List ℕ

@@ -5,9 +5,9 @@ ghost use mathlib.Core.Path.{_≡_};
 ghost use Prim.Native.Nat.{_+_, _*_, _≤_, _<_, _%_, _/_};
 ghost use lib.ListN.{length, getD, set};
 ghost use Rattle.board.specs.Work as Work;
-ghost use Rattle.board.specs.Work.{wordAt, withWord};
+ghost use Rattle.board.specs.Work.{imageWord, withWord};
 ghost use Rattle.board.specs.Exec as Exec;
-ghost use Rattle.board.specs.Exec.{and, beside, logCount, Lent, Board, Saw, Did, wordAs, byteAs, keptAs, undone};
+ghost use Rattle.board.specs.Exec.{and, beside, logCount, Lent, Board, Saw, Did, wordAs, byteAs, storedAs, undone};
 
 // What a read answers: the value, or the address where nothing is fitted.
 pub enum Word {
@@ -22,7 +22,7 @@ pub enum Byte {
 }
 
 // What a write answers.
-pub enum Kept {
+pub enum Stored {
     Done,
     Blank(u16),
 }
@@ -54,7 +54,7 @@ fn writable(map: &[u8], a: u16) -> bool
 // The word at an address.
 fn word_at(image: &[u8], a: u16) -> u16
     requires { ⌜ length (now image) ≡ 65536 ⌝ }
-    ensures { λ r. ⌜ r ≡ wordAt (now (image .entry)) a ⌝ }
+    ensures { λ r. ⌜ r ≡ imageWord (now (image .entry)) a ⌝ }
 {
     let at = (a / 2 * 2) as usize;
     wide(image[at]) + wide(image[at + 1]) * 256
@@ -96,7 +96,7 @@ pub fn load_byte(image: &[u8], map: &[u8], a: u16) -> Byte
 // Notes the word at an address in the log.
 fn note(image: &[u8], log: &mut [u16; 32], a: u16)
     requires { ⌜ (length (now image) ≡ 65536) × (logCount (now log) < 15) ⌝ }
-    ensures { λ _. ⌜ now (log .exit) ≡ Exec.note (now (log .entry)) a (wordAt (now (image .entry)) a) ⌝ }
+    ensures { λ _. ⌜ now (log .exit) ≡ Exec.note (now (log .entry)) a (imageWord (now (image .entry)) a) ⌝ }
 {
     let n = log[0];
     let k = (n as usize) * 2;
@@ -113,30 +113,30 @@ fn may_write(map: &[u8], log: &[u16; 32], a: u16) -> bool
     writable(map, a) && log[0] < 15
 }
 
-pub fn store(image: &mut [u8], map: &[u8], log: &mut [u16; 32], a: u16, v: u16) -> Kept
+pub fn store(image: &mut [u8], map: &[u8], log: &mut [u16; 32], a: u16, v: u16) -> Stored
     requires { ⌜ Board (now map) (beside (now image) (now log)) ⌝ }
-    ensures { λ r. ⌜ Did (now (map .entry)) (Work.store a v) (beside (now (image .entry)) (now (log .entry))) (keptAs r (beside (now (image .exit)) (now (log .exit)))) (beside (now (image .exit)) (now (log .exit))) ⌝ }
+    ensures { λ r. ⌜ Did (now (map .entry)) (Work.store a v) (beside (now (image .entry)) (now (log .entry))) (storedAs r (beside (now (image .exit)) (now (log .exit)))) (beside (now (image .exit)) (now (log .exit))) ⌝ }
 {
     if may_write(map, log, a) {
         note(image, log, a);
         put_word(image, a, v);
-        Kept::Done
+        Stored::Done
     } else {
-        Kept::Blank(a)
+        Stored::Blank(a)
     }
 }
 
-pub fn store_byte(image: &mut [u8], map: &[u8], log: &mut [u16; 32], a: u16, v: u16) -> Kept
+pub fn store_byte(image: &mut [u8], map: &[u8], log: &mut [u16; 32], a: u16, v: u16) -> Stored
     requires { ⌜ Board (now map) (beside (now image) (now log)) ⌝ }
-    ensures { λ r. ⌜ Did (now (map .entry)) (Work.storeByte a v) (beside (now (image .entry)) (now (log .entry))) (keptAs r (beside (now (image .exit)) (now (log .exit)))) (beside (now (image .exit)) (now (log .exit))) ⌝ }
+    ensures { λ r. ⌜ Did (now (map .entry)) (Work.storeByte a v) (beside (now (image .entry)) (now (log .entry))) (storedAs r (beside (now (image .exit)) (now (log .exit)))) (beside (now (image .exit)) (now (log .exit))) ⌝ }
 {
     if may_write(map, log, a) {
         note(image, log, a);
         let at = a as usize;
         image[at] = low(v);
-        Kept::Done
+        Stored::Done
     } else {
-        Kept::Blank(a)
+        Stored::Blank(a)
     }
 }
 

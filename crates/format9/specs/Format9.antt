@@ -25,14 +25,14 @@ abbrev pub illegal : Outside → State → Work State
 illegal out s = trapNow out s 0x1c
 
 -- JSR at an address: ↓ SP, @SP ← REG; REG ← PC; PC ← DST
-unfoldable pub call : State → ℕ → ℕ → Work State
-call s r a = do
+unfoldable pub jsrAt : State → ℕ → ℕ → Work State
+jsrAt s r a = do
   s ← pushReg s r
   give (withPc (withReg s r (s .regs .pc)) a)
 
 unfoldable pub jsrTo : Outside → State → ℕ → Place → Work State
 jsrTo out s r Reg = illegal out s
-jsrTo out s r (Mem a which v) = call s r a
+jsrTo out s r (Mem a which v) = jsrAt s r a
 
 -- JSR
 unfoldable pub jsr : Outside → State → ℕ → Work State

@@ -25,9 +25,9 @@ ghost use Prim.Native.Nat.{_%_};
 ghost use Rattle.format9.specs.Format9 as Spec;
 
 // JSR at an address: ↓ SP, @SP ← REG; REG ← PC; PC ← DST.
-fn call(s: State, image: &mut [u8], map: &[u8], log: &mut [u16; 32], k: u16, a: u16) -> Went
+fn jsr_at(s: State, image: &mut [u8], map: &[u8], log: &mut [u16; 32], k: u16, a: u16) -> Went
     requires { ⌜ Board (now map) (beside (now image) (now log)) ⌝ }
-    ensures { λ r. ⌜ Works (now (map .entry)) (Spec.call s k a) (now (image .entry)) (now (log .entry)) r (now (image .exit)) (now (log .exit)) ⌝ }
+    ensures { λ r. ⌜ Works (now (map .entry)) (Spec.jsrAt s k a) (now (image .entry)) (now (log .entry)) r (now (image .exit)) (now (log .exit)) ⌝ }
 {
     let went = s.push_reg(image, map, log, k);
     let Went::Done(t) = went else {
@@ -55,7 +55,7 @@ fn jsr_to(
             let m = map;
             state::apart(t.trap_now(image, m, log, o, 0x1c))
         }
-        Place::Mem(a, _, _) => call(s, image, map, log, k, a),
+        Place::Mem(a, _, _) => jsr_at(s, image, map, log, k, a),
     }
 }
 

@@ -9,8 +9,8 @@ use Rattle.wordbytes.specs.Words.{byteAt, wordAt}
 use Rattle.refusal.specs.Numbers.{imageLength, mapLength, linesLength, jobEnds, manyPages, pageNotRising, manyWords, addressOdd, addressNotRising, addressUnfitted, manyLines, jobLineBit, bytesLeft, readOnlyPage}
 use Rattle.refusal.specs.Page.{Page, refused, answered, Left, left, call, first}
 use Rattle.refusal.specs.Refusal.{plain}
-use Rattle.job.specs.declared.Answer.{Answer}
-use Rattle.job.specs.declared.Answer.the-variants.{Lines, Refused}
+use Rattle.job.specs.declared.JobRead.{JobRead}
+use Rattle.job.specs.declared.JobRead.the-variants.{Lines, Refused}
 use Rattle.job.specs.declared.Section.{Section}
 use Rattle.job.specs.declared.Section.the-variants as section
 
@@ -182,7 +182,7 @@ pub record Filled (input image map lines : List ℕ) (count : ℕ) : Type 0 wher
   pub count-is : count ≡ wordAt input (linesAt input)
 
 -- an answer in 01's numbers: the number of line words, or the refusal's number alone
-abbrev pub jobPage : Answer → Page ℕ
+abbrev pub jobPage : JobRead → Page ℕ
 jobPage (Lines n) = answered n
 jobPage (Refused why) = refused why
 

@@ -10,7 +10,7 @@ ghost use Rattle.job.specs.Job.{sections, entrySize, mostOf, overOf, key
 ghost use Rattle.refusal.specs.Page.{left};
 
 // What the job reader answers: how many line words there are, or why the job is refused.
-pub enum Answer {
+pub enum JobRead {
     Lines(u16),
     Refused(u8),
 }
@@ -378,13 +378,13 @@ pub fn refusal(image: usize, map: usize, lines: usize, input: &[u8]) -> u8
 }
 
 // Reads a job into the lent buffers: the answer is the number of line words, or the first refusal, which changes no buffer.
-pub fn read_job(input: &[u8], image: &mut [u8], map: &mut [u8], lines: &mut [u16]) -> Answer
+pub fn read_job(input: &[u8], image: &mut [u8], map: &mut [u8], lines: &mut [u16]) -> JobRead
     ensures { λ r. ⌜ left (jobPage r) (now (image .exit), now (map .exit), now (lines .exit))
         ≡ jobOf (now (input .entry)) (now (image .entry)) (now (map .entry)) (now (lines .entry)) ⌝ }
 {
     let why = refusal(image.len(), map.len(), lines.len(), input);
     if why != 0 {
-        return Answer::Refused(why);
+        return JobRead::Refused(why);
     }
-    Answer::Lines(fill(input, image, map, lines))
+    JobRead::Lines(fill(input, image, map, lines))
 }

@@ -5,7 +5,7 @@ use mathlib.Core.Bool.{Bool, true, false, not, _&&_, _||_, cond}
 use mathlib.Core.List.{List, [], _∷_}
 use mathlib.Core.Path.{_≡_}
 use lib.Dec.{eqb}
-use Rattle.board.specs.Work.{wordAt}
+use Rattle.board.specs.Work.{imageWord}
 use Rattle.wordmath.specs.Number.{bit}
 use Rattle.state.specs.declared.State.{State}
 use Rattle.state.specs.declared.Settings.{Settings}
@@ -30,7 +30,7 @@ enables op = eqb op 0x2 || eqb op 0xb
 
 -- The op code that a running processor's step executes: the one at PC; where that is XCT, 0005, the one at the PC that XCT pops.
 abbrev pub executed : State → List ℕ → ℕ
-executed s m = cond (eqb (wordAt m (s .regs .pc)) 0x5) (wordAt m (wordAt m (s .regs .sp))) (wordAt m (s .regs .pc))
+executed s m = cond (eqb (imageWord m (s .regs .pc)) 0x5) (imageWord m (imageWord m (s .regs .sp))) (imageWord m (s .regs .pc))
 
 abbrev pub isRunning : Mode → Bool
 isRunning mode = eqb (modeNumber mode) 0

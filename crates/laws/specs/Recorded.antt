@@ -18,7 +18,7 @@ use Rattle.plugs.specs.declared.Plug.{Plug}
 use Rattle.plugs.specs.Report.{readingsOf, blanksOf, reportOf, columnOf, readingCount, Spans}
 use Rattle.plugs.specs.Sum.{SumIs}
 use Rattle.recorder.specs.declared.Recorder.{Recorder}
-use Rattle.recorder.specs.declared.Answer.the-variants as Answer
+use Rattle.recorder.specs.declared.ScanEnd.the-variants as ScanEnd
 use Rattle.recorder.specs.declared.Reported.{Reported}
 use Rattle.recorder.specs.declared.Reported.the-variants as Reported
 use Rattle.recorder.specs.Scan.{newRecorder, answerPage, plugPage, reportedPage, scanOf, reportPage}
@@ -38,12 +38,12 @@ pub data Recorded : Recorder → List (List Channel) → Type 0 where
   -- a scan that was done: the recorder that it answers
   done : {r : Recorder} {scans : List (List Channel)} → Recorded r scans
       → (s : State) (channels : List Channel) (m map : List ℕ) (settings : Settings) (lines : List ℕ) (t : Tally) (r′ : Recorder) (m′ : List ℕ) → length channels ≡ 16
-      → left (answerPage (Answer.Done t)) (r′, m′) ≡ scanOf (inState s r) channels m map settings lines
+      → left (answerPage (ScanEnd.Done t)) (r′, m′) ≡ scanOf (inState s r) channels m map settings lines
       → Recorded r′ (scans ++ (channels ∷ []))
   -- one that was refused
   turnedAway : {r : Recorder} {scans : List (List Channel)} → Recorded r scans
       → (s : State) (channels : List Channel) (m map : List ℕ) (settings : Settings) (lines : List ℕ) (why : ℕ) (r′ : Recorder) (m′ : List ℕ)
-      → left (answerPage (Answer.Refused why)) (r′, m′) ≡ scanOf (inState s r) channels m map settings lines
+      → left (answerPage (ScanEnd.Refused why)) (r′, m′) ≡ scanOf (inState s r) channels m map settings lines
       → Recorded r′ scans
 
 -- ---- the report of a channel, by what it was in each scan

@@ -5,7 +5,7 @@ use super::Stop;
 use super::Tally;
 use super::Until;
 use super::door;
-use super::runs::noted;
+use super::runs::blank_noted;
 use state::Mode;
 use state::Settings;
 use state::State;
@@ -80,7 +80,7 @@ fn stride(
     let cause = turn.cause;
     Stage {
         state,
-        tally: noted(tally, at as u16, blank_at(cause)),
+        tally: blank_noted(tally, at as u16, blank_at(cause)),
         cause,
         at: at + 1,
     }

@@ -29,8 +29,8 @@ pub fn unheld(held: Held) -> Went
     }
 }
 
-fn nowhere(found: Found) -> Held
-    ensures { λ r. ⌜ r ≡ Spec.nowhere found ⌝ }
+fn unlocated(found: Found) -> Held
+    ensures { λ r. ⌜ r ≡ Spec.unlocated found ⌝ }
 {
     match found {
         Found::At(_) => Held::Blank(0),
@@ -39,8 +39,8 @@ fn nowhere(found: Found) -> Held
 }
 
 // An operand that was not answered when it was read: nothing is fitted at its address.
-fn absent(place: Place) -> Held
-    ensures { λ r. ⌜ r ≡ Spec.absent place ⌝ }
+fn unreadable(place: Place) -> Held
+    ensures { λ r. ⌜ r ≡ Spec.unreadable place ⌝ }
 {
     match place {
         Place::Reg => Held::Blank(0),
@@ -57,11 +57,11 @@ pub fn destination_word(s: State, image: &[u8], map: &[u8], op: u16) -> Held
     let mode = destination_mode(op);
     let found = locate(image, map, 2, k, s.reg(k), s.regs.pc, mode);
     let Found::At(to) = found else {
-        return nowhere(found);
+        return unlocated(found);
     };
     let t = moved(s, to);
     let Word::Value(v) = read_word(image, map, to, t.reg(k)) else {
-        return absent(to);
+        return unreadable(to);
     };
     Held::At(t, to, v)
 }
@@ -75,11 +75,11 @@ pub fn destination_byte(s: State, image: &[u8], map: &[u8], op: u16) -> Held
     let mode = destination_mode(op);
     let found = locate(image, map, byte_step(k), k, s.reg(k), s.regs.pc, mode);
     let Found::At(to) = found else {
-        return nowhere(found);
+        return unlocated(found);
     };
     let t = moved(s, to);
     let Byte::Value(v) = read_byte(image, map, to, t.reg(k)) else {
-        return absent(to);
+        return unreadable(to);
     };
     Held::At(t, to, v as u16)
 }

@@ -1,6 +1,6 @@
 // Operands: the eight addressing modes, and reading and writing what they point to.
 use board::Byte;
-use board::Kept;
+use board::Stored;
 use board::Word;
 use state::State;
 use state::Went;
@@ -190,7 +190,7 @@ pub fn write_word(
     match place {
         Place::Reg => Went::Done(s.with_reg(k, v)),
         Place::Mem(a, _, _) => {
-            let Kept::Done = board::store(image, map, log, a, v) else {
+            let Stored::Done = board::store(image, map, log, a, v) else {
                 return Went::Blank(a);
             };
             Went::Done(s)
@@ -214,7 +214,7 @@ pub fn write_byte(
     match place {
         Place::Reg => Went::Done(s.with_reg(k, arith::on_bytes::with_low(s.reg(k), low(v)))),
         Place::Mem(a, _, _) => {
-            let Kept::Done = board::store_byte(image, map, log, a, v) else {
+            let Stored::Done = board::store_byte(image, map, log, a, v) else {
                 return Went::Blank(a);
             };
             Went::Done(s)

@@ -8,8 +8,8 @@ use lib.ListN.{length, take, getD}
 use Rattle.wordbytes.specs.Words.{wordAt, byteAt}
 use Rattle.benchline.specs.Line.{dashes}
 use Rattle.optext.specs.Line.{wordText, textOf}
-use Rattle.listing.specs.declared.Found.{Found}
-use Rattle.listing.specs.declared.Found.the-variants.{Nothing, Cut, Whole}
+use Rattle.listing.specs.declared.CodeFound.{CodeFound}
+use Rattle.listing.specs.declared.CodeFound.the-variants.{Nothing, Cut, Whole}
 use Rattle.listing.specs.Listing.{stands, wordsAt, foundAt, line, nextAt, listingOf}
 use Rattle.assembler.specs.Section.{sectionEntry, sectionOf}
 use Rattle.patchlaws.specs.Pieces.{Piece, pieceLines}
@@ -23,7 +23,7 @@ use Rattle.patchlaws.specs.Padded.{sourceOf}
 abbrev pub piece : ℕ → List ℕ → List ℕ → Piece
 piece a ws t = record { at = a; words = ws; text = t }
 
-unfoldable pub shownBy : ℕ → List ℕ → Found → List Piece
+unfoldable pub shownBy : ℕ → List ℕ → CodeFound → List Piece
 shownBy a ws Nothing = []
 shownBy a ws Cut = piece a (take 1 ws) (wordText (getD ws 0 0)) ∷ []
 shownBy a ws (Whole n) = piece a (take n ws) (textOf (take n ws)) ∷ []

@@ -31,11 +31,11 @@ unfoldable pub linesRefusal : List ℕ → ℕ
 linesRefusal lines = first (cond (leb (length lines) 4096) 0 linesLength) (cond (allOf plain lines) 0 lineBit)
 
 -- the jumpers of the power-up option, those of the halt option, the address register
-abbrev pub setUp : ℕ → ℕ → ℕ → Bool
-setUp p h r = ltb p 4 && ltb h 4 && ltb r 64
+abbrev pub jumpersFit : ℕ → ℕ → ℕ → Bool
+jumpersFit p h r = ltb p 4 && ltb h 4 && ltb r 64
 
 unfoldable pub powerRefusal : ℕ → List ℕ → ℕ → ℕ → ℕ → ℕ
-powerRefusal size map p h r = first (boardRefusal size map) (cond (setUp p h r) 0 setup)
+powerRefusal size map p h r = first (boardRefusal size map) (cond (jumpersFit p h r) 0 setup)
 
 unfoldable pub stepRefusal : ℕ → List ℕ → ℕ → ℕ → ℕ → ℕ → ℕ
 stepRefusal size map p h r line = first (powerRefusal size map p h r) (cond (plain line) 0 lineBit)

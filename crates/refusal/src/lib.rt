@@ -103,8 +103,8 @@ fn lines_refusal(lines: &[u16]) -> u8
 }
 
 // The jumpers of the power-up option, those of the halt option, the address register.
-fn set_up(p: u8, h: u8, r: u8) -> bool
-    ensures { λ b. ⌜ b ≡ Spec.setUp p h r ⌝ }
+fn jumpers_fit(p: u8, h: u8, r: u8) -> bool
+    ensures { λ b. ⌜ b ≡ Spec.jumpersFit p h r ⌝ }
 {
     (p < 4) & (h < 4) & (r < 64)
 }
@@ -117,7 +117,11 @@ pub fn power_refusal(size: usize, map: &[u8], p: u8, h: u8, r: u8) -> u8
     if why != 0 {
         return why;
     }
-    if set_up(p, h, r) { 0 } else { number::SETUP }
+    if jumpers_fit(p, h, r) {
+        0
+    } else {
+        number::SETUP
+    }
 }
 
 pub fn step_refusal(size: usize, map: &[u8], p: u8, h: u8, r: u8, line: u16) -> u8

@@ -17,15 +17,15 @@ use Rattle.state.specs.State.{withPc, withMode, psOf, cleared, heard}
 use Rattle.wordmath.specs.Address.{plus, twice}
 use Rattle.state.specs.Stack.{fromLoc, tabled, trap, trapNow}
 use Rattle.step.specs.Xct.{opWork}
-use Rattle.step.specs.Places.{save, restore}
+use Rattle.step.specs.Places.{savePlaces, restorePlaces}
 use Rattle.step.specs.declared.Turn.{Turn}
 use Rattle.step.specs.declared.Kind.{Kind}
 use Rattle.step.specs.declared.Kind.the-variants.{OpCode, HaltEnd, Boots, Saves, LocksUp, Restarts, Restores, NonVectored, Vectored, Waits, Stuck}
 use Rattle.step.specs.declared.Cause.{Cause}
 use Rattle.step.specs.declared.Cause.the-variants as Cause
 use Rattle.step.specs.declared.Cause.the-variants.{OpCodeBlank, InterruptBlank, SaveBlank, LockedAt}
-use Rattle.step.specs.declared.Told.{Told}
-use Rattle.step.specs.declared.Told.the-variants.{Nowhere, At}
+use Rattle.step.specs.declared.Reached.{Reached}
+use Rattle.step.specs.declared.Reached.the-variants.{Nowhere, At}
 
 -- ---- the options that the jumpers select
 
@@ -88,10 +88,10 @@ unfoldable pub workOf : Kind → Outside → State → Work State
 workOf OpCode out s = opWork out s
 workOf HaltEnd out s = restart s
 workOf Boots out s = give (bootstrap (out .settings) s)
-workOf Saves out s = save out s
+workOf Saves out s = savePlaces out s
 workOf LocksUp out s = give (withMode s Locked)
 workOf Restarts out s = restart s
-workOf Restores out s = restore s
+workOf Restores out s = restorePlaces s
 workOf NonVectored out s = nonVectored out s
 workOf Vectored out s = vectored out s
 workOf Waits out s = give s
@@ -102,10 +102,10 @@ workOf Stuck out s = give s
 -- of a cause: 01's number; the address that a step tells, which is that of a blank or of a lock-up newly met; and that of a blank alone, after which the bus error's trap succeeded
 pub record CauseRow : Type 0 where
   pub number : ℕ
-  pub address : Told
-  pub blank : Told
+  pub address : Reached
+  pub blank : Reached
 
-abbrev pub causeRow : ℕ → Told → Told → CauseRow
+abbrev causeRow : ℕ → Reached → Reached → CauseRow
 causeRow n a b = record { number = n; address = a; blank = b }
 
 -- 7 is given to none
@@ -124,13 +124,13 @@ ofCause Cause.Locked = causeRow 8 Nowhere Nowhere  -- locked before, or by the o
 abbrev pub causeNumber : Cause → ℕ
 causeNumber cause = ofCause cause .number
 
-abbrev pub causeAddress : Cause → Told
+abbrev pub causeAddress : Cause → Reached
 causeAddress cause = ofCause cause .address
 
-abbrev pub blankAt : Cause → Told
+abbrev pub blankAt : Cause → Reached
 blankAt cause = ofCause cause .blank
 
-abbrev pub isTold : Told → Bool
+abbrev pub isTold : Reached → Bool
 isTold Nowhere = false
 isTold (At a) = true
 
@@ -143,7 +143,7 @@ pub record KindRow : Type 0 where
   pub error : ℕ → Cause
   pub code : Bool
 
-abbrev pub kindRow : Cause → (ℕ → Cause) → Bool → KindRow
+abbrev kindRow : Cause → (ℕ → Cause) → Bool → KindRow
 kindRow cause error code = record { cause = cause; error = error; code = code }
 
 -- a halt option is 1, and so is the end of a save; the end of a halt on power fail is 0; the lock-up option locks.
@@ -229,12 +229,12 @@ powerUpOf settings map m = orLocked (run map (workOf (powerUpOption settings) (h
 abbrev pub turnOf : Turn → List ℕ → After
 turnOf r m = after (r .state) m (r .cause)
 
-pub record Stepped (map : List ℕ) (a : After) (r : Turn) (st : Store) : Type 0 where
+pub record DidStep (map : List ℕ) (a : After) (r : Turn) (st : Store) : Type 0 where
   pub turn : turnOf r (st .image) ≡ a
   pub board : Board map st
 
 -- and a power-up
-pub record Powered (map : List ℕ) (u : Up) (s : State) (m : List ℕ) : Type 0 where
+pub record DidPowerUp (map : List ℕ) (u : Up) (s : State) (m : List ℕ) : Type 0 where
   pub came : up s m ≡ u
   pub lent : Lent map m
 

@@ -1,7 +1,7 @@
 // Reads a board and a job on standard input, powers up, and steps over the job's line words: a line for each step; a refused job is its
 // line alone. The board is its four settings as for C, a byte each. Where the answer could not be written standard error says so.
 use benchline::Printed;
-use job::Answer;
+use job::JobRead;
 use libc::STDERR_FILENO;
 use libc::STDIN_FILENO;
 use libc::STDOUT_FILENO;
@@ -78,8 +78,8 @@ fn step_job(input: &[u8], board: Settings) -> bool {
     let mut map = [0u8; 256];
     let mut lines = [0u16; 4096];
     match job::read_job(input, &mut image, &mut map, &mut lines) {
-        Answer::Refused(why) => put_refused(why),
-        Answer::Lines(count) => step_first(&mut image, &map, board, &lines, count),
+        JobRead::Refused(why) => put_refused(why),
+        JobRead::Lines(count) => step_first(&mut image, &map, board, &lines, count),
     }
 }
 

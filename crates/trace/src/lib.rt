@@ -94,7 +94,7 @@ fn or_else(found: Verdict, later: Verdict) -> Verdict
 // The first wrong field of the entry at a place of the trace.
 fn entry_verdict(step: u16, entry: [u16; 10], trace: &[u8], at: usize) -> Verdict
     requires { ⌜ (at < 4294967296) × (length entry ≡ 10) ⌝ }
-    ensures { λ r. ⌜ r ≡ Spec.firstWrong step 0 entry (Spec.wordsFrom (now (trace .entry)) at 10) ⌝ }
+    ensures { λ r. ⌜ r ≡ Spec.firstWrong step 0 entry (Spec.fieldsFrom (now (trace .entry)) at 10) ⌝ }
 {
     let mut field: usize = 0;
     while field < 10 {

@@ -19,7 +19,7 @@ use Rattle.board.proofs.Laws.Alike.{unfitted-unwritable}
 use Rattle.state.specs.declared.State.{State}
 use Rattle.operand.specs.declared.Place.{Place}
 use Rattle.operand.specs.declared.Place.the-variants.{Reg, Mem}
-use Rattle.operand.specs.Operand.{decode, seen, readOf, writeTo}
+use Rattle.operand.specs.Operand.{decode, decodedTo, readOf, writeTo}
 use Rattle.operand.proofs.Laws.Operand.{not-left}
 use Rattle.operand.specs.Destination.{Holding, holding, operandOf}
 use Rattle.format10.specs.Format10.{binaryNumber, binaryCode, byteCode, moveByte}
@@ -32,7 +32,7 @@ unwritten map z s k a which w v e = sym (not-left z s k a which w v (got-lost z 
 module _ {map : List ℕ} {st : Store} (z : Size) (s : State) (mode k : ℕ) (F : Holding → Work State) (W : Work State) (u : State) (v : ℕ) where
   -- the work after the operand is read is W, whatever was read; and where the operand is in memory W writes there
   pub placed : {t : State} (p : Place) {r : Now State}
-      → Got map (decode z s mode k) st (good (seen t k p) st)
+      → Got map (decode z s mode k) st (good (decodedTo t k p) st)
       → ((y : ℕ) → F (holding t p y) ≡ W)
       → ((a which w : ℕ) → p ≡ Mem a which w → W ≡ writeTo z u k (Mem a which w) v)
       → Got map W st r

@@ -13,10 +13,10 @@ use Rattle.state.proofs.Laws.Bounds.{bounded-pushReg, bounded-trap}
 use Rattle.operand.specs.declared.Place.{Place}
 use Rattle.operand.specs.declared.Place.the-variants.{Reg, Mem}
 use Rattle.operand.proofs.Laws.Bounds.{bounded-operand, bounded-decode, bounded-write}
-use Rattle.format9.specs.Format9.{call, jsrTo, jsr, leaTo, lea, ash, xch, ashc, mul, div, format9}
+use Rattle.format9.specs.Format9.{jsrAt, jsrTo, jsr, leaTo, lea, ash, xch, ashc, mul, div, format9}
 
 bounded-jsrTo : (out : Outside) (s : State) (r : ℕ) (p : Place) → Bounded 2 (jsrTo out s r p)
-unfolding jsrTo call
+unfolding jsrTo jsrAt
 bounded-jsrTo out s r Reg = bounded-trap s _ _
 bounded-jsrTo out s r (Mem a which v) = bounded-then {k = 0} (omega arith) (bounded-pushReg s r) (λ s. gives _)
 

@@ -16,8 +16,8 @@ apart-requires c κs = search needs
 enum-known-place : tie.Need-enum-known-place
 enum-known-place c = search needs
 
-call-requires : tie.Need-call-requires
-call-requires c κs = c .before .before .before .before .before .before .before .pre
+jsr-at-requires : tie.Need-jsr-at-requires
+jsr-at-requires c κs = c .before .before .before .before .before .before .before .pre
 
 same-length : tie.Need-same-length
 same-length c = c .before .before .before .trap-now .ensures .board .lent .size ∙ sym (c .before .before .before .before .before .before .before .before .before .before .pre .lent .size)
@@ -29,13 +29,13 @@ returns c =
     (record { got = c .before .before .before .trap-now .ensures .got; board = c .before .before .before .trap-now .ensures .board })
 
 same-length-2 : tie.Need-same-length-2
-same-length-2 c = c .before .before .call .ensures .board .lent .size ∙ sym (c .before .before .before .before .before .before .before .before .before .before .pre .lent .size)
+same-length-2 c = c .before .before .jsr-at .ensures .board .lent .size ∙ sym (c .before .before .before .before .before .before .before .before .before .before .pre .lent .size)
 
 returns-2 : tie.Need-returns-2
 unfolding jsrTo
 returns-2 c =
     rw (c .before .before .before .before .before .before .place .given .1)
-    (record { got = c .before .before .call .ensures .got; board = c .before .before .call .ensures .board })
+    (record { got = c .before .before .jsr-at .ensures .got; board = c .before .before .jsr-at .ensures .board })
 
 pub jsr-to-spec : {M : Type 1} → statement M
 jsr-to-spec =
@@ -45,7 +45,7 @@ jsr-to-spec =
     trap-now-requires
     apart-requires
     enum-known-place
-    call-requires
+    jsr-at-requires
     same-length
     returns
     same-length-2

@@ -11,7 +11,7 @@ use borrow.Author.Tests.{eq-eqb, le-leb, leb-true}
 use Rattle.wordbytes.specs.Words.{byteAt, wordAt}
 use Rattle.refusal.specs.Numbers.{imageLength, mapLength, linesLength, manyLines, jobLineBit}
 use Rattle.refusal.proofs.Laws.Page.{first-both}
-use Rattle.refusal.specs.Refusal.{allOf, flat, plain, boardRefusal, setUp, powerRefusal, linesRefusal, runRefusal}
+use Rattle.refusal.specs.Refusal.{allOf, flat, plain, boardRefusal, jumpersFit, powerRefusal, linesRefusal, runRefusal}
 use Rattle.job.specs.declared.Section.the-variants as section
 use Rattle.job.specs.Job.{sections, entrySize, cut, whyEntry, whyEntries, whyCount, whySections, whyJob, wordsStored, listed, marked, readOnlyAt, wordsSection, linesAt, imageOf, mapOf, linesOf, lineWords, whyRead}
 
@@ -123,7 +123,7 @@ module _ (input : List ℕ) where
       pages = marked 1 input (wordAt input 0) 2 (replicate 256 0)
 
   -- on a board that is set up right
-  pub job-taken : (p h r image map lines : ℕ) → setUp p h r ≡ true → whyRead image map lines input ≡ 0
+  pub job-taken : (p h r image map lines : ℕ) → jumpersFit p h r ≡ true → whyRead image map lines input ≡ 0
       → (wordAt input (linesAt input) ≤ length (linesOf input)) × (runRefusal (length (imageOf input)) (mapOf input) p h r (lineWords input) ≡ 0)
   unfolding whyRead powerRefusal runRefusal linesRefusal lineWords
   job-taken p h r image map lines right e =

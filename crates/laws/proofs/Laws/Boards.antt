@@ -22,7 +22,7 @@ use Rattle.machine.specs.declared.Finished.the-variants as Finished
 use Rattle.machine.specs.declared.Stopped.{Stopped}
 use Rattle.machine.specs.declared.Stopped.the-variants as Stopped
 use Rattle.machine.specs.declared.Until.{Until}
-use Rattle.machine.specs.Numbers.{RanPage, ranPage, turnPage, placePage}
+use Rattle.machine.specs.Numbers.{RanPage, ranPage, turnPage, firstPage}
 use Rattle.machine.specs.Run.{End, end, runOf, ranOf, lastCause}
 use Rattle.machine.specs.Trail.{trailOf}
 use Rattle.machine.specs.Entry.{powerWhy, stepWhy, runWhy, finishedPage, runEnd, runPage}

@@ -11,7 +11,7 @@ use borrow.Author.Tests.{not-true, eq-eqb, ne-eqb}
 use Rattle.wordmath.specs.Number.{bit}
 use Rattle.wordmath.specs.Address.{plus, minus}
 use Rattle.wordmath.specs.Status.{flagsOf}
-use Rattle.board.specs.Work.{Came, value, blank, fitted, wordAt, withWord, run, _>>=_}
+use Rattle.board.specs.Work.{Came, value, blank, fitted, imageWord, withWord, run, _>>=_}
 use Rattle.board.proofs.Laws.Alike.{found-value}
 use Rattle.state.specs.declared.State.{State}
 use Rattle.state.specs.declared.Outside.{Outside}
@@ -45,7 +45,7 @@ use Rattle.machine.proofs.Laws.Answered.{run-done}
 use Rattle.machine_c.specs.Layout.{stateFrom, settingsFrom}
 use Rattle.machine_c.proofs.Laws.Again.{state-again}
 use Rattle.machine.specs.Numbers.{nowhere}
-use Rattle.laws.proofs.Laws.Append.{behind, goOn, run-append}
+use Rattle.laws.proofs.Laws.Append.{behindSteps, goOn, run-append}
 use Rattle.laws.proofs.Laws.Taken.{ran-is}
 use Rattle.laws.proofs.Laws.Calls.{call-answered, run-not-refused, step-done, cause-0, cause-5}
 use Rattle.laws.proofs.Laws.Always.{Always, always-value, run-split}
@@ -106,7 +106,7 @@ runs-end settings map s m lines k s′ m′ (Spec.RunsOn.runs xs ys {blanks = j}
     let more = runs-end settings map (a .state) m₁ ys j s′ m′ r in
     record {
       tally = tallyJoined (length xs) (a .tally) (more .tally);
-      is = run-append settings map xs ys s m ∙ ap (goOn settings map (length xs) ys) (sym one) ∙ ap (behind (length xs) (a .tally)) (more .is);
+      is = run-append settings map xs ys s m ∙ ap (goOn settings map (length xs) ys) (sym one) ∙ ap (behindSteps (length xs) (a .tally)) (more .is);
       blanks = ap (λ n. a .tally .blanks + n) (more .blanks);
     }
 
@@ -236,15 +236,15 @@ chosen-eight out s op e h = rw (ne-eqb (op / 4) 1 (λ z. omega arith), eight-is 
 abbrev fetched : State → List ℕ → State
 fetched s m =
     let sp = s .regs .sp in
-    let pc = wordAt m sp in
-    withPc (withFlags (withSp (withPc s pc) (plus (plus sp 2) 2)) (flagsOf (wordAt m (plus sp 2)))) (plus pc 2)
+    let pc = imageWord m sp in
+    withPc (withFlags (withSp (withPc s pc) (plus (plus sp 2) 2)) (flagsOf (imageWord m (plus sp 2)))) (plus pc 2)
 
-xct-run : (map : List ℕ) (out : Outside) (s : State) (m : List ℕ) (t : State) (n : List ℕ) → eqb (wordAt m (s .regs .pc)) 5 ≡ true → run map (opWork out s) m ≡ value t n
-    → run map (carry out (chosen out (fetched s m) (wordAt m (wordAt m (s .regs .sp))))) m ≡ value t n
+xct-run : (map : List ℕ) (out : Outside) (s : State) (m : List ℕ) (t : State) (n : List ℕ) → eqb (imageWord m (s .regs .pc)) 5 ≡ true → run map (opWork out s) m ≡ value t n
+    → run map (carry out (chosen out (fetched s m) (imageWord m (imageWord m (s .regs .sp))))) m ≡ value t n
 unfolding run opWork fetch begun beginXct popReg pop _>>=_ withReg setReg withFlags
 xct-run map out s m t n five h =
     let sp = s .regs .sp in
-    let pc = wordAt m sp in
+    let pc = imageWord m sp in
     let zero = found-value (fitted map (s .regs .pc)) (s .regs .pc) _ t n h in
     let one = found-value (fitted map sp) sp _ t n (rw five at (zero .1)) in
     let two = found-value (fitted map (plus sp 2)) (plus sp 2) _ t n (one .1) in
@@ -262,9 +262,9 @@ pub xct-element : XctElement
 xct-element settings m map line s t n e fit runs c five eight =
     let is = turn-is settings m map line s t n e in
     let out = heard settings line in
-    let op = wordAt m (wordAt m (s .regs .sp)) in
+    let op = imageWord m (imageWord m (s .regs .sp)) in
     let a = stepOf map out s m in
-    let work = xct-run map out s m (a .state) (a .image) (eq-eqb (wordAt m (s .regs .pc)) 5 five) (code-work map out s m runs (sym (is .1) ∙ c)) in
+    let work = xct-run map out s m (a .state) (a .image) (eq-eqb (imageWord m (s .regs .pc)) 5 five) (code-work map out s m runs (sym (is .1) ∙ c)) in
     let one = one-element settings map line op s m (a .state) (a .image) fit eight (rw (chosen-eight out (fetched s m) op fit eight) at work) in
     subst (λ (x : State). OneElement settings map line op s m x n) (sym (is .0)) (subst (λ (x : List ℕ). OneElement settings map line op s m (a .state) x) (sym (is .2)) one)
 
@@ -281,4 +281,4 @@ pub wd16-xct-element : Wd16XctElement
 wd16-xct-element w b m map line b′ m′ e fit runs zero five eight =
     let d = step-done w b m map line b′ m′ e in
     let x = xct-element (settingsFrom w) m map line (stateFrom b) (d .turn) m′ (d .page) fit runs (cause-0 (d .turn .cause) (sym (d .cause) ∙ zero)) five eight in
-    subst (λ (s : State). OneElement (settingsFrom w) map line (wordAt m (wordAt m (stateFrom b .regs .sp))) (stateFrom b) m s m′) (sym (d .state)) x
+    subst (λ (s : State). OneElement (settingsFrom w) map line (imageWord m (imageWord m (stateFrom b .regs .sp))) (stateFrom b) m s m′) (sym (d .state)) x

@@ -160,7 +160,7 @@ module _ (out : Outside) (s : State) where
 
   -- ---- format 7: bits 15 to 6. `low`: the op code is one from 0A00, not one from 8A00
 
-  abbrev pub sevenBy : Bool → ℕ → ℕ → Work State
+  abbrev sevenBy : Bool → ℕ → ℕ → Work State
   sevenBy low row op = cond low (getD (column0A s op) row (tjmp s op)) (getD (column8A out s op) row (modify word sbcOf s op))
 
   seven-by : (op : ℕ) → format7 out s op ≡ sevenBy (ltb op 0x8000) (columnRow op) op
@@ -211,7 +211,7 @@ module _ (out : Outside) (s : State) where
 
   -- ---- format 10: bits 15 to 12
 
-  abbrev pub tenBy : Bool → Bool → ℕ → ℕ → Work State
+  abbrev tenBy : Bool → Bool → ℕ → ℕ → Work State
   tenBy words low k op = cond words (onWords (binaryAt (cond low (minus k 1) (plus 6 (minus k 9)))) s op) (onBytes (byteBinaryAt (minus k 12)) s op)
 
   abbrev pub tenAt : ℕ → ℕ → Work State

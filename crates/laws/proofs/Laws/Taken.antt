@@ -29,16 +29,16 @@ use Rattle.laws.proofs.Laws.Sizes.{trail-size}
 
 -- ---- what isn't refused: the settings, the map and the image; a list of at most 4,096 words, none with an unused bit
 
-pub record Taken (settings : Settings) (m map lines : List ℕ) : Type 0 where
+pub record RunTaken (settings : Settings) (m map lines : List ℕ) : Type 0 where
   pub board : powerWhy settings m map ≡ 0
   pub few : length lines ≤ 4096
   pub unused : allOf plain lines ≡ true
 
-pub taken-run : (settings : Settings) (m map lines : List ℕ) → Taken settings m map lines → runWhy settings m map lines ≡ 0
+pub taken-run : (settings : Settings) (m map lines : List ℕ) → RunTaken settings m map lines → runWhy settings m map lines ≡ 0
 unfolding runRefusal linesRefusal
 taken-run settings m map lines t = rw (t .board, le-leb (length lines) 4096 (t .few), t .unused)
 
-pub run-taken : (settings : Settings) (m map lines : List ℕ) → runWhy settings m map lines ≡ 0 → Taken settings m map lines
+pub run-taken : (settings : Settings) (m map lines : List ℕ) → runWhy settings m map lines ≡ 0 → RunTaken settings m map lines
 unfolding runRefusal linesRefusal
 run-taken settings m map lines e =
     let both = first-both (powerWhy settings m map) (linesRefusal lines) e in

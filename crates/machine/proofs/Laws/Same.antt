@@ -16,8 +16,8 @@ use Rattle.machine.specs.declared.First.{First}
 use Rattle.machine.specs.declared.First.the-variants.{At, Never}
 use Rattle.refusal.specs.Page.{refused, answered, left}
 use Rattle.refusal.proofs.Laws.Page.{call-refused, call-answered}
-use Rattle.machine.specs.Numbers.{placePage, ranPage}
-use Rattle.machine.specs.Run.{End, end, restOfRun, runOf, ranOf, noted, noBlanks}
+use Rattle.machine.specs.Numbers.{firstPage, ranPage}
+use Rattle.machine.specs.Run.{End, end, restOfRun, runOf, ranOf, blankNoted, noBlanks}
 use Rattle.machine.specs.Trail.{trailOf, blanksIn, firstBlankIn, tallyIn, placeMoved, Least, least, nowhere}
 use Rattle.machine.specs.Counted.{orFirst, tallyJoined}
 use Rattle.machine.specs.Entry.{runEnd, stepWhy}
@@ -39,7 +39,7 @@ blanks-few (a ∷ rs) = one (isBlank (a .cause)) (blanks-few rs)
 first-among : (rs : List After) → BlankAmong (length rs) (firstBlankIn rs)
 first-among rs = from (firstBlankIn rs) (first-least rs)
   where
-    from : (f : First) → Least rs (placePage f) → BlankAmong (length rs) f
+    from : (f : First) → Least rs (firstPage f) → BlankAmong (length rs) f
     from (At p a) (least l h g) = l
     from Never h = tt
 
@@ -97,8 +97,8 @@ rest-same settings map place zero n j x s m t e =
 rest-same settings map place (suc k) n zero x s m t e = absurd (omega arith)
 rest-same settings map place (suc k) n (suc j) x s m t e =
     let a = stepOf map (heard settings x) s m in
-    ap (λ z. restOn settings map z (replicate n x) (restOfRun settings map (place + 1) (replicate k x) (a .state) (a .image) (noted t place (blankAt (a .cause))))) (next place k)
-    ∙ rest-same settings map (place + 1) k n j x (a .state) (a .image) (noted t place (blankAt (a .cause))) (omega arith)
+    ap (λ z. restOn settings map z (replicate n x) (restOfRun settings map (place + 1) (replicate k x) (a .state) (a .image) (blankNoted t place (blankAt (a .cause))))) (next place k)
+    ∙ rest-same settings map (place + 1) k n j x (a .state) (a .image) (blankNoted t place (blankAt (a .cause))) (omega arith)
   where
     next : (place k : ℕ) → place + suc k ≡ place + 1 + k
     next place k = omega arith

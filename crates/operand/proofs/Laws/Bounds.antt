@@ -14,7 +14,7 @@ use Rattle.operand.specs.Operand.{locate, incrementDeferred, decrementDe
 one : (a : ℕ) (f : ℕ → Place) → Bounded 0 (load a >>= (λ v. give (f v)))
 one a f = bounded-then (omega arith) (bounded-load {n = 0} word a) (λ v. gives {n = 0} (f v))
 
-pub bounded-locate : (step k r pc mode : ℕ) → Bounded 0 (locate step k r pc mode)
+bounded-locate : (step k r pc mode : ℕ) → Bounded 0 (locate step k r pc mode)
 unfolding locate incrementDeferred decrementDeferred indexed indexedDeferred deferred
 bounded-locate step k r pc mode =
     bounded-getD mode
@@ -25,7 +25,7 @@ pub bounded-decode : (z : Size) (s : State) (mode k : ℕ) → Bounded 0 (decode
 unfolding decode
 bounded-decode z s mode k = bounded-then (omega arith) (bounded-locate _ k _ _ mode) (λ _. gives {n = 0} _)
 
-pub bounded-read : (z : Size) (r : ℕ) (p : Place) → Bounded 0 (readOf z r p)
+bounded-read : (z : Size) (r : ℕ) (p : Place) → Bounded 0 (readOf z r p)
 unfolding readOf
 bounded-read z r Reg = gives _
 bounded-read z r (Mem a which v) = bounded-load z a

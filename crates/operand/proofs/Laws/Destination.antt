@@ -18,7 +18,7 @@ use Rattle.operand.specs.Operand.{incrementOf, locate, moved, readOf, ad
 use Rattle.operand.proofs.Laws.Operand.{located, decoded, undecoded, unread-operand}
 use Rattle.operand.specs.declared.Held.{Held}
 use Rattle.operand.specs.declared.Held.the-variants as Held
-use Rattle.operand.specs.Destination.{holding, operandOf, heldAs, unheld, nowhere}
+use Rattle.operand.specs.Destination.{holding, operandOf, heldAs, unheld, unlocated}
 
 -- ---- how code comes to it, of words and of bytes alike
 
@@ -60,5 +60,5 @@ held-none {st = st} e = ap (λ z. heldAs z st) e
 pub held-lost : {r : Went} {h : Held} {a : ℕ} {st : Store} → r ≡ unheld h → h ≡ Held.Blank a → wentAs r st ≡ gone a st
 held-lost e h = went-none (e ∙ ap unheld h)
 
-pub found-nowhere : {h : Held} {f : Found} {a : ℕ} {st : Store} → h ≡ nowhere f → f ≡ Found.Blank a → heldAs h st ≡ gone a st
-found-nowhere e h = held-none (e ∙ ap nowhere h)
+pub found-nowhere : {h : Held} {f : Found} {a : ℕ} {st : Store} → h ≡ unlocated f → f ≡ Found.Blank a → heldAs h st ≡ gone a st
+found-nowhere e h = held-none (e ∙ ap unlocated h)

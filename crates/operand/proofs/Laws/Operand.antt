@@ -17,14 +17,14 @@ use Rattle.operand.specs.declared.Place.{Place}
 use Rattle.operand.specs.declared.Place.the-variants.{Reg, Mem}
 use Rattle.operand.specs.declared.Found.{Found}
 use Rattle.operand.specs.declared.Found.the-variants as Found
-use Rattle.operand.specs.Operand.{incrementOf, locate, moved, seen, decode, readOf, withPart, writeTo, foundAs, unfound, addressOf}
+use Rattle.operand.specs.Operand.{incrementOf, locate, moved, decodedTo, decode, readOf, withPart, writeTo, foundAs, unfound, addressOf}
 
 -- ---- what the answers say
 
-pub found-is : {r : Found} {p : Place} {st : Store} → r ≡ Found.At p → foundAs r st ≡ good p st
+found-is : {r : Found} {p : Place} {st : Store} → r ≡ Found.At p → foundAs r st ≡ good p st
 found-is {st = st} e = ap (λ z. foundAs z st) e
 
-pub found-none : {r : Found} {a : ℕ} {st : Store} → r ≡ Found.Blank a → foundAs r st ≡ gone a st
+found-none : {r : Found} {a : ℕ} {st : Store} → r ≡ Found.Blank a → foundAs r st ≡ gone a st
 found-none {st = st} e = ap (λ z. foundAs z st) e
 
 pub found-lost : {r : Went} {f : Found} {a : ℕ} {st : Store} → r ≡ unfound f → f ≡ Found.Blank a → wentAs r st ≡ gone a st
@@ -41,7 +41,7 @@ located z s mode k f d e g = (rw (d, e) at g) .got
 -- a place that was found decodes the operand
 pub decoded : {map : List ℕ} (z : Size) (s : State) (mode k : ℕ) {st : Store} {t : State} {r : Found} {p : Place}
     → Got map (locate (incrementOf z k) k (reg s k) (s .regs .pc) mode) st (foundAs r st) → r ≡ Found.At p → t ≡ moved s p
-    → Got map (decode z s mode k) st (good (seen t k p) st)
+    → Got map (decode z s mode k) st (good (decodedTo t k p) st)
 unfolding decode
 decoded z s mode k g e h = got-then _ g (found-is e) (got-give (rw h))
 

@@ -131,7 +131,7 @@ lent-fits a b h k = rw (h, k) refl
 -- ---- a call of the writer that answers 0
 
 -- the line's length and the words taken stand in the answer
-pub record Wrote (b t a t′ a′ : List ℕ) : Type 0 where
+pub record WroteText (b t a t′ a′ : List ℕ) : Type 0 where
   pub six : answerWhy a ≡ 0
   pub even : oddLength b ≡ false
   pub long : ℕ
@@ -141,12 +141,12 @@ pub record Wrote (b t a t′ a′ : List ℕ) : Type 0 where
   pub second : wordAt a′ 2 ≡ many
   pub answer : a′ ≡ threeWords long many 0
 
-pub wrote : (b t a t′ a′ : List ℕ) → told 0 (t′, a′) ≡ writeCall b t a → Wrote b t a t′ a′
+pub wrote : (b t a t′ a′ : List ℕ) → told 0 (t′, a′) ≡ writeCall b t a → WroteText b t a t′ a′
 unfolding writeCall writeOf
 wrote b t a t′ a′ h = by (lentWhy a b) (writeWhy (wordsIn b) (length t)) refl refl h
   where
     by : (bad why : ℕ) → lentWhy a b ≡ bad → writeWhy (wordsIn b) (length t) ≡ why
-        → told 0 (t′, a′) ≡ answering textWords a (call bad (call why (inFront (textOf (wordsIn b)) (taken (getD (wordsIn b) 0 0)) t) t) t) → Wrote b t a t′ a′
+        → told 0 (t′, a′) ≡ answering textWords a (call bad (call why (inFront (textOf (wordsIn b)) (taken (getD (wordsIn b) 0 0)) t) t) t) → WroteText b t a t′ a′
     by (suc bad) why e f g = absurd (omega (arith, ap (λ z. z .number) g))
     by zero (suc why) e f g = absurd (omega (arith, ap (λ z. z .number) g))
     by zero zero e f g =

@@ -77,7 +77,7 @@ none (suc o) zero zero j = absurd (omega (arith, j .both))
 none (suc o) zero (suc b) j = eqb·suc-zero o ∙ sym (eqb·suc-zero b)
 none (suc o) (suc a) b j = eqb·suc-zero o ∙ sym (ap (λ (x : Bool). x && eqb b 0) (eqb·suc-zero a))
 
-pub plain-or : (a b : ℕ) → plain (bitOr a b) ≡ plain a && plain b
+plain-or : (a b : ℕ) → plain (bitOr a b) ≡ plain a && plain b
 plain-or a b = none (unused (bitOr a b)) (unused a) (unused b) (unused-joined a b)
 
 -- a line word more, and no more

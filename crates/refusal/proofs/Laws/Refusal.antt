@@ -29,7 +29,7 @@ all-end p l i e = rw (e, drop-length l)
 
 -- ---- what is known where nothing is refused
 
-pub record Sound (size : ℕ) (map : List ℕ) : Type 0 where
+pub record SoundBoard (size : ℕ) (map : List ℕ) : Type 0 where
   pub bytes : size ≡ 65536
   pub pages : length map ≡ 256
 
@@ -43,7 +43,7 @@ pub cond-none : (b : Bool) (k : ℕ) → (k ≡ 0 → ⊥) → cond b 0 k ≡ 0 
 cond-none true k n e = refl
 cond-none false k n e = absurd (n e)
 
-pub sound : (size : ℕ) (map : List ℕ) → boardRefusal size map ≡ 0 → Sound size map
+pub sound : (size : ℕ) (map : List ℕ) → boardRefusal size map ≡ 0 → SoundBoard size map
 unfolding boardRefusal
 sound size map e =
     let a = first-both (cond (eqb size 65536) 0 imageLength) _ e in
@@ -57,15 +57,15 @@ pub short : (lines : List ℕ) → linesRefusal lines ≡ 0 → length lines ≤
 unfolding linesRefusal
 short lines e = leb-true _ _ (cond-none (leb (length lines) 4096) linesLength (λ h. omega arith) (first-both (cond (leb (length lines) 4096) 0 linesLength) _ e .0))
 
-pub power-sound : (size : ℕ) (map : List ℕ) (p h r : ℕ) → powerRefusal size map p h r ≡ 0 → Sound size map
+pub power-sound : (size : ℕ) (map : List ℕ) (p h r : ℕ) → powerRefusal size map p h r ≡ 0 → SoundBoard size map
 unfolding powerRefusal
 power-sound size map p h r e = sound size map (first-both (boardRefusal size map) _ e .0)
 
-pub step-sound : (size : ℕ) (map : List ℕ) (p h r line : ℕ) → stepRefusal size map p h r line ≡ 0 → Sound size map
+pub step-sound : (size : ℕ) (map : List ℕ) (p h r line : ℕ) → stepRefusal size map p h r line ≡ 0 → SoundBoard size map
 unfolding stepRefusal
 step-sound size map p h r line e = power-sound size map p h r (first-both (powerRefusal size map p h r) _ e .0)
 
-pub run-sound : (size : ℕ) (map : List ℕ) (p h r : ℕ) (lines : List ℕ) → runRefusal size map p h r lines ≡ 0 → Sound size map × (length lines ≤ 4096)
+pub run-sound : (size : ℕ) (map : List ℕ) (p h r : ℕ) (lines : List ℕ) → runRefusal size map p h r lines ≡ 0 → SoundBoard size map × (length lines ≤ 4096)
 unfolding runRefusal
 run-sound size map p h r lines e =
     let both = first-both (powerRefusal size map p h r) (linesRefusal lines) e in

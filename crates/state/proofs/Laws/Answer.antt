@@ -1,10 +1,10 @@
 -- From a callee's answer to the caller's: answered, or gone at a blank.
 use Prim.Native.Nat.{ℕ}
 use mathlib.Core.Path.{_≡_, refl, ap, _∙_}
-use Rattle.board.specs.Exec.{Store, good, gone, keptAs}
-use Rattle.board.proofs.Laws.Exec.{stateOf}
-use Rattle.board.specs.declared.Kept.{Kept}
-use Rattle.board.specs.declared.Kept.the-variants as Kept
+use Rattle.board.specs.Exec.{Store, good, gone, storedAs}
+use Rattle.board.proofs.Laws.Exec.{storeOf}
+use Rattle.board.specs.declared.Stored.{Stored}
+use Rattle.board.specs.declared.Stored.the-variants as Stored
 use Rattle.state.specs.declared.State.{State}
 use Rattle.state.specs.declared.Went.{Went}
 use Rattle.state.specs.declared.Went.the-variants.{Done, Blank}
@@ -18,7 +18,7 @@ went-is {st = st} e = ap (λ z. wentAs z st) e
 pub went-none : {r : Went} {a : ℕ} {st : Store} → r ≡ Blank a → wentAs r st ≡ gone a st
 went-none {st = st} e = ap (λ z. wentAs z st) e
 
-pub went-store : (r : Went) {st : Store} → stateOf (wentAs r st) ≡ st
+pub went-store : (r : Went) {st : Store} → storeOf (wentAs r st) ≡ st
 went-store (Done s) = refl
 went-store (Blank a) = refl
 
@@ -30,12 +30,12 @@ took-none {st = st} e = ap (λ z. tookAs z st) e
 
 -- ---- a write that was not answered ends the work there
 
-pub kept-lost : {r : Went} {k : Kept} {a : ℕ} {st : Store} → r ≡ unwritten k → k ≡ Kept.Blank a → wentAs r st ≡ gone a st
+pub kept-lost : {r : Went} {k : Stored} {a : ℕ} {st : Store} → r ≡ unwritten k → k ≡ Stored.Blank a → wentAs r st ≡ gone a st
 kept-lost e h = went-none (e ∙ ap unwritten h)
 
-pub kept-store : (r : Kept) {st : Store} → stateOf (keptAs r st) ≡ st
-kept-store Kept.Done = refl
-kept-store (Kept.Blank a) = refl
+pub kept-store : (r : Stored) {st : Store} → storeOf (storedAs r st) ≡ st
+kept-store Stored.Done = refl
+kept-store (Stored.Blank a) = refl
 
 -- ---- a word that was not popped or fetched ends the work there
 

@@ -20,7 +20,7 @@ use Rattle.step.specs.declared.Kind.{Kind}
 use Rattle.step.specs.declared.Kind.the-variants.{OpCode, HaltEnd, Boots, Saves, LocksUp, Restarts, Restores, NonVectored, Vectored, Waits, Stuck}
 use Rattle.step.specs.Execute.{moves, byFormat}
 use Rattle.step.specs.Xct.{Begin, code, abort, beginXct, begun, trace, traced, carry, opWork}
-use Rattle.step.specs.Places.{keep, pickUp, keepRegisters, pickUpRegisters, save, restore}
+use Rattle.step.specs.Places.{keep, pickUp, keepRegisters, pickUpRegisters, savePlaces, restorePlaces}
 use Rattle.step.specs.Step.{vectored, workOf, busError}
 
 bounded-byFormat : (out : Outside) (f : ℕ) (s : State) (op : ℕ) → Bounded 9 (byFormat out f s op)
@@ -88,8 +88,8 @@ bounded-keepRegisters s =
     bounded-then {k = 1} (omega arith) (bounded-keep s 6) λ _.
     bounded-keep s 7
 
-bounded-save : (out : Outside) (s : State) → Bounded 9 (save out s)
-unfolding save
+bounded-save : (out : Outside) (s : State) → Bounded 9 (savePlaces out s)
+unfolding savePlaces
 bounded-save out s =
     bounded-then {k = 1} (omega arith) (bounded-keepRegisters s) λ _.
     bounded-then {k = 0} (omega arith) (bounded-store word _ _) λ _.
@@ -111,8 +111,8 @@ bounded-pickUpRegisters s =
     bounded-then {k = 0} (omega arith) (bounded-pickUp s 6) λ s.
     bounded-pickUp s 7
 
-bounded-restore : (s : State) → Bounded 0 (restore s)
-unfolding restore
+bounded-restore : (s : State) → Bounded 0 (restorePlaces s)
+unfolding restorePlaces
 bounded-restore s =
     bounded-then {k = 0} (omega arith) (bounded-pickUpRegisters s) λ s.
     bounded-then {k = 0} (omega arith) (bounded-load {n = 0} word _) λ _.

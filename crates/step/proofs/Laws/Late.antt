@@ -5,7 +5,7 @@ use mathlib.Core.Bool.{Bool, true, false, not, _&&_, _||_, cond}
 use mathlib.Core.List.{List}
 use mathlib.Core.Path.{_≡_, refl, sym, ap, _∙_}
 use lib.Dec.{eqb}
-use Rattle.board.specs.Work.{give, fitted, writable, wordAt, value, run, _>>=_}
+use Rattle.board.specs.Work.{give, fitted, writable, imageWord, value, run, _>>=_}
 use Rattle.board.proofs.Laws.Alike.{found-value}
 use Rattle.state.specs.declared.State.{State}
 use Rattle.state.specs.declared.Outside.{Outside}
@@ -114,7 +114,7 @@ module _ {map : List ℕ} {out : Outside} {s : State} {m : List ℕ} (c : Comes 
       (late next was quiet, λ runs i2 mark. unmarked-hears (stepOf map next (first .state) (first .image) .state) last runs i2 mark a)
 
   -- Such an op code is NOP: IEN, NOP, interrupt.
-  pub late-nop : (next last : Outside) → s .i2 ≡ false → next .i3 ≡ false → fitted map (plus (s .regs .pc) 2) ≡ true → wordAt m (plus (s .regs .pc) 2) ≡ 0 → Asks last
+  pub late-nop : (next last : Outside) → s .i2 ≡ false → next .i3 ≡ false → fitted map (plus (s .regs .pc) 2) ≡ true → imageWord m (plus (s .regs .pc) 2) ≡ 0 → Asks last
       → (let a = stepOf map out s m in kindOf (stepOf map next (a .state) (a .image) .state) last ≡ interruptHeard last)
   unfolding withMark withI2 withReg setReg
   late-nop next last was quiet there code a =

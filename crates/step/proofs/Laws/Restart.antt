@@ -14,7 +14,7 @@ use Rattle.state.specs.Stack.{push, pushBoth, fromLoc, trap}
 use Rattle.step.specs.declared.Kind.{Kind}
 use Rattle.step.specs.declared.Cause.{Cause}
 use Rattle.step.specs.declared.Cause.the-variants.{LockedAt}
-use Rattle.step.specs.Places.{savePlace, pickUp, pickUpRegisters, restore}
+use Rattle.step.specs.Places.{savePlace, pickUp, pickUpRegisters, restorePlaces}
 use Rattle.step.specs.Step.{After, after, orAt, restart, past, kindOf, workOf, busError, errorCauseOf, errorOf, stepOf}
 use Rattle.step.proofs.Laws.Ends.{step-ill}
 use Rattle.step.specs.Told.{Low, gives, reads}
@@ -34,8 +34,8 @@ unfolding pickUp _>>=_
 pick-up-low s k e = reads _ (savePlace k) e (λ v. gives _)
 
 -- the places, picked up at the end of a save and by an option of the power-up
-pub restore-low : (s : State) → Low (restore s)
-unfolding restore pickUpRegisters
+pub restore-low : (s : State) → Low (restorePlaces s)
+unfolding restorePlaces pickUpRegisters
 restore-low s =
     low-then (low-then (pick-up-low s 0 refl) λ s.
     low-then (pick-up-low s 1 refl) λ s.

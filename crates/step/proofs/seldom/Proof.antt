@@ -9,14 +9,14 @@ use Rattle.step.proofs.seldom.Tie as tie
 restart-requires : tie.Need-restart-requires
 restart-requires c κs = c .before .before .before .before .before .pre .0 .lent
 
-save-requires : tie.Need-save-requires
-save-requires c κs = c .before .before .before .before .before .before .pre .0
+save-places-requires : tie.Need-save-places-requires
+save-places-requires c κs = c .before .before .before .before .before .before .pre .0
 
 restart-requires-2 : tie.Need-restart-requires-2
 restart-requires-2 c κs = c .before .before .before .before .before .pre .0 .lent
 
-restore-requires : tie.Need-restore-requires
-restore-requires c κs = c .before .before .before .before .before .pre .0 .lent
+restore-places-requires : tie.Need-restore-places-requires
+restore-places-requires c κs = c .before .before .before .before .before .pre .0 .lent
 
 trap-now-requires : tie.Need-trap-now-requires
 trap-now-requires c κs = c .before .before .before .before .before .before .before .pre .0
@@ -38,12 +38,12 @@ returns-3 c = rw (c .before .enum-told3 .given .1)
     (did refl (c .before .before .before .before .before .pre .0) (got-give (c .bootstrap .ensures)))
 
 same-length-2 : tie.Need-same-length-2
-same-length-2 c = c .before .before .before .save .ensures .board .lent .size ∙ sym (c .before .before .before .before .before .before .before .before .before .before .pre .0 .lent .size)
+same-length-2 c = c .before .before .before .save-places .ensures .board .lent .size ∙ sym (c .before .before .before .before .before .before .before .before .before .before .pre .0 .lent .size)
 
 returns-4 : tie.Need-returns-4
 unfolding workOf
 returns-4 c = rw (c .before .before .before .before .before .before .enum-told4 .given .1, c .apart .ensures)
-    (record { got = c .before .before .before .save .ensures .got; board = c .before .before .before .save .ensures .board })
+    (record { got = c .before .before .before .save-places .ensures .got; board = c .before .before .before .save-places .ensures .board })
 
 returns-5 : tie.Need-returns-5
 unfolding workOf
@@ -58,7 +58,7 @@ returns-6 c = rw (c .before .before .enum-told6 .given .1)
 returns-7 : tie.Need-returns-7
 unfolding workOf
 returns-7 c = rw (c .before .before .before .enum-told7 .given .1, c .apart2 .ensures)
-    (record { got = c .before .restore .ensures .got; board = c .before .before .before .before .before .before .before .pre .0 })
+    (record { got = c .before .restore-places .ensures .got; board = c .before .before .before .before .before .before .before .pre .0 })
 
 same-length-5 : tie.Need-same-length-5
 same-length-5 c = c .before .before .before .trap-now .ensures .board .lent .size ∙ sym (c .before .before .before .before .before .before .before .before .before .before .before .pre .0 .lent .size)
@@ -96,14 +96,14 @@ seldom-spec =
     (λ c. search needs)
     (λ c κs. search needs)
     (λ c. search needs)
-    save-requires
+    save-places-requires
     (λ c κs. search needs)
     (λ c. search needs)
     (λ c κs. search needs)
     (λ c. search needs)
     restart-requires-2
     (λ c. search needs)
-    restore-requires
+    restore-places-requires
     (λ c κs. search needs)
     (λ c. search needs)
     (λ c κs. search needs)

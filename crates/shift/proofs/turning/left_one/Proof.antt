@@ -2,8 +2,8 @@ use borrow.Author.Needs.{needs}
 use native.Mathlib.Omega.{arith}
 use native.Mathlib.Nat.{mod-lt}
 use Rattle.wordmath.proofs.Laws.Digit.{digit-le}
-use Rattle.shift.proofs.turning.left.Statement.{statement}
-use Rattle.shift.proofs.turning.left.Tie as tie
+use Rattle.shift.proofs.turning.left_one.Statement.{statement}
+use Rattle.shift.proofs.turning.left_one.Tie as tie
 
 rem-t5 : tie.Need-rem-t5
 rem-t5 c = c .weight .ensures .1
@@ -17,6 +17,6 @@ add-t8 c = omega (arith, mod-lt (c .before .args .x) (c .weight .ensures .1), di
 returns : tie.Need-returns
 returns c = rw (c .weight .ensures .0)
 
-pub left-spec : {M : Type 1} → statement M
-left-spec =
+pub left-one-spec : {M : Type 1} → statement M
+left-one-spec =
     tie.close (tie.spec (λ c κs. search needs) rem-t5 mul-t6 (λ c. search needs) add-t8 (λ c. search needs) (λ c. search needs) returns)

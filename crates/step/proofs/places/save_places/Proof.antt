@@ -1,10 +1,10 @@
 use mathlib.Core.Path.{refl, sym, _∙_}
 use Rattle.board.proofs.Laws.{got-then, got-gone, got-give, did, kept-is, kept-none, unwritten-at}
 use Rattle.state.proofs.Laws.Answer.{went-store, kept-lost}
-use Rattle.step.specs.Places.{save}
+use Rattle.step.specs.Places.{savePlaces}
 use borrow.Author.Needs.{needs}
-use Rattle.step.proofs.places.save.Statement.{statement}
-use Rattle.step.proofs.places.save.Tie as tie
+use Rattle.step.proofs.places.save_places.Statement.{statement}
+use Rattle.step.proofs.places.save_places.Tie as tie
 
 keep-registers-requires : tie.Need-keep-registers-requires
 keep-registers-requires c κs = c .before .before .before .before .pre
@@ -13,7 +13,7 @@ same-length : tie.Need-same-length
 same-length c = c .before .before .before .before .before .keep-registers .ensures .board .lent .size ∙ sym (c .before .before .before .before .before .before .before .before .before .before .pre .lent .size)
 
 returns : tie.Need-returns
-unfolding save
+unfolding savePlaces
 returns c = did (went-store (c .unwritten .result)) (c .before .before .before .before .before .before .before .before .before .before .pre)
     (got-gone _ (c .before .before .before .before .before .keep-registers .ensures .got) (kept-none (c .before .enum-told2 .given .1)) (kept-lost (c .unwritten .ensures) (c .before .enum-told2 .given .1)))
 
@@ -24,7 +24,7 @@ same-length-2 : tie.Need-same-length-2
 same-length-2 c = c .before .before .before .before .store .ensures .board .lent .size ∙ sym (c .before .before .before .before .before .before .before .before .before .before .before .before .before .before .before .before .before .pre .lent .size)
 
 returns-2 : tie.Need-returns-2
-unfolding save
+unfolding savePlaces
 returns-2 c =
     let kept = (rw (c .before .before .before .before .before .ps .ensures) at (c .before .before .before .before .store .ensures)) .got in
     did refl (c .before .before .before .before .before .before .before .before .before .before .before .before .before .before .before .before .before .pre)
@@ -35,14 +35,14 @@ same-length-3 : tie.Need-same-length-3
 same-length-3 c = c .before .before .before .before .before .store .ensures .board .lent .size ∙ sym (c .before .before .before .before .before .before .before .before .before .before .before .before .before .before .before .before .before .before .pre .lent .size)
 
 returns-3 : tie.Need-returns-3
-unfolding save
+unfolding savePlaces
 returns-3 c = did refl (c .before .before .before .before .before .before .before .before .before .before .before .before .before .before .before .before .before .before .pre)
     (got-then _ (c .before .before .before .before .before .before .before .before .before .before .before .before .before .keep-registers .ensures .got) (kept-is (c .before .before .before .before .before .before .before .before .before .enum-told .given .1))
     (got-then _ ((rw (c .before .before .before .before .before .before .ps .ensures) at (c .before .before .before .before .before .store .ensures)) .got) (kept-is (c .before .enum-told3 .given .1))
     (got-give (rw (c .with-mode .ensures)))))
 
-pub save-spec : {M : Type 1} → statement M
-save-spec =
+pub save-places-spec : {M : Type 1} → statement M
+save-places-spec =
     tie.close
     (tie.spec
     keep-registers-requires
