@@ -9,7 +9,7 @@ pub mod Exec
 use Prim.Native.Nat.{ℕ, _+_, _*_, _/_, _%_, _<_}
 use native.Mathlib.Omega.{arith}
 use native.Mathlib.Decide.{ℕ-discrete, decLt}
-use mathlib.Core.Bool.{Bool, true, false}
+use mathlib.Core.Bool.{Bool, true, false, _&&_}
 use mathlib.Core.List.{List}
 use mathlib.Core.Path.{_≡_, refl, sym, ap, _∙_, subst}
 use lib.ListN.{getD, set, length, length-set}
@@ -17,7 +17,7 @@ use lib.Seq.{getD-set-same, getD-set-other, set-out}
 use borrow.Author.Tests.{ltb-true}
 use Rattle.board.specs.Work.{Work, give, readAt, writeAt, Size, word, byte, fitted, writable, even, imageWord, withWord, withByte, get, put, _>>=_}
 use Rattle.board.specs.Work as Work
-use Rattle.board.specs.Exec.{and, Store, Now, good, gone, logCount, logRoom, note, withNote, allowed, exec, Board, Got, Did, wordAs, byteAs, storedAs}
+use Rattle.board.specs.Exec.{Store, Now, good, gone, logCount, logRoom, note, withNote, allowed, exec, Board, Got, Did, wordAs, byteAs, storedAs}
 use Rattle.board.proofs.Laws.Exec.{storeOf}
 use Rattle.board.specs.declared.Word.{Word}
 use Rattle.board.specs.declared.Word.the-variants.{Value, Blank}
@@ -40,13 +40,11 @@ exec-bind map (give x) f st = refl
 exec-bind map (readAt z a k) f st = rw (exec-bind map (k (get z (st .image) a)) f st, allowed-after)
 exec-bind map (writeAt z a v w) f st = rw (exec-bind map w f (withNote z a v st), allowed-after, allowed-after)
 
-allowed-and : {A : Type 0} (b c : Bool) (a : ℕ) (st : Store) (x : Now A) → allowed b a st (allowed c a st x) ≡ allowed (and b c) a st x
-unfolding and
+allowed-and : {A : Type 0} (b c : Bool) (a : ℕ) (st : Store) (x : Now A) → allowed b a st (allowed c a st x) ≡ allowed (b && c) a st x
 allowed-and true c a st x = refl
 allowed-and false c a st x = refl
 
-pub and-right : (b c : Bool) → and b c ≡ true → c ≡ true
-unfolding and
+pub and-right : (b c : Bool) → b && c ≡ true → c ≡ true
 and-right true c e = e
 and-right false true e = refl
 and-right false false e = e
@@ -91,14 +89,14 @@ module _ {map : List ℕ} where
 
   pub unwritten-at : {st : Store} {z : Size} {a v : ℕ} {r : Now (Unit {0})} {b : ℕ} {st₁ : Store} → Got map (writeAt z a v (give tt)) st r → r ≡ gone b st₁ → r ≡ gone a st₁
   unfolding exec
-  unwritten-at {st = st} {z = z} {a = a} {v = v} g e = only-gone (and (writable map a) (logRoom (st .log))) a st tt (withNote z a v st) (g .came ∙ allowed-and (writable map a) (logRoom (st .log)) a st (good tt (withNote z a v st))) e
+  unwritten-at {st = st} {z = z} {a = a} {v = v} g e = only-gone (writable map a && logRoom (st .log)) a st tt (withNote z a v st) (g .came ∙ allowed-and (writable map a) (logRoom (st .log)) a st (good tt (withNote z a v st))) e
 
   -- a page that is fitted, and room in the log
-  pub got-written : {st st′ : Store} (z : Size) (a v : ℕ) → and (writable map a) (logRoom (st .log)) ≡ true → st′ ≡ withNote z a v st → Got {A = Unit {0}} map (writeAt z a v (give tt)) st (good tt st′)
+  pub got-written : {st st′ : Store} (z : Size) (a v : ℕ) → writable map a && logRoom (st .log) ≡ true → st′ ≡ withNote z a v st → Got {A = Unit {0}} map (writeAt z a v (give tt)) st (good tt st′)
   unfolding exec
   got-written {st = st} z a v e h = record { came = rw (h, allowed-and, e) }
 
-  pub got-lost : {A : Type 0} (z : Size) (a : ℕ) {v : ℕ} {w : Work A} {st : Store} → and (writable map a) (logRoom (st .log)) ≡ false → Got map (writeAt z a v w) st (gone a st)
+  pub got-lost : {A : Type 0} (z : Size) (a : ℕ) {v : ℕ} {w : Work A} {st : Store} → writable map a && logRoom (st .log) ≡ false → Got map (writeAt z a v w) st (gone a st)
   unfolding exec
   got-lost z a e = record { came = rw (allowed-and, e) }
 

@@ -32,10 +32,6 @@ logCount l = getD l 0 0
 unfoldable pub logRoom : List ℕ → Bool
 logRoom l = ltb (logCount l) 15
 
-unfoldable pub and : Bool → Bool → Bool
-and true b = b
-and false b = false
-
 unfoldable pub note : List ℕ → ℕ → ℕ → List ℕ
 note l a old = set (set (set l (logCount l * 2 + 1) a) (logCount l * 2 + 2) old) 0 (logCount l + 1)
 

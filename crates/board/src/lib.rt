@@ -1,13 +1,14 @@
 // The board: the lent image, the page map, and the log of what a step wrote over.
 use wordbytes::high;
 use wordbytes::low;
+ghost use mathlib.Core.Bool.{_&&_};
 ghost use mathlib.Core.Path.{_≡_};
 ghost use Prim.Native.Nat.{_+_, _*_, _≤_, _<_, _%_, _/_};
 ghost use lib.ListN.{length, getD, set};
 ghost use Rattle.board.specs.Work as Work;
 ghost use Rattle.board.specs.Work.{imageWord, withWord};
 ghost use Rattle.board.specs.Exec as Exec;
-ghost use Rattle.board.specs.Exec.{and, beside, logCount, Lent, Board, Saw, Did, wordAs, byteAs, storedAs, undone};
+ghost use Rattle.board.specs.Exec.{beside, logCount, Lent, Board, Saw, Did, wordAs, byteAs, storedAs, undone};
 
 // What a read answers: the value, or the address where nothing is fitted.
 pub enum Word {
@@ -108,7 +109,7 @@ fn note(image: &[u8], log: &mut [u16; 32], a: u16)
 // May this address be written, and is there room in the log?
 fn may_write(map: &[u8], log: &[u16; 32], a: u16) -> bool
     requires { ⌜ length (now map) ≡ 256 ⌝ }
-    ensures { λ r. ⌜ r ≡ and (Work.writable (now (map .entry)) a) (Exec.logRoom (now (log .entry))) ⌝ }
+    ensures { λ r. ⌜ r ≡ Work.writable (now (map .entry)) a && Exec.logRoom (now (log .entry)) ⌝ }
 {
     writable(map, a) && log[0] < 15
 }

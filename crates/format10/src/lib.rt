@@ -27,6 +27,7 @@ ghost use Rattle.board.specs.Exec.{beside, Lent, Board, Saw};
 ghost use Rattle.state.specs.Answer.{Works, wentAs};
 ghost use Prim.Native.Nat.{_%_};
 ghost use Rattle.format10.specs.Format10 as Spec;
+ghost use Rattle.format10.specs.Inner as Inner;
 
 // The place of a word op code: ADD to XOR, CMP, BIT, MOV.
 fn binary_number(op: u16) -> u16
@@ -78,7 +79,7 @@ fn settle(
 // The op code on words, with the source x: MOV, which does not read its destination, is tried first.
 fn onto_words(s: State, image: &mut [u8], map: &[u8], log: &mut [u16; 32], op: u16, x: u16) -> Went
     requires { ⌜ Board (now map) (beside (now image) (now log)) ⌝ }
-    ensures { λ r. ⌜ Works (now (map .entry)) (Spec.ontoWords (Spec.binaryCode op) s op x) (now (image .entry)) (now (log .entry)) r (now (image .exit)) (now (log .exit)) ⌝ }
+    ensures { λ r. ⌜ Works (now (map .entry)) (Inner.ontoWords (Spec.binaryCode op) s op x) (now (image .entry)) (now (log .entry)) r (now (image .exit)) (now (log .exit)) ⌝ }
 {
     let to = destination_register(op);
     let mode = destination_mode(op);
@@ -169,7 +170,7 @@ fn settle_byte(
 // The op code on bytes, with the source x: MOVB, which does not read its destination, is tried first.
 fn onto_bytes(s: State, image: &mut [u8], map: &[u8], log: &mut [u16; 32], op: u16, x: u8) -> Went
     requires { ⌜ Board (now map) (beside (now image) (now log)) ⌝ }
-    ensures { λ r. ⌜ Works (now (map .entry)) (Spec.ontoBytes (Spec.byteCode op) s op x) (now (image .entry)) (now (log .entry)) r (now (image .exit)) (now (log .exit)) ⌝ }
+    ensures { λ r. ⌜ Works (now (map .entry)) (Inner.ontoBytes (Spec.byteCode op) s op x) (now (image .entry)) (now (log .entry)) r (now (image .exit)) (now (log .exit)) ⌝ }
 {
     let to = destination_register(op);
     let mode = destination_mode(op);

@@ -23,6 +23,7 @@ ghost use Rattle.board.specs.Exec.{beside, Lent, Board, Saw};
 ghost use Rattle.state.specs.Answer.{Works, wentAs};
 ghost use Prim.Native.Nat.{_%_};
 ghost use Rattle.format9.specs.Format9 as Spec;
+ghost use Rattle.format9.specs.Inner as Inner;
 
 // JSR at an address: ↓ SP, @SP ← REG; REG ← PC; PC ← DST.
 fn jsr_at(s: State, image: &mut [u8], map: &[u8], log: &mut [u16; 32], k: u16, a: u16) -> Went
@@ -203,7 +204,7 @@ fn preset_code(
     out: Outside,
     op: u16,
 ) -> Went
-    requires { ⌜ (Board (now map) (beside (now image) (now log))) × (Spec.NeitherJsrNorSob op) ⌝ }
+    requires { ⌜ (Board (now map) (beside (now image) (now log))) × (Inner.NeitherJsrNorSob op) ⌝ }
     ensures { λ r. ⌜ Works (now (map .entry)) (Spec.format9 out s op) (now (image .entry)) (now (log .entry)) r (now (image .exit)) (now (log .exit)) ⌝ }
 {
     let opc = format9_code(op);
@@ -227,7 +228,7 @@ fn seldom(
     out: Outside,
     op: u16,
 ) -> Went
-    requires { ⌜ (Board (now map) (beside (now image) (now log))) × (Spec.NeitherJsrNorSob op) ⌝ }
+    requires { ⌜ (Board (now map) (beside (now image) (now log))) × (Inner.NeitherJsrNorSob op) ⌝ }
     ensures { λ r. ⌜ Works (now (map .entry)) (Spec.format9 out s op) (now (image .entry)) (now (log .entry)) r (now (image .exit)) (now (log .exit)) ⌝ }
 {
     let t = s;

@@ -1,4 +1,5 @@
 // Reads a job: three sections, each after its count, and perhaps a fourth. First the whole input is checked, then the lent buffers are filled.
+use refusal::MOST_LINE_WORDS;
 use refusal::number;
 use wordbytes::byte_at;
 use wordbytes::word_at;
@@ -8,6 +9,9 @@ ghost use lib.ListN.{length, getD, set, replicate};
 ghost use Rattle.job.specs.Job as Spec;
 ghost use Rattle.job.specs.Job.{sections, entrySize, mostOf, overOf, keyAt, fitPage, whyPage, whyAddress, whyLine, whyKey, whyEntry, whyCount, whyLeft, whyJob, fitPages, wordsStored, listed, JobRoom, Filled, whyRead, jobPage, jobOf};
 ghost use Rattle.refusal.specs.Page.{left};
+
+// What is read of a job: the longest has 25,096 bytes, and one byte more shows that there are bytes left over.
+pub const READ_OF_JOB: usize = 25097;
 
 // What the job reader answers: how many line words there are, or why the job is refused.
 pub enum JobRead {
@@ -371,7 +375,7 @@ pub fn refusal(image: usize, map: usize, lines: usize, input: &[u8]) -> u8
     if map != 256 {
         return number::MAP_LENGTH;
     }
-    if lines != 4096 {
+    if lines != MOST_LINE_WORDS {
         return number::LINES_LENGTH;
     }
     first_refusal(input)

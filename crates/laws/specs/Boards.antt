@@ -20,12 +20,13 @@ use Rattle.machine.specs.Entry.{stepWhy, runWhy, finishedPage, runPage}
 use Rattle.machine.specs.Same.{runSamePage}
 use Rattle.machine.specs.Until.{ends, StopPage, stoppedPage, runUntilPage}
 use Rattle.laws.specs.Halves.{stateLeft, Joined}
+use Rattle.refusal.specs.Refusal.{mostLineWords}
 
 -- ---- OVER ONE LINE WORD
 
 -- up to 4,096 steps it is the run over as many such line words
 abbrev pub SameRun : Type 0
-SameRun = (settings : Settings) (map : List ℕ) (line n : ℕ) (s : State) (m : List ℕ) → stepWhy settings m map line ≡ 0 → n ≤ 4096
+SameRun = (settings : Settings) (map : List ℕ) (line n : ℕ) (s : State) (m : List ℕ) → stepWhy settings m map line ≡ 0 → n ≤ mostLineWords
     → runSamePage settings m map line n s ≡ runPage settings m map (replicate n line) s
 
 -- and n steps, then k, are n + k steps: the blanks add up, and the first is the first's, or else the second's moved on by n

@@ -21,7 +21,7 @@ use Rattle.recorder.specs.declared.Recorder.{Recorder}
 use Rattle.recorder.specs.declared.ScanEnd.the-variants as ScanEnd
 use Rattle.recorder.specs.declared.Reported.{Reported}
 use Rattle.recorder.specs.declared.Reported.the-variants as Reported
-use Rattle.recorder.specs.Scan.{newRecorder, answerPage, plugPage, reportedPage, scanOf, reportPage}
+use Rattle.recorder.specs.Scan.{newRecorder, answerPage, plugPage, reportedPage, scanOf, reportPage, mostScans}
 use Rattle.recorder_c.specs.Layout.{channelsFrom, reportBytes}
 use Rattle.recorder_c.specs.Calls.{scanCall, reportCall}
 
@@ -70,7 +70,7 @@ ScansReported = (r : Recorder) (scans : List (List Channel)) (k : ℕ) (q : Repo
 
 -- "Over up to 4,096 such scans": the scans counted are those that were not refused, and there are no more
 abbrev pub ScansCounted : Type 0
-ScansCounted = (r : Recorder) (scans : List (List Channel)) → Recorded r scans → (r .scans ≡ length scans) × (length scans ≤ 4096)
+ScansCounted = (r : Recorder) (scans : List (List Channel)) → Recorded r scans → (r .scans ≡ length scans) × (length scans ≤ mostScans)
 
 -- ---- the same for C
 

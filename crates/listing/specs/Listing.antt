@@ -67,6 +67,9 @@ module _ (map image : List ℕ) (last : ℕ) where
   linesFrom zero a = []
   linesFrom (suc n) a = cond (leb a last) (listingLine a ∷ linesFrom n (nextAt a)) []
 
--- an image has 32,768 words, and no listing more lines
+-- an image has so many words, and no listing more lines
+abbrev pub imageWords : ℕ
+imageWords = 32768
+
 unfoldable pub listingOf : ℕ → ℕ → List ℕ → List ℕ → List (List ℕ)
-listingOf first last map image = linesFrom map image last 32768 first
+listingOf first last map image = linesFrom map image last imageWords first

@@ -22,6 +22,7 @@ ghost use Prim.Native.Nat.{_≤_, _+_};
 ghost use lib.ListN.{length};
 ghost use Rattle.board.specs.Exec.{beside, Lent, Board};
 ghost use Rattle.machine.specs.Run as Spec;
+ghost use Rattle.refusal.specs.Refusal.{mostLineWords};
 
 // The earlier one stays.
 fn first_kept(first: First, place: u16, address: u16) -> First
@@ -35,7 +36,7 @@ fn first_kept(first: First, place: u16, address: u16) -> First
 
 // The tally after the step at this place, which may have been a blank.
 pub(crate) fn blank_noted(t: Tally, place: u16, blank: Reached) -> Tally
-    requires { ⌜ t .blanks ≤ 4096 ⌝ }
+    requires { ⌜ t .blanks ≤ mostLineWords ⌝ }
     ensures { λ r. ⌜ (r ≡ Spec.blankNoted t place blank) × (r .blanks ≤ t .blanks + 1) ⌝ }
 {
     match blank {
@@ -60,7 +61,7 @@ pub(crate) fn run_from(
     settings: Settings,
     lines: &[u16],
 ) -> Last
-    requires { ⌜ (Board (now map) (beside (now image) (now log))) × (length (now lines) ≤ 4096) ⌝ }
+    requires { ⌜ (Board (now map) (beside (now image) (now log))) × (length (now lines) ≤ mostLineWords) ⌝ }
     ensures { λ r. ⌜ Spec.LoggedRun settings (now (map .entry)) (now (lines .entry)) s (now (image .entry)) r (beside (now (image .exit)) (now (log .exit))) ⌝ }
 {
     let mut state = s;
@@ -122,7 +123,7 @@ pub(crate) fn run_on(
     settings: Settings,
     lines: &[u16],
 ) -> Last
-    requires { ⌜ (Lent (now map) (now image)) × (length (now lines) ≤ 4096) ⌝ }
+    requires { ⌜ (Lent (now map) (now image)) × (length (now lines) ≤ mostLineWords) ⌝ }
     ensures { λ r. ⌜ Spec.Ended settings (now (map .entry)) (now (lines .entry)) s (now (image .entry)) r (now (image .exit)) ⌝ }
 {
     let mut log = [0u16; 32];

@@ -8,7 +8,7 @@ use Rattle.refusal.specs.Numbers.{imageLength, mapLength, mapByte, setup
 use Rattle.refusal.specs.Page.{first}
 
 -- every element passes
-unfoldable pub allOf : (ℕ → Bool) → List ℕ → Bool
+unfoldable pub allOf : {A : Type 0} → (A → Bool) → List A → Bool
 allOf p [] = true
 allOf p (x ∷ xs) = cond (p x) (allOf p xs) false
 
@@ -27,8 +27,12 @@ boardRefusal size map =
     (first (cond (eqb (length map) 256) 0 mapLength)
     (cond (allOf flat map) 0 mapByte))
 
+-- the most line words of a run
+abbrev pub mostLineWords : ℕ
+mostLineWords = 4096
+
 unfoldable pub linesRefusal : List ℕ → ℕ
-linesRefusal lines = first (cond (leb (length lines) 4096) 0 linesLength) (cond (allOf plain lines) 0 lineBit)
+linesRefusal lines = first (cond (leb (length lines) mostLineWords) 0 linesLength) (cond (allOf plain lines) 0 lineBit)
 
 -- the jumpers of the power-up option, those of the halt option, the address register
 abbrev pub jumpersFit : ℕ → ℕ → ℕ → Bool

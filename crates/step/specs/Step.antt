@@ -1,17 +1,13 @@
 -- One step.
 use Prim.Native.Nat.{ℕ, _+_, _*_, _%_}
-use mathlib.Core.Bool.{Bool, true, false, not, _&&_, _||_, cond}
+use mathlib.Core.Bool.{Bool, true, false, not, _&&_, cond}
 use mathlib.Core.List.{List, [], _∷_}
-use mathlib.Core.Path.{_≡_}
 use lib.ListN.{getD}
 use Rattle.board.specs.Work.{Work, give, Came, value, blank, run, _>>=_, _>>_}
-use Rattle.board.specs.Exec.{Store, Lent, Board, undone}
 use Rattle.state.specs.declared.State.{State}
 use Rattle.state.specs.declared.Outside.{Outside}
 use Rattle.state.specs.declared.Settings.{Settings}
 use Rattle.state.specs.declared.Mode.{Mode}
-use Rattle.state.specs.declared.Went.{Went}
-use Rattle.state.specs.declared.Went.the-variants as Went
 use Rattle.state.specs.declared.Mode.the-variants.{Running, Waiting, PowerHalt, SwitchHalt, Locked, Saved}
 use Rattle.state.specs.State.{withPc, withMode, psOf, cleared, heard}
 use Rattle.wordmath.specs.Address.{plus, twice}
@@ -191,6 +187,10 @@ pub record After : Type 0 where
 abbrev pub after : State → List ℕ → Cause → After
 after s m k = record { state = s; image = m; cause = k }
 
+-- a step's answer, with the image
+abbrev pub turnOf : Turn → List ℕ → After
+turnOf r m = after (r .state) m (r .cause)
+
 -- what the work came to, or what is done where it was not answered at a
 abbrev pub orAt : Came State → Cause → (ℕ → After) → After
 orAt (value s m) cause other = after s m cause
@@ -223,36 +223,3 @@ orLocked (blank a) m = up (withMode cleared Locked) m
 
 unfoldable pub powerUpOf : Settings → List ℕ → List ℕ → Up
 powerUpOf settings map m = orLocked (run map (workOf (powerUpOption settings) (heard settings 0) cleared) m) m
-
--- ---- what a step on a board promises
-
-abbrev pub turnOf : Turn → List ℕ → After
-turnOf r m = after (r .state) m (r .cause)
-
-pub record DidStep (map : List ℕ) (a : After) (r : Turn) (st : Store) : Type 0 where
-  pub turn : turnOf r (st .image) ≡ a
-  pub board : Board map st
-
--- and a power-up
-pub record DidPowerUp (map : List ℕ) (u : Up) (s : State) (m : List ℕ) : Type 0 where
-  pub came : up s m ≡ u
-  pub lent : Lent map m
-
--- nothing is asked for: no I3, no I1, no I0
-abbrev pub calm : Outside → Bool
-calm out = not (out .i3 || out .i1 || out .i0)
-
-abbrev pub running : Mode → Bool
-running Running = true
-running Waiting = false
-running PowerHalt = false
-running SwitchHalt = false
-running Locked = false
-running Saved = false
-
--- what an op code's work on a board promises: what it comes to; where it was not answered, the log takes back what was done
-pub record Coded (map : List ℕ) (out : Outside) (s : State) (m : List ℕ) (r : Went) (st : Store) : Type 0 where
-  pub done : {t : State} → r ≡ Went.Done t → run map (opWork out s) m ≡ value t (st .image)
-  pub lost : {a : ℕ} → r ≡ Went.Blank a → run map (opWork out s) m ≡ blank a
-  pub back : {a : ℕ} → r ≡ Went.Blank a → undone st ≡ m
-  pub board : Board map st

@@ -13,6 +13,7 @@ ghost use mathlib.Core.Path.{_≡_};
 ghost use Rattle.board.specs.Exec.{beside, Lent, Board, Saw, undone};
 ghost use Rattle.state.specs.Answer.{Works, wentAs};
 ghost use Rattle.step.specs.Step as Spec;
+ghost use Rattle.step.specs.Inner as Inner;
 
 mod execute;
 pub mod logged;
@@ -320,13 +321,13 @@ pub fn is_code(k: Kind) -> bool
 
 // Nothing is asked for: no I3, no I1, no I0.
 pub fn calm(out: Outside) -> bool
-    ensures { λ r. ⌜ r ≡ Spec.calm out ⌝ }
+    ensures { λ r. ⌜ r ≡ Inner.calm out ⌝ }
 {
     !(out.i3 | out.i1 | out.i0)
 }
 
 fn running(mode: Mode) -> bool
-    ensures { λ r. ⌜ r ≡ Spec.running mode ⌝ }
+    ensures { λ r. ⌜ r ≡ Inner.running mode ⌝ }
 {
     match mode {
         Mode::Running => true,
@@ -340,7 +341,7 @@ fn running(mode: Mode) -> bool
 
 // Is the next step an op code? Where nothing is asked for and the processor runs it is.
 pub fn goes_on(s: State, out: Outside, quiet: bool) -> bool
-    requires { ⌜ quiet ≡ Spec.calm out ⌝ }
+    requires { ⌜ quiet ≡ Inner.calm out ⌝ }
     ensures { λ r. ⌜ r ≡ Spec.isCode (Spec.kindOf s out) ⌝ }
 {
     let mode = s.mode;
@@ -424,7 +425,7 @@ pub fn error(
     a: u16,
 ) -> Turn
     requires { ⌜ Board (now map) (beside (now image) (now log)) ⌝ }
-    ensures { λ r. ⌜ Spec.DidStep (now (map .entry)) (Spec.errorOf (now (map .entry)) k out s (undone (beside (now (image .entry)) (now (log .entry)))) a) r (beside (now (image .exit)) (now (log .exit))) ⌝ }
+    ensures { λ r. ⌜ Inner.DidStep (now (map .entry)) (Spec.errorOf (now (map .entry)) k out s (undone (beside (now (image .entry)) (now (log .entry)))) a) r (beside (now (image .exit)) (now (log .exit))) ⌝ }
 {
     logged::dropped(s, image, map, log, out, k, a)
 }
@@ -432,7 +433,7 @@ pub fn error(
 // The work of a step that is an op code, with a log that may hold an earlier step's entries.
 pub fn op_code(s: State, image: &mut [u8], map: &[u8], log: &mut [u16; 32], out: Outside) -> Went
     requires { ⌜ Board (now map) (beside (now image) (now log)) ⌝ }
-    ensures { λ r. ⌜ Spec.Coded (now (map .entry)) out s (now (image .entry)) r (beside (now (image .exit)) (now (log .exit))) ⌝ }
+    ensures { λ r. ⌜ Inner.Coded (now (map .entry)) out s (now (image .entry)) r (beside (now (image .exit)) (now (log .exit))) ⌝ }
 {
     board::clear(log);
     op_work(s, image, map, log, out)
@@ -448,7 +449,7 @@ pub fn other(
     k: Kind,
 ) -> Turn
     requires { ⌜ (Board (now map) (beside (now image) (now log))) × (k ≡ Spec.kindOf s out) × (Spec.isCode k ≡ false) ⌝ }
-    ensures { λ r. ⌜ Spec.DidStep (now (map .entry)) (Spec.stepOf (now (map .entry)) out s (now (image .entry))) r (beside (now (image .exit)) (now (log .exit))) ⌝ }
+    ensures { λ r. ⌜ Inner.DidStep (now (map .entry)) (Spec.stepOf (now (map .entry)) out s (now (image .entry))) r (beside (now (image .exit)) (now (log .exit))) ⌝ }
 {
     board::clear(log);
     match seldom(s, image, map, log, out, k) {
@@ -463,7 +464,7 @@ pub fn other(
 // The option's work on a cleared state and a quiet line; where it is not answered all of it is dropped, and the processor is locked.
 pub fn power(image: &mut [u8], map: &[u8], settings: Settings) -> State
     requires { ⌜ Lent (now map) (now image) ⌝ }
-    ensures { λ r. ⌜ Spec.DidPowerUp (now (map .entry)) (Spec.powerUpOf settings (now (map .entry)) (now (image .entry))) r (now (image .exit)) ⌝ }
+    ensures { λ r. ⌜ Inner.DidPowerUp (now (map .entry)) (Spec.powerUpOf settings (now (map .entry)) (now (image .entry))) r (now (image .exit)) ⌝ }
 {
     let mut log = [0u16; 32];
     let s = state::cleared();

@@ -22,8 +22,9 @@ use Rattle.machine.specs.Trail.{trailOf, lastAfter}
 use Rattle.trace.specs.declared.Verdict.{Verdict}
 use Rattle.trace.specs.declared.Verdict.the-variants.{Accepted, Wrong, Missing, Extra}
 use Rattle.trace.specs.Trace.{entryOf, entriesOf, joined, fieldsFrom, entriesFrom, toldIn, whyTrace, orElse, firstWrong, compared}
-use Rattle.trace.proofs.Laws.Bytes.{bytes-append, bytes-length, right-ten}
+use Rattle.trace.proofs.Laws.Bytes.{bytes-append, right-ten}
 use Rattle.trace.specs.Walk.{toldFrom, stepVerdict, stepped, trail, imageOn, upAfter}
+use Rattle.wordbytes.proofs.Laws.{bytes-length}
 
 -- ---- a trace that is cut, and one that is whole
 

@@ -146,11 +146,11 @@ madePage (Made.Bytes n) = answered n
 madePage (Made.Refused why) = refused why
 
 -- 10: fewer bytes are lent than the longest trace has, of 4,096 entries
-abbrev pub longest : ℕ
-longest = 81922
+abbrev pub longestTrace : ℕ
+longestTrace = 81922
 
 abbrev pub whyMake : List ℕ → ℕ → ℕ → ℕ → ℕ → ℕ
-whyMake input out image map lines = first (whyRead image map lines input) (cond (leb longest out) 0 outputShort)
+whyMake input out image map lines = first (whyRead image map lines input) (cond (leb longestTrace out) 0 outputShort)
 
 -- the right trace goes to the front of the lent bytes, the rest of them stays; the number of its bytes is answered
 abbrev pub madeOf : List ℕ → List ℕ → Left ℕ (List ℕ × List ℕ × List ℕ × List ℕ)

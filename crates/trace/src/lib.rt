@@ -41,8 +41,11 @@ pub enum Made {
     Refused(u8),
 }
 
-// The bytes of the longest trace, of 4,096 entries.
-const LONGEST: usize = 81922;
+// The bytes of the longest trace of a job, of 4,096 entries.
+pub const LONGEST_TRACE: usize = 81922;
+
+// What is read of a trace: the longest that can be counted has 1,310,702 bytes, and one byte more shows that there are bytes left over.
+pub const READ_OF_TRACE: usize = 1310703;
 
 // ---- the right trace
 
@@ -285,7 +288,7 @@ pub fn make(
     if why != 0 {
         return Made::Refused(why);
     }
-    if out.len() < LONGEST {
+    if out.len() < LONGEST_TRACE {
         return Made::Refused(number::OUTPUT_SHORT);
     }
     let begun = begin(input, image, map, lines);

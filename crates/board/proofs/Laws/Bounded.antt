@@ -20,14 +20,14 @@ abbrev pub shownOf : {A : Type 0} → Now A → Came A
 shownOf (good x st) = value x (st .image)
 shownOf (gone a st) = blank a
 
-more : {A : Type 0} {n k : ℕ} {w : Work A} → n ≤ k → Bounded n w → Bounded k w
-more l (gives x) = gives x
-more l (reads z a h) = reads z a (λ v. more l (h v))
-more {k = k} l (writes z a v p h) = writes {n = k} z a v (omega arith) (more (omega arith) h)
+pub bounded-more : {A : Type 0} {n k : ℕ} {w : Work A} → n ≤ k → Bounded n w → Bounded k w
+bounded-more l (gives x) = gives x
+bounded-more l (reads z a h) = reads z a (λ v. bounded-more l (h v))
+bounded-more {k = k} l (writes z a v p h) = writes {n = k} z a v (omega arith) (bounded-more (omega arith) h)
 
 pub bounded-then : {A B : Type 0} {n k m : ℕ} {w : Work A} {f : A → Work B} → n + k ≤ m → Bounded n w → ((x : A) → Bounded k (f x)) → Bounded m (w >>= f)
 unfolding _>>=_
-bounded-then l (gives x) g = more (omega arith) (g x)
+bounded-then l (gives x) g = bounded-more (omega arith) (g x)
 bounded-then l (reads z a h) g = reads z a (λ v. bounded-then l (h v) g)
 bounded-then {m = m} l (writes z a v p h) g = writes {n = m} z a v (omega arith) (bounded-then (omega arith) h g)
 
@@ -47,9 +47,6 @@ exec-is-run map (reads z a g) st b h = shown-allowed (fitted map a) a st _ _ (λ
 exec-is-run map (writes z a v p g) st b h =
     let e = has-room (st .log) (omega arith) in
     shown-allowed (writable map a) a st _ _ (λ _. rw e (exec-is-run map g (withNote z a v st) (board-noted z a v st e b) (rw (count-note (st .log) a (imageWord (st .image) a) (b .whole)) (omega arith))))
-
-pub bounded-more : {A : Type 0} {n k : ℕ} {w : Work A} → n ≤ k → Bounded n w → Bounded k w
-bounded-more l h = more l h
 
 pub bounded-load : {n : ℕ} (z : Size) (a : ℕ) → Bounded n (readAt z a (λ v. give v))
 bounded-load z a = reads z a (λ v. gives v)

@@ -26,12 +26,9 @@ use Rattle.machine.specs.Until.{ends, stepsTo, stopPage, stoppedPage, stopped, 
 use Rattle.machine.proofs.Laws.Alike as Alike
 use Rattle.machine.proofs.Laws.Alike.{EndsAlike, run-alike, imageAtEnd, run-untouched}
 use Rattle.machine.proofs.Laws.Back.{firstBack, first-back, turn-one}
-use Rattle.machine.proofs.Laws.Blind.{SameLeft, call-same, call-untouched}
+use Rattle.machine.proofs.Laws.Blind.{SameLeft, call-same, call-untouched, ended-same}
 
 -- ---- over one line word
-
-ended-same : {map : List ℕ} {x y : End} → EndsAlike map x y → SameLeft map (runEnd x) (runEnd y)
-ended-same (Alike.ends g) = record { page = refl; agree = g }
 
 ended-kept : (map m : List ℕ) (x : End) → Untouched map m (imageAtEnd x) → Untouched map m (runEnd x .lent)
 ended-kept map m (end t n y) h = h

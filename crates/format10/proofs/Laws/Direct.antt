@@ -13,7 +13,7 @@ use Rattle.opcodes.specs.declared.ByteBinary.the-variants.{Movb}
 use Rattle.opcodes.specs.Codes.{binaryAt, byteBinaryAt}
 use Rattle.wordmath.specs.Address.{minus}
 use Rattle.board.specs.Work.{Work, give, Size, word, byte, fitted, writable, get, _>>=_, _>>_}
-use Rattle.board.specs.Exec.{Store, Now, good, gone, and, exec, Got}
+use Rattle.board.specs.Exec.{Store, Now, good, gone, exec, Got}
 use Rattle.board.proofs.Laws.{got-then, got-gone, got-as, got-give, got-read, got-unread, got-lost}
 use Rattle.board.proofs.Laws.Alike.{unfitted-unwritable}
 use Rattle.state.specs.declared.State.{State}
@@ -26,7 +26,6 @@ use Rattle.format10.specs.Format10.{binaryNumber, binaryCode, byteCode, 
 
 -- a write to an operand in memory whose page isn't fitted
 unwritten : (map : List ℕ) (z : Size) (s : State) (k a which w v : ℕ) {st : Store} → fitted map a ≡ false → exec map (writeTo z s k (Mem a which w) v) st ≡ gone a st
-unfolding and
 unwritten map z s k a which w v e = sym (not-left z s k a which w v (got-lost z a (rw (unfitted-unwritable map a e))) refl .came)
 
 module _ {map : List ℕ} {st : Store} (z : Size) (s : State) (mode k : ℕ) (F : Holding → Work State) (W : Work State) (u : State) (v : ℕ) where

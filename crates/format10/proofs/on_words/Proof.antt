@@ -4,7 +4,8 @@ use Rattle.board.proofs.Laws.{got-then, got-gone, did, word-is, word-none}
 use Rattle.state.proofs.Laws.Answer.{went-none, went-store}
 use Rattle.operand.proofs.Laws.Operand.{found-lost}
 use Rattle.operand.proofs.Laws.Destination.{never-found, never-read, held}
-use Rattle.format10.specs.Format10.{onOperands, onto}
+use Rattle.format10.specs.Format10.{onOperands}
+use Rattle.format10.specs.Inner.{onto}
 use borrow.Author.Needs.{needs}
 use Rattle.format10.proofs.on_words.Statement.{statement}
 use Rattle.format10.proofs.on_words.Tie as tie

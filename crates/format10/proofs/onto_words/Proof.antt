@@ -5,7 +5,7 @@ use Rattle.state.proofs.Laws.Answer.{went-none, went-store}
 use Rattle.operand.proofs.Laws.Operand.{located, decoded, found-lost}
 use Rattle.operand.proofs.Laws.Destination.{never-found, never-read, held}
 use Rattle.opcodes.specs.declared.Binary.the-variants.{Mov}
-use Rattle.format10.specs.Format10.{onto}
+use Rattle.format10.specs.Inner.{onto}
 use Rattle.format10.proofs.Laws.Format10.{settle-yes}
 use Rattle.format10.proofs.Laws.Direct.{placed, mov-code, word-there}
 use borrow.Author.Needs.{needs}

@@ -1,11 +1,12 @@
 -- How often each op code of formats 1 to 4 writes, at most.
 use Prim.Native.Nat.{ℕ}
 use native.Mathlib.Omega.{arith}
-use lib.Dec.{eqb, ltb}
+use lib.Dec.{ltb}
 use Rattle.opcodes.specs.Fields.{format2Code, format4Code}
+use Rattle.wordmath.specs.Address.{minus}
 use Rattle.board.specs.Work.{word}
 use Rattle.board.proofs.Laws.Bounded.{Bounded, gives}
-use Rattle.board.proofs.Laws.Bounded.{bounded-then, bounded-load, bounded-store, bounded-more}
+use Rattle.board.proofs.Laws.Bounded.{bounded-then, bounded-load, bounded-store, bounded-more, bounded-getD, none, also}
 use Rattle.state.specs.declared.State.{State}
 use Rattle.state.specs.declared.Outside.{Outside}
 use Rattle.state.proofs.Laws.Bounds.{bounded-cond, bounded-push, bounded-popReg, bounded-fromLoc, bounded-pushBoth, bounded-tabled}
@@ -17,10 +18,13 @@ use Rattle.formats2to4.specs.Low.{formats2to4, lowCodes}
 bounded-format2 : (out : Outside) (s : State) (op : ℕ) → Bounded 9 (format2 out s op)
 unfolding format2 rtn msko prtn
 bounded-format2 out s op =
-    bounded-cond (eqb (format2Code op) 2) (gives _)
-    (bounded-cond (eqb (format2Code op) 3) (bounded-more (omega arith) (bounded-popReg _ _))
-    (bounded-cond (eqb (format2Code op) 4) (bounded-then {k = 0} (omega arith) (bounded-store word _ _) (λ _. gives _))
-    (bounded-then {k = 0} (omega arith) (bounded-load {n = 0} word _) (λ tmp. bounded-popReg _ _))))
+    bounded-getD (minus (format2Code op) 2)
+    (also (gives _)
+    (also (bounded-more (omega arith) (bounded-popReg _ _))
+    (also (bounded-then {k = 0} (omega arith) (bounded-store word _ _) (λ _. gives _))
+    (also (bounded-then {k = 0} (omega arith) (bounded-load {n = 0} word _) (λ tmp. bounded-popReg _ _))
+    none))))
+    (bounded-then {k = 0} (omega arith) (bounded-load {n = 0} word _) (λ tmp. bounded-popReg _ _))
 
 bounded-svca : (out : Outside) (s : State) (n : ℕ) → Bounded 2 (svca out s n)
 unfolding svca
@@ -40,8 +44,12 @@ bounded-svc out s n at =
 bounded-format4 : (out : Outside) (s : State) (op : ℕ) → Bounded 9 (format4 out s op)
 unfolding format4
 bounded-format4 out s op =
-    bounded-cond (eqb (format4Code op) 1) (bounded-more (omega arith) (bounded-svca out s _))
-    (bounded-cond (eqb (format4Code op) 2) (bounded-svc out s _ _) (bounded-svc out s _ _))
+    bounded-getD (minus (format4Code op) 1)
+    (also (bounded-more (omega arith) (bounded-svca out s _))
+    (also (bounded-svc out s _ _)
+    (also (bounded-svc out s _ _)
+    none)))
+    (bounded-svc out s _ _)
 
 -- an op code of formats 1 to 4 writes at most nine times: SVCB and SVCC
 pub bounded-lowCodes : (out : Outside) (s : State) (op : ℕ) → Bounded 9 (lowCodes out s op)

@@ -14,6 +14,7 @@ use Rattle.refusal.proofs.Laws.Page.{first-both}
 use Rattle.refusal.specs.Refusal.{allOf, flat, plain, boardRefusal, jumpersFit, powerRefusal, linesRefusal, runRefusal}
 use Rattle.job.specs.declared.Section.the-variants as section
 use Rattle.job.specs.Job.{sections, entrySize, cut, whyEntry, whyEntries, whyCount, whySections, whyJob, wordsStored, listed, marked, readOnlyAt, wordsSection, linesAt, imageOf, mapOf, linesOf, lineWords, whyRead}
+use Rattle.refusal.proofs.Laws.Refusal.{all-take}
 
 -- ---- a test that every element passes
 
@@ -30,12 +31,6 @@ unfolding allOf
 all-set p [] k v h e = refl
 all-set p (x ∷ xs) zero v h e = all-cons p v xs h (all-head (p x) (allOf p xs) e .1)
 all-set p (x ∷ xs) (suc k) v h e = all-cons p x (set xs k v) (all-head (p x) (allOf p xs) e .0) (all-set p xs k v h (all-head (p x) (allOf p xs) e .1))
-
-all-take : (p : ℕ → Bool) (n : ℕ) (l : List ℕ) → allOf p l ≡ true → allOf p (take n l) ≡ true
-unfolding allOf
-all-take p zero l e = refl
-all-take p (suc n) [] e = refl
-all-take p (suc n) (x ∷ xs) e = all-cons p x (take n xs) (all-head (p x) (allOf p xs) e .0) (all-take p n xs (all-head (p x) (allOf p xs) e .1))
 
 all-same : (p : ℕ → Bool) (n v : ℕ) → p v ≡ true → allOf p (replicate n v) ≡ true
 unfolding allOf

@@ -17,12 +17,9 @@ use Rattle.machine.specs.Trail.{trailOf, lastAfter}
 use Rattle.machine.specs.Counted.{tallyJoined}
 use Rattle.machine.proofs.Laws.Counted.{rest-trail, run-trail}
 use Rattle.laws.proofs.Laws.Taken.{ran-is}
+use Rattle.machine.proofs.Laws.Same.{behindSteps, restOn}
 
 -- ---- a run that goes on
-
--- an end, with the tally of n steps before it
-abbrev pub behindSteps : ℕ → Tally → End → End
-behindSteps n t (end s m u) = end s m (tallyJoined n t u)
 
 -- after n steps that ended so, the run over the lines that follow
 abbrev pub goOn : Settings → List ℕ → ℕ → List ℕ → End → End
@@ -39,9 +36,6 @@ trail-append settings map [] ys s m c = refl
 trail-append settings map (x ∷ xs) ys s m c =
     let a = stepOf map (heard settings x) s m in
     ap (λ z. a ∷ z) (trail-append settings map xs ys (a .state) (a .image) (a .cause))
-
-abbrev restOn : Settings → List ℕ → ℕ → List ℕ → End → End
-restOn settings map n lines (end s m t) = restOfRun settings map n lines s m t
 
 rest-behind : (settings : Settings) (map : List ℕ) (n : ℕ) (lines : List ℕ) (s : State) (m : List ℕ) (t : Tally) → restOfRun settings map n lines s m t ≡ behindSteps n t (runOf settings map lines s m)
 rest-behind settings map n lines s m t = rest-trail settings map n lines s m t Cause.Nothing ∙ ap (behindSteps n t) (sym (run-trail settings map lines s m Cause.Nothing))

@@ -15,7 +15,7 @@ use Rattle.refusal.specs.Numbers.{lineBit}
 use Rattle.refusal.specs.Page.{Page, refused, answered, Left, left}
 use Rattle.refusal.specs.Refusal.{allOf, plain, powerRefusal, stepRefusal}
 use Rattle.refusal.proofs.Laws.Page.{first-both, apart, answered-one}
-use Rattle.refusal.proofs.Laws.Refusal.{cond-none}
+use Rattle.refusal.proofs.Laws.Refusal.{cond-none, all-take}
 use Rattle.machine.specs.declared.Ran.{Ran}
 use Rattle.machine.specs.declared.Finished.{Finished}
 use Rattle.machine.specs.declared.Finished.the-variants as Finished
@@ -149,16 +149,6 @@ module _ (settings : Settings) (map : List ℕ) (u : Until) where
       last-by a d (trailOf settings map xs (a .state) (a .image)) (stepsTo settings map u xs (a .state) (a .image)) (length xs) k (endsAfter u a) refl (steps-some xs (a .state) (a .image)) (steps-last xs (a .state) (a .image) d) h g
 
 -- the first line words of a list that isn't refused
-all-take : (p : ℕ → Bool) (n : ℕ) (xs : List ℕ) → allOf p xs ≡ true → allOf p (take n xs) ≡ true
-unfolding allOf
-all-take p zero xs e = refl
-all-take p (suc n) [] e = refl
-all-take p (suc n) (x ∷ xs) e = split (p x) (all-take p n xs) e
-  where
-    split : (b : Bool) → (allOf p xs ≡ true → allOf p (take n xs) ≡ true) → cond b (allOf p xs) false ≡ true → cond b (allOf p (take n xs)) false ≡ true
-    split true h e = h e
-    split false h e = e
-
 take-short : (n : ℕ) (xs : List ℕ) → length (take n xs) ≤ length xs
 take-short n xs = simp length-take (omega arith)
 

@@ -39,6 +39,7 @@ use Rattle.laws.proofs.Laws.More.{SoundStep}
 use Rattle.laws.proofs.Laws.More.{plugged-one, plugged-more, step-more, trail-more, run-more, none-first}
 use Rattle.endline.specs.Report.{benchBoard}
 use Rattle.laws.specs.Cards.{Plugged, Sound, bareRack, card, image, before, ranIn, endSeen, heals, spares, RunPlugged, StepPlugged, Wd16StepPlugged, Wd16RunPlugged, BothSuffice, BlankNeeded, LockNeeded}
+use Rattle.machine.proofs.Laws.Alike.{imageAtEnd}
 
 -- ---- A RUN
 
@@ -93,7 +94,7 @@ wd16-step-plugged b m map big w line k b₁ m₁ b₂ m₂ p h e five six nine f
     f ∙ step-call-is b m big w line (free .0) (step-taken settings m map big line h (free .1)) ∙ ap steppedIn (step-more map (heard settings line) (stateFrom b) m big (plugged-more map big p) sound) ∙ sym left₁ in
     (ap (λ z. z .number) left₂, ap (λ z. z .lent .0) left₂, ap (λ z. z .lent .1) left₂)
 
-done-one : {a b : Ran} → Finished.Done a ≡ Finished.Done b → a ≡ b
+pub done-one : {a b : Ran} → Finished.Done a ≡ Finished.Done b → a ≡ b
 done-one {a} {b} e = cc
 
 same-bytes : (a c : Ran) {b₁ b₂ t₁ t₂ : List ℕ} → c ≡ a → b₁ ≡ stateBytes (statePage (a .state)) 0 nowhere → b₂ ≡ stateBytes (statePage (c .state)) 0 nowhere → t₁ ≡ bytesFor a → t₂ ≡ bytesFor c → (b₂ ≡ b₁) × (t₂ ≡ t₁)
@@ -115,9 +116,6 @@ wd16-run-plugged b t t′ m map big w lines k b₁ t₁ m₁ b₂ t₂ m₂ p h 
     (two .0, bytes .0, bytes .1, same .image)
 
 -- ---- WHY BOTH CONDITIONS ARE NEEDED
-
-abbrev imageIn : End → List ℕ
-imageIn (end s m t) = m
 
 blank-row : endSeen (ranIn (heals bareRack)) ≡ 0x200 ∷ 0x1fc ∷ 0 ∷ 1 ∷ []
 unfolding restOfRun blankNoted stepOf errorOf kindIn haltOption workOf vectored busError run fitted writable even imageWord withWord _>>=_ regOf setReg reg withReg withI2 withMode withMark cleared psOf push fromLoc pushBoth trap tabled
@@ -155,13 +153,13 @@ card-taken m l = rw l
 
 -- what a run over one line word that isn't refused answers and leaves
 met : (map : List ℕ) (line : ℕ) (s : State) (m : List ℕ) → powerWhy benchBoard m map ≡ 0 → plain line ≡ true
-    → (let x = runOf benchBoard map (line ∷ []) s m in left (finishedPage (Finished.Done (ranIn x))) (imageIn x) ≡ runPage benchBoard m map (line ∷ []) s)
+    → (let x = runOf benchBoard map (line ∷ []) s m in left (finishedPage (Finished.Done (ranIn x))) (imageAtEnd x) ≡ runPage benchBoard m map (line ∷ []) s)
 unfolding allOf
 met map line s m e h =
     let x = runOf benchBoard map (line ∷ []) s m in
-    run-answered benchBoard m map (line ∷ []) s (ranIn x) (imageIn x) (taken-run benchBoard m map (line ∷ []) (record { board = e; few = omega arith; unused = rw h })) (whole x)
+    run-answered benchBoard m map (line ∷ []) s (ranIn x) (imageAtEnd x) (taken-run benchBoard m map (line ∷ []) (record { board = e; few = omega arith; unused = rw h })) (whole x)
   where
-    whole : (x : End) → ranOf (ranIn x) (imageIn x) ≡ x
+    whole : (x : End) → ranOf (ranIn x) (imageAtEnd x) ≡ x
     whole (end t n y) = refl
 
 -- by the rows
@@ -183,7 +181,7 @@ apart a b c d e f g h x y p q r = cc
 pub blank-needed : BlankNeeded
 blank-needed law =
     let same : Finished.Done (ranIn (heals card)) ≡ Finished.Done (ranIn (heals bareRack)) =
-    law benchBoard bareRack card (1 ∷ []) (before 0x200) image (imageIn (heals bareRack)) (imageIn (heals card)) (ranIn (heals bareRack)) (Finished.Done (ranIn (heals card)))
+    law benchBoard bareRack card (1 ∷ []) (before 0x200) image (imageAtEnd (heals bareRack)) (imageAtEnd (heals card)) (ranIn (heals bareRack)) (Finished.Done (ranIn (heals card)))
     plugged (card-taken image image-size) not-locked
     (met bareRack 1 (before 0x200) image (bare-taken image image-size) refl) (met card 1 (before 0x200) image (card-taken image image-size) refl) in
     let pc : _≡_ {A = ℕ} 0x200 0x400 = apart _ _ _ _ _ _ _ _ _ _ blank-row healed-row (ap seenIn same) in
@@ -192,7 +190,7 @@ blank-needed law =
 pub lock-needed : LockNeeded
 lock-needed law =
     let same : Finished.Done (ranIn (spares card)) ≡ Finished.Done (ranIn (spares bareRack)) =
-    law benchBoard bareRack card (2 ∷ []) (before 0x500) image (imageIn (spares bareRack)) (imageIn (spares card)) (ranIn (spares bareRack)) (Finished.Done (ranIn (spares card)))
+    law benchBoard bareRack card (2 ∷ []) (before 0x500) image (imageAtEnd (spares bareRack)) (imageAtEnd (spares card)) (ranIn (spares bareRack)) (Finished.Done (ranIn (spares card)))
     plugged (card-taken image image-size) no-blanks
     (met bareRack 2 (before 0x500) image (bare-taken image image-size) refl) (met card 2 (before 0x500) image (card-taken image image-size) refl) in
     let pc : _≡_ {A = ℕ} 0x100 0x300 = apart _ _ _ _ _ _ _ _ _ _ locked-row spared-row (ap seenIn same) in

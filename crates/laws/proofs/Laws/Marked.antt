@@ -2,7 +2,7 @@
 use Prim.Native.Nat.{ℕ, zero, suc, _/_, _<_}
 use native.Mathlib.Omega.{arith}
 use Rattle.opcodes.proofs.Laws.Past.{Below, below}
-use mathlib.Core.Bool.{Bool, true, false, not, _&&_, cond}
+use mathlib.Core.Bool.{Bool, true, false, not, _&&_, cond, and-false}
 use mathlib.Core.List.{List, [], _∷_}
 use mathlib.Core.Path.{_≡_, refl, sym, ap, _∙_, subst}
 use lib.Dec.{eqb, ltb}
@@ -31,8 +31,8 @@ use Rattle.operand.specs.Operand.{Decoded, moved, decode, writeTo}
 use Rattle.operand.specs.Destination.{Holding, operandOf, destination}
 use Rattle.format1.specs.Format1.{xctError, bpt, pushThree, popThree, save, savs, rest, rtt, rrtn, rrtt, rsts, rsvc, format1}
 use Rattle.formats2to4.specs.Low.{formats2to4, lowCodes}
-use Rattle.formats2to4.specs.Format2.{rtn, msko, prtn, lcc, format2}
-use Rattle.formats2to4.specs.Format4.{svca, svc, format4}
+use Rattle.formats2to4.specs.Format2.{rtn, msko, prtn, codes2, lcc, format2}
+use Rattle.formats2to4.specs.Format4.{svca, svc, codes4, format4}
 use Rattle.formats5to6.specs.Format5.{branchNumber, branch}
 use Rattle.formats5to6.specs.Format6.{immediate, single, double, format6}
 use Rattle.format7.specs.Format7.{tcall, tjmp, lsts, ssts, format7}
@@ -104,17 +104,14 @@ unfolding Always tabled _>>=_ withReg
 tabled-unmarked s at e = λ v. e
 
 two-unmarked : (out : Outside) (s : State) (op : ℕ) → Unmarked s → Always Unmarked (format2 out s op)
-unfolding Always format2 rtn msko prtn popReg _>>=_ withReg
+unfolding Always AlwaysEach format2 rtn msko prtn popReg _>>=_ withReg
 two-unmarked out s op e =
-    always-cond Unmarked (eqb (format2Code op) 2) _ _ e
-    (always-cond Unmarked (eqb (format2Code op) 3) (rtn s (onlyRegister op)) _ (λ v. e)
-    (always-cond Unmarked (eqb (format2Code op) 4) (msko s (onlyRegister op)) (prtn s (onlyRegister op)) e (λ v w. e)))
+    always-pick Unmarked (codes2 out s (onlyRegister op)) (minus (format2Code op) 2) (prtn s (onlyRegister op)) (e, ((λ v. e), (e, ((λ v w. e), tt)))) (λ v w. e)
 
 four-unmarked : (out : Outside) (s : State) (op : ℕ) → Unmarked s → Always Unmarked (format4 out s op)
-unfolding Always format4 svca svc save pushThree pushReg push pushBoth fromLoc tabled _>>=_ withReg
+unfolding Always AlwaysEach format4 svca svc save pushThree pushReg push pushBoth fromLoc tabled _>>=_ withReg
 four-unmarked out s op e =
-    always-cond Unmarked (eqb (format4Code op) 1) (svca out s (argument op)) _ (λ v w. e)
-    (always-cond Unmarked (eqb (format4Code op) 2) (svc out s (argument op) 0x24) (svc out s (argument op) 0x26) (λ v. e) (λ v. e))
+    always-pick Unmarked (codes4 out s (argument op)) (minus (format4Code op) 1) (svc out s (argument op) 0x26) ((λ v w. e), ((λ v. e), ((λ v. e), tt))) (λ v. e)
 
 low-unmarked : (out : Outside) (s : State) (op : ℕ) → Unmarked s → Always Unmarked (formats2to4 out s op)
 unfolding Always formats2to4 withFlags
@@ -583,12 +580,8 @@ deaf SwitchHalt out = one-of isInterrupt false (out .i3) _ Waits (options (out .
 deaf Locked out = refl
 deaf Saved out = one-of isInterrupt false (out .i3) Waits Restores refl refl
 
-and-no : (b : Bool) → (b && false) ≡ false
-and-no true = refl
-and-no false = refl
-
 marked-deaf : (s : State) (out : Outside) → s .mark ≡ true → isInterrupt (kindOf s out) ≡ false
-marked-deaf s out e = ap (λ z. isInterrupt (kindIn (s .mode) z out)) (ap (λ z. s .i2 && not z) e ∙ and-no (s .i2)) ∙ deaf (s .mode) out
+marked-deaf s out e = ap (λ z. isInterrupt (kindIn (s .mode) z out)) (ap (λ z. s .i2 && not z) e ∙ and-false (s .i2)) ∙ deaf (s .mode) out
 
 -- no interrupt's cause without its kind
 no-interrupt : (k : Kind) → isInterrupt k ≡ false → (fromInterrupt (causeOf k) ≡ false) × ((a : ℕ) → fromInterrupt (errorCauseOf k a) ≡ false)

@@ -45,7 +45,7 @@ use Rattle.machine.proofs.Laws.Answered.{run-done}
 use Rattle.machine_c.specs.Layout.{stateFrom, settingsFrom}
 use Rattle.machine_c.proofs.Laws.Again.{state-again}
 use Rattle.machine.specs.Numbers.{nowhere}
-use Rattle.laws.proofs.Laws.Append.{behindSteps, goOn, run-append}
+use Rattle.laws.proofs.Laws.Append.{goOn, run-append}
 use Rattle.laws.proofs.Laws.Taken.{ran-is}
 use Rattle.laws.proofs.Laws.Calls.{call-answered, run-not-refused, step-done, cause-0, cause-5}
 use Rattle.laws.proofs.Laws.Always.{Always, always-value, run-split}
@@ -54,6 +54,9 @@ use Rattle.laws.proofs.Laws.Marked.{code-work}
 use Rattle.laws.proofs.Laws.Mark.{turn-is}
 use Rattle.laws.specs.Moves.{RunsOn, LentRuns, quiet, Moves, RunMoves, RunsMove, Wd16RunsMove, ElementDropped, opened, OneElement, XctElement, Wd16ElementDropped, Wd16XctElement}
 use Rattle.laws.specs.Moves as Spec
+use Rattle.step.proofs.Laws.Block.{executes}
+use Rattle.machine.proofs.Laws.Alike.{imageAtEnd}
+use Rattle.machine.proofs.Laws.Same.{behindSteps}
 
 -- ---- quiet lines
 
@@ -113,9 +116,6 @@ runs-end settings map s m lines k s′ m′ (Spec.RunsOn.runs xs ys {blanks = j}
 abbrev stateIn : End → State
 stateIn (end s m t) = s
 
-abbrev imageIn : End → List ℕ
-imageIn (end s m t) = m
-
 abbrev blanksOf : End → ℕ
 blanksOf (end s m t) = t .blanks
 
@@ -123,7 +123,7 @@ pub runs-move : RunsMove
 runs-move settings map op lines s m k s′ m′ w r =
     let x = runs-end settings map s m lines k s′ m′ r in
     let same = sym (x .is) ∙ move-end settings map op lines s m w in
-    (ap stateIn same, ap imageIn same, sym (x .blanks) ∙ ap blanksOf same)
+    (ap stateIn same, ap imageAtEnd same, sym (x .blanks) ∙ ap blanksOf same)
 
 -- ---- for C
 
@@ -223,10 +223,6 @@ eight-is op h = elim (ℕ-discrete (op / 256) 14) [ yes e ↦ at (op / 256) 14 e
   where
     at : (a b : ℕ) → a ≡ b → formatOf b ≡ 8 → formatOf a ≡ 8
     at a b e q = rw e q
-
-pub executes : (out : Outside) (s : State) (op : ℕ) → out .settings .blocks ≡ true → op / 512 ≡ 7 → execute out s op ≡ format8 s op
-unfolding byFormat
-executes out s op e h = rw (eight-is op h, e)
 
 chosen-eight : (out : Outside) (s : State) (op : ℕ) → out .settings .blocks ≡ true → op / 512 ≡ 7 → chosen out s op ≡ code s op true
 unfolding trapsAlone

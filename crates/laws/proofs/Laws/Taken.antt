@@ -26,6 +26,7 @@ use Rattle.machine.proofs.Laws.Counted.{run-trail}
 use Rattle.machine.specs.Entry.{powerWhy, runWhy, finishedPage, runEnd, runPage, stepWhy, turned, stepPage}
 use Rattle.machine.proofs.Laws.Answered.{run-done}
 use Rattle.laws.proofs.Laws.Sizes.{trail-size}
+use Rattle.machine.proofs.Laws.Alike.{imageAtEnd}
 
 -- ---- what isn't refused: the settings, the map and the image; a list of at most 4,096 words, none with an unused bit
 
@@ -73,13 +74,10 @@ module _ (settings : Settings) (m map lines : List ℕ) (s : State) where
       sizeOf (end t k y) = length k
 
 pub ran-is : {a : Ran} {n k : List ℕ} {t : State} {y : Tally} → ranOf a n ≡ end t k y → (a ≡ record { state = t; tally = y }) × (n ≡ k)
-ran-is e = (ap ranIn e, ap imageIn e)
+ran-is e = (ap ranIn e, ap imageAtEnd e)
   where
     ranIn : End → Ran
     ranIn (end t k y) = record { state = t; tally = y }
-
-    imageIn : End → List ℕ
-    imageIn (end t k y) = k
 
 -- ---- a step
 

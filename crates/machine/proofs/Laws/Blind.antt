@@ -21,7 +21,7 @@ pub record SameLeft {A : Type 0} (map : List ℕ) (x y : Left A (List ℕ)) : Ty
   pub page : x .page ≡ y .page
   pub agree : Agree map (x .lent) (y .lent)
 
-ended-same : {map : List ℕ} {x y : End} → EndsAlike map x y → SameLeft map (runEnd x) (runEnd y)
+pub ended-same : {map : List ℕ} {x y : End} → EndsAlike map x y → SameLeft map (runEnd x) (runEnd y)
 ended-same (ends g) = record { page = refl; agree = g }
 
 turned-same : {map : List ℕ} {x y : After} → Same map x y → SameLeft map (turned x) (turned y)

@@ -13,7 +13,8 @@ use Rattle.state.specs.State.{heard}
 use Rattle.machine.specs.declared.Tally.{Tally}
 use Rattle.step.specs.declared.Cause.{Cause}
 use Rattle.step.specs.declared.Cause.the-variants as Cause
-use Rattle.step.specs.Step.{stepOf, After, after, blankAt, calm}
+use Rattle.step.specs.Step.{stepOf, After, after, blankAt}
+use Rattle.step.specs.Inner.{calm}
 use Rattle.machine.specs.Run.{blankNoted, End, end, restOfRun, runOf, lastCause}
 
 rest-cons : (settings : Settings) (map : List ℕ) (i x : ℕ) (xs : List ℕ) (s : State) (m : List ℕ) (t : Tally)

@@ -66,13 +66,13 @@ joined-tallied {n = n} {k = k} {t = t} {u = u} h g = record { few = omega (arith
 
 -- ---- a part, behind n steps
 
-abbrev behind : ℕ → Tally → End → End
-behind n t (end s m u) = end s m (tallyJoined n t u)
+abbrev pub behindSteps : ℕ → Tally → End → End
+behindSteps n t (end s m u) = end s m (tallyJoined n t u)
 
 part-is : (settings : Settings) (map lines : List ℕ) (n : ℕ) (b r : Ran) (m m′ : List ℕ) (t : Tally) → ranOf r m′ ≡ runOf settings map lines (b .state) m → t ≡ tallyJoined n (b .tally) (r .tally)
     → ranOf (record { state = r .state; tally = t }) m′ ≡ restOfRun settings map n lines (b .state) m (b .tally)
 part-is settings map lines n b r m m′ t e d =
-    rw d (ap (behind n (b .tally)) (e ∙ run-trail settings map lines (b .state) m Cause.Nothing) ∙ sym (rest-trail settings map n lines (b .state) m (b .tally) Cause.Nothing))
+    rw d (ap (behindSteps n (b .tally)) (e ∙ run-trail settings map lines (b .state) m Cause.Nothing) ∙ sym (rest-trail settings map n lines (b .state) m (b .tally) Cause.Nothing))
 
 pub parted : (settings : Settings) (map lines : List ℕ) (n : ℕ) (b r : Ran) (m m′ : List ℕ) (t : Tally) → Tallied n (b .tally) → Lent map m′
     → ranOf r m′ ≡ runOf settings map lines (b .state) m → t ≡ tallyJoined n (b .tally) (r .tally) → Parted settings map lines n b m (record { state = r .state; tally = t }) m′
@@ -84,7 +84,7 @@ parted settings map lines n b r m m′ t h l e d = record {
 
 -- ---- the parts of a run over one line word
 
-abbrev restOn : Settings → List ℕ → ℕ → List ℕ → End → End
+abbrev pub restOn : Settings → List ℕ → ℕ → List ℕ → End → End
 restOn settings map n lines (end s m t) = restOfRun settings map n lines s m t
 
 rest-same : (settings : Settings) (map : List ℕ) (place k n j x : ℕ) (s : State) (m : List ℕ) (t : Tally) → j ≡ k + n

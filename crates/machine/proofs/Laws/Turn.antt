@@ -12,7 +12,8 @@ use Rattle.step.specs.declared.Kind.the-variants as Kind
 use Rattle.step.specs.declared.Turn.{Turn}
 use Rattle.step.specs.declared.Cause.{Cause}
 use Rattle.step.specs.declared.Cause.the-variants as Cause
-use Rattle.step.specs.Step.{After, kindOf, isCode, workOf, errorOf, stepOf, Coded, DidStep}
+use Rattle.step.specs.Step.{After, kindOf, isCode, workOf, errorOf, stepOf}
+use Rattle.step.specs.Inner.{Coded, DidStep}
 use Rattle.step.proofs.Laws.Ends.{step-well, step-ill, code-is}
 
 -- the variables that the loop carries, as each way leaves them

@@ -8,7 +8,8 @@ use mathlib.Core.Path.{_≡_, refl, sym, ap, _∙_}
 use lib.Dec.{eqb, leb}
 use lib.ListN.{getD}
 use borrow.Author.Tests.{leb-true}
-use Rattle.plate.specs.Plate.{formatOf, row0, row8}
+use Rattle.plate.specs.Plate.{formatOf}
+use Rattle.plate.specs.Inner.{row0, row8}
 
 -- a rule's n entries, from the high byte h on
 unfoldable pub plateEntries : (ℕ → ℕ) → ℕ → ℕ → List ℕ

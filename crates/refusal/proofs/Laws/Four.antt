@@ -43,8 +43,8 @@ one-more : (p : ℕ → Bool) (l : List ℕ) (i j : ℕ) → j ≡ i + 1 → i <
 one-more p l i j e h = by (p (getD l i 0)) refl
   where
     by : (q : Bool) → p (getD l i 0) ≡ q → allOf p (drop i l) ≡ q && allOf p (drop j l)
-    by true f = sym (ap (λ (n : ℕ). allOf p (drop n l)) e ∙ all-more p l i h f)
-    by false f = all-fails p l i h f
+    by true f = sym (ap (λ (n : ℕ). allOf p (drop n l)) e ∙ all-more p l i 0 h f)
+    by false f = all-fails p l i 0 h f
 
 -- ---- line words
 

@@ -1,11 +1,11 @@
 -- Tests over all bytes of the map and over all line words, one by one.
-use Prim.Native.Nat.{ℕ, _+_, _<_, _≤_}
+use Prim.Native.Nat.{ℕ, _+_, _<_, _≤_, zero, suc}
 use mathlib.Core.Bool.{Bool, true, false, cond, _||_, true≢false}
-use mathlib.Core.List.{List}
+use mathlib.Core.List.{List, [], _∷_}
 use mathlib.Core.Path.{_≡_, refl}
 use native.Mathlib.Numerals.{add-one}
 use native.Mathlib.Omega.{arith}
-use lib.ListN.{length, drop, getD}
+use lib.ListN.{length, drop, getD, take}
 use lib.Seq.{drop-cons, drop-length}
 use lib.Dec.{eqb, leb}
 use borrow.Author.Tests.{eqb-true, leb-true}
@@ -15,17 +15,27 @@ use Rattle.refusal.specs.Refusal.{allOf, boardRefusal, linesRefusal, pow
 
 -- ---- scans
 
-pub all-more : (p : ℕ → Bool) (l : List ℕ) (i : ℕ) → i < length l → p (getD l i 0) ≡ true → allOf p (drop (i + 1) l) ≡ allOf p (drop i l)
+pub all-more : {A : Type 0} (p : A → Bool) (l : List A) (i : ℕ) (d : A) → i < length l → p (getD l i d) ≡ true → allOf p (drop (i + 1) l) ≡ allOf p (drop i l)
 unfolding allOf
-all-more p l i h e = rw (add-one i, drop-cons l i 0 h, e)
+all-more p l i d h e = rw (add-one i, drop-cons l i d h, e)
 
-pub all-fails : (p : ℕ → Bool) (l : List ℕ) (i : ℕ) → i < length l → p (getD l i 0) ≡ false → allOf p (drop i l) ≡ false
+pub all-fails : {A : Type 0} (p : A → Bool) (l : List A) (i : ℕ) (d : A) → i < length l → p (getD l i d) ≡ false → allOf p (drop i l) ≡ false
 unfolding allOf
-all-fails p l i h e = rw (drop-cons l i 0 h, e)
+all-fails p l i d h e = rw (drop-cons l i d h, e)
 
-pub all-end : (p : ℕ → Bool) (l : List ℕ) (i : ℕ) → i ≡ length l → allOf p (drop i l) ≡ true
+pub all-end : {A : Type 0} (p : A → Bool) (l : List A) (i : ℕ) → i ≡ length l → allOf p (drop i l) ≡ true
 unfolding allOf
 all-end p l i e = rw (e, drop-length l)
+
+pub all-take : {A : Type 0} (p : A → Bool) (n : ℕ) (xs : List A) → allOf p xs ≡ true → allOf p (take n xs) ≡ true
+unfolding allOf
+all-take p zero xs e = refl
+all-take p (suc n) [] e = refl
+all-take p (suc n) (x ∷ xs) e = split (p x) (all-take p n xs) e
+  where
+    split : (b : Bool) → (allOf p xs ≡ true → allOf p (take n xs) ≡ true) → cond b (allOf p xs) false ≡ true → cond b (allOf p (take n xs)) false ≡ true
+    split true h e = h e
+    split false h e = e
 
 -- ---- what is known where nothing is refused
 

@@ -50,7 +50,7 @@ format-eight op h = elim (ℕ-discrete (op / 256) 14) [ yes e ↦ eight (op / 25
     eight : (a b : ℕ) → a ≡ b → formatOf b ≡ 8 → formatOf a ≡ 8
     eight a b e q = rw e q
 
-executes : (out : Outside) (s : State) (op : ℕ) → out .settings .blocks ≡ true → op / 512 ≡ 7 → execute out s op ≡ format8 s op
+pub executes : (out : Outside) (s : State) (op : ℕ) → out .settings .blocks ≡ true → op / 512 ≡ 7 → execute out s op ≡ format8 s op
 unfolding byFormat
 executes out s op e h = rw (format-eight op h, e)
 

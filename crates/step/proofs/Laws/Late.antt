@@ -1,7 +1,7 @@
 -- IEN is one op code late: where it found I2 clear, exactly one more op code is executed before I0 or I1 is heard; where it found I2 set, none.
 use Prim.Native.Nat.{ℕ}
 use native.Mathlib.Omega.{arith}
-use mathlib.Core.Bool.{Bool, true, false, not, _&&_, _||_, cond}
+use mathlib.Core.Bool.{Bool, true, false, not, _&&_, _||_, cond, and-false}
 use mathlib.Core.List.{List}
 use mathlib.Core.Path.{_≡_, refl, sym, ap, _∙_}
 use lib.Dec.{eqb}
@@ -27,10 +27,6 @@ use Rattle.step.specs.Late.{Comes, Asks, interruptHeard}
 
 -- ---- which kind of step it is
 
-and-no : (b : Bool) → (b && false) ≡ false
-and-no true = refl
-and-no false = refl
-
 one-asks : (one other : Bool) → (one || other) ≡ true → cond one NonVectored (cond other Vectored OpCode) ≡ cond one NonVectored Vectored
 one-asks true other e = refl
 one-asks false true e = refl
@@ -41,7 +37,7 @@ pub held : (s : State) (out : Outside) → s .mode ≡ Running → s .mark ≡ t
 unfolding kindIn
 held s out runs mark quiet =
     ap (λ z. kindIn z (hears s) out) runs
-    ∙ ap (λ z. asked z out OpCode) (ap (λ z. s .i2 && not z) mark ∙ and-no (s .i2))
+    ∙ ap (λ z. asked z out OpCode) (ap (λ z. s .i2 && not z) mark ∙ and-false (s .i2))
     ∙ ap (λ z. cond z (haltOption (out .settings)) OpCode) quiet
 
 -- An unmarked state with I2 set hears them.

@@ -15,7 +15,8 @@ use Rattle.state.specs.declared.Went.{Went}
 use Rattle.state.specs.declared.Went.the-variants as Went
 use Rattle.step.specs.declared.Begun.{Begun}
 use Rattle.step.specs.declared.Begun.the-variants as Begun
-use Rattle.step.specs.Xct.{code, abort, forbidden, trapsAlone, chosen, chosenCode, begunAs, unstarted, unopened}
+use Rattle.step.specs.Xct.{code, abort, forbidden, trapsAlone, chosen}
+use Rattle.step.specs.Inner.{chosenCode, begunAs, unstarted, unopened}
 
 -- ---- what the answers say
 

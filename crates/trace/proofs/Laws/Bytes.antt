@@ -9,7 +9,7 @@ use lib.Dec.{leb, eqb}
 use lib.Seq.{drop-cons, drop-length, getD-append-add}
 use borrow.Author.Tests.{le-leb, eq-eqb, eqb-true}
 use Rattle.wordbytes.specs.Words.{byteAt, wordAt, low, high, bytesIn}
-use Rattle.wordbytes.proofs.Laws.{word-again, low-of, high-of}
+use Rattle.wordbytes.proofs.Laws.{word-again, low-of, high-of, bytes-length}
 use Rattle.state.specs.declared.State.{State}
 use Rattle.step.specs.Step.{After}
 use Rattle.refusal.specs.Numbers.{traceCut}
@@ -21,10 +21,6 @@ use Rattle.trace.specs.Trace.{entryOf, entriesOf, joined, traceBytes, fi
 pub bytes-append : (xs ys : List ℕ) → bytesIn (xs ++ ys) ≡ bytesIn xs ++ bytesIn ys
 bytes-append [] ys = refl
 bytes-append (x ∷ xs) ys = ap (λ z. low x ∷ high x ∷ z) (bytes-append xs ys)
-
-pub bytes-length : (xs : List ℕ) → length (bytesIn xs) ≡ length xs * 2
-bytes-length [] = omega arith
-bytes-length (x ∷ xs) = omega (arith, bytes-length xs)
 
 -- what stands behind p stands there from its length on
 words-after : (p t : List ℕ) (at n : ℕ) → fieldsFrom (p ++ t) (length p + at) n ≡ fieldsFrom t at n

@@ -7,7 +7,8 @@ use borrow.Author.Needs.{needs}
 use Rattle.board.specs.Exec.{beside, Board}
 use Rattle.state.specs.State.{heard}
 use Rattle.step.specs.declared.Cause.the-variants as Cause
-use Rattle.step.specs.Step.{after, calm, stepOf, DidStep, isCode}
+use Rattle.step.specs.Step.{after, stepOf, isCode}
+use Rattle.step.specs.Inner.{calm, DidStep}
 use Rattle.machine.specs.Run.{restOfRun, runOf, lastCause}
 use Rattle.machine.proofs.Laws.Run.{rest-more, rest-none, cause-more, cause-none, Hearing, hearing-new, hearing-old}
 use Rattle.machine.proofs.Laws.Turn.{turned-code, turned-blank, turned-other}

@@ -1,8 +1,8 @@
 use Prim.Native.Nat.{_-_}
 use native.Mathlib.Omega.{arith}
 use borrow.Author.Needs.{needs}
-use Rattle.text.proofs.put_spaces.Statement.{statement}
-use Rattle.text.proofs.put_spaces.Tie as tie
+use Rattle.printing.proofs.put_spaces.Statement.{statement}
+use Rattle.printing.proofs.put_spaces.Tie as tie
 
 abbrev Inv-loop : tie.InvT-loop
 Inv-loop n i₀ i = Unit {0}
