@@ -17,9 +17,12 @@ use lib.Seq.{getD-set-same, getD-set-other, set-out}
 use borrow.Author.Tests.{ltb-true}
 use Rattle.board.specs.Work.{Work, give, readAt, writeAt, Size, word, byte, fitted, writable, even, wordAt, withWord, withByte, get, put, _>>=_}
 use Rattle.board.specs.Work as Work
-use Rattle.board.specs.Exec.{and, Store, Now, good, gone, logCount, logRoom, note, withNote, allowed, exec, Board, Got, Did}
+use Rattle.board.specs.Exec.{and, Store, Now, good, gone, logCount, logRoom, note, withNote, allowed, exec, Board, Got, Did, widened}
 pub use Rattle.board.specs.Exec.{wordAs, byteAs, keptAs}
 use Rattle.board.proofs.Laws.Exec.{stateOf}
+use Rattle.board.specs.declared.Word.{Word}
+use Rattle.board.specs.declared.Byte.{Byte}
+use Rattle.board.specs.declared.Byte.the-variants as Byte
 
 abbrev pub after : {A B : Type 0} → Now A → (A → Store → Now B) → Now B
 after (good x st) f = f x st
@@ -162,3 +165,8 @@ means meant {st = st} e = ap (λ z. meant z st) e
 -- the same of an answer that a function makes of its callee's
 pub passes : {Q R A : Type 0} (meant : R → Store → Now A) (made : Q → R) {r : R} {q x : Q} {st : Store} → r ≡ made q → q ≡ x → meant r st ≡ meant (made x) st
 passes meant made e h = means meant (e ∙ ap made h)
+
+-- a byte that was read, as a word
+pub got-widened : {map : List ℕ} {w : Work ℕ} {st : Store} (b : Byte) {r : Word} → r ≡ widened b → Got map w st (byteAs b st) → Got map w st (wordAs r st)
+got-widened (Byte.Value v) e g = got-as g (means wordAs e)
+got-widened (Byte.Blank a) e g = got-as g (means wordAs e)

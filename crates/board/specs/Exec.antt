@@ -88,6 +88,11 @@ abbrev pub keptAs : Kept → Store → Now (Unit {0})
 keptAs Kept.Done st = good tt st
 keptAs (Kept.Blank a) st = gone a st
 
+-- a byte that was read, as a word
+abbrev pub widened : Byte → Word
+widened (Byte.Value v) = Value v
+widened (Byte.Blank a) = Blank a
+
 -- ---- taking the log back, the newest entry first
 
 -- the last n entries of the log, put back, the newest first

@@ -1,6 +1,6 @@
 -- What one step does to memory, as a tree of accesses, each of a word or of a byte; and what it comes to on a map and an image.
 use Prim.Native.Nat.{ℕ, _+_, _*_, _/_, _%_}
-use mathlib.Core.Bool.{Bool, true, false, not}
+use mathlib.Core.Bool.{Bool, true, false, not, cond}
 use mathlib.Core.List.{List}
 use lib.ListN.{getD, set}
 use lib.Dec.{eqb}
@@ -11,6 +11,10 @@ use Rattle.wordbytes.specs.Words as Words
 pub data Size : Type 0 where
   word : Size
   byte : Size
+
+-- bytes, or words
+abbrev pub sizeOf : Bool → Size
+sizeOf bytes = cond bytes byte word
 
 -- A piece of a step's work that ends in an A.
 pub data Work (A : Type 0) : Type 0 where
@@ -69,6 +73,9 @@ run map (readAt z a k) m = found (fitted map a) a (run map (k (get z m a)) m)
 run map (writeAt z a v w) m = found (writable map a) a (run map w (put z m a v))
 
 -- a word or a byte is read or written
+abbrev pub read : Size → ℕ → Work ℕ
+read z a = readAt z a (λ v. give v)
+
 abbrev pub write : Size → ℕ → ℕ → Work (Unit {0})
 write z a v = writeAt z a v (give tt)
 

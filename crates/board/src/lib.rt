@@ -93,6 +93,27 @@ pub fn load_byte(image: &[u8], map: &[u8], a: u16) -> Byte
     }
 }
 
+// A byte that was read, as a word.
+pub fn widened(b: Byte) -> Word
+    ensures { λ r. ⌜ r ≡ Exec.widened b ⌝ }
+{
+    match b {
+        Byte::Value(v) => Word::Value(v as u16),
+        Byte::Blank(at) => Word::Blank(at),
+    }
+}
+
+// The byte or the word at an address.
+pub fn read(image: &[u8], map: &[u8], bytes: bool, a: u16) -> Word
+    requires { ⌜ Lent (now map) (now image) ⌝ }
+    ensures { λ r. ⌜ Saw (now (map .entry)) (Work.read (Work.sizeOf bytes) a) (now (image .entry)) (wordAs r) ⌝ }
+{
+    if bytes {
+        return widened(load_byte(image, map, a));
+    }
+    load(image, map, a)
+}
+
 // Notes the word at an address in the log.
 fn note(image: &[u8], log: &mut [u16; 32], a: u16)
     requires { ⌜ (length (now image) ≡ 65536) × (logCount (now log) < 15) ⌝ }
@@ -138,6 +159,16 @@ pub fn store_byte(image: &mut [u8], map: &[u8], log: &mut [u16; 32], a: u16, v: 
     } else {
         Kept::Blank(a)
     }
+}
+
+pub fn write(image: &mut [u8], map: &[u8], log: &mut [u16; 32], bytes: bool, a: u16, v: u16) -> Kept
+    requires { ⌜ Board (now map) (beside (now image) (now log)) ⌝ }
+    ensures { λ r. ⌜ Did (now (map .entry)) (Work.write (Work.sizeOf bytes) a v) (beside (now (image .entry)) (now (log .entry))) (keptAs r (beside (now (image .exit)) (now (log .exit)))) (beside (now (image .exit)) (now (log .exit))) ⌝ }
+{
+    if bytes {
+        return store_byte(image, map, log, a, v);
+    }
+    store(image, map, log, a, v)
 }
 
 // Empties the log.

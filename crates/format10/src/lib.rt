@@ -70,7 +70,7 @@ fn settle(
     ensures { λ r. ⌜ Works (now (map .entry)) (Spec.settle b s k place v) (now (image .entry)) (now (log .entry)) r (now (image .exit)) (now (log .exit)) ⌝ }
 {
     if stores(b) {
-        return operand::write_word(s, image, map, log, k, place, v);
+        return operand::write(s, image, map, log, false, k, place, v);
     }
     Went::Done(s)
 }
@@ -90,7 +90,8 @@ fn onto_words(s: State, image: &mut [u8], map: &[u8], log: &mut [u16; 32], op: u
     let u = moved(s, place);
     if opc == 11 {
         let done = wordmath::result::mov16(x, u.flags);
-        return operand::write_word(u.with_flags(done.flags), image, map, log, to, place, x);
+        let w = u.with_flags(done.flags);
+        return operand::write(w, image, map, log, false, to, place, x);
     }
     let Word::Value(y) = read_word(image, map, place, u.reg(to)) else {
         return unanswered(place);
@@ -142,7 +143,7 @@ fn move_byte(
 {
     match place {
         Place::Reg => Went::Done(s.with_reg(k, arith::on_bytes::extend(low(v)))),
-        Place::Mem(_, _, _) => operand::write_byte(s, image, map, log, k, place, v),
+        Place::Mem(_, _, _) => operand::write(s, image, map, log, true, k, place, v),
     }
 }
 
@@ -162,7 +163,7 @@ fn settle_byte(
     match b {
         ByteBinary::Cmpb => Went::Done(s),
         ByteBinary::Movb => move_byte(s, image, map, log, k, place, v),
-        ByteBinary::Bisb => operand::write_byte(s, image, map, log, k, place, v),
+        ByteBinary::Bisb => operand::write(s, image, map, log, true, k, place, v),
     }
 }
 

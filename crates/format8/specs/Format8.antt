@@ -4,7 +4,7 @@ use mathlib.Core.Bool.{Bool, true, false, cond}
 use mathlib.Core.List.{List, [], _∷_}
 use lib.Dec.{eqb}
 use lib.ListN.{getD}
-use Rattle.board.specs.Work.{Work, give, readAt, write, Size, word, byte, _>>=_, _>>_}
+use Rattle.board.specs.Work.{Work, give, read, write, Size, sizeOf, _>>=_, _>>_}
 use Rattle.opcodes.specs.Fields.{format8Code, blockSource, blockDestination}
 use Rattle.wordmath.specs.Address.{plus, minus}
 use Rattle.state.specs.declared.State.{State}
@@ -39,15 +39,12 @@ rowAt k = getD moveRows k (rowFrom true 0 1)
 abbrev pub moveRow : ℕ → Row
 moveRow op = rowAt (format8Code op)
 
-abbrev pub moveSize : Bool → Size
-moveSize bytes = cond bytes byte word
-
 -- ---- one element
 
 -- the word or byte at a is moved to b
 unfoldable pub transfer : Size → ℕ → ℕ → Work (Unit {0})
 transfer z a b = do
-  v ← readAt z a (λ v. give v)
+  v ← read z a
   write z b v
 
 -- REG ← REG + n
@@ -65,7 +62,7 @@ again s t = cond (eqb (t .regs .r0) 0) t (withPc t (minus (s .regs .pc) 2))
 -- the source register i and the destination register j contain the addresses
 unfoldable pub element : Row → State → ℕ → ℕ → Work State
 element r s i j = do
-  transfer (moveSize (r .bytes)) (reg s i) (reg s j)
+  transfer (sizeOf (r .bytes)) (reg s i) (reg s j)
   give (again s (counted r s i j))
 
 abbrev pub format8 : State → ℕ → Work State

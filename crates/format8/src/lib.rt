@@ -1,5 +1,4 @@
 // Format 8: the block moves. One element is one step.
-use board::Byte;
 use board::Kept;
 use board::Word;
 use opcodes::fields::block_destination;
@@ -11,7 +10,7 @@ use state::unwritten;
 use wordmath::address::minus;
 use wordmath::address::plus;
 ghost use mathlib.Core.Path.{_≡_};
-ghost use Rattle.board.specs.Work.{word, byte};
+ghost use Rattle.board.specs.Work.{sizeOf};
 ghost use Rattle.board.specs.Exec.{beside, Board, Did, keptAs};
 ghost use Rattle.state.specs.Answer.{Works};
 ghost use Rattle.format8.specs.Format8 as Spec;
@@ -49,43 +48,15 @@ fn row_at(k: u16) -> Row
     }
 }
 
-fn wide(b: u8) -> u16
-    ensures { λ r. ⌜ r ≡ b ⌝ }
-{
-    b as u16
-}
-
-// The word at a is moved to b.
-fn move_word(image: &mut [u8], map: &[u8], log: &mut [u16; 32], a: u16, b: u16) -> Kept
-    requires { ⌜ Board (now map) (beside (now image) (now log)) ⌝ }
-    ensures { λ r. ⌜ Did (now (map .entry)) (Spec.transfer word a b) (beside (now (image .entry)) (now (log .entry))) (keptAs r (beside (now (image .exit)) (now (log .exit)))) (beside (now (image .exit)) (now (log .exit))) ⌝ }
-{
-    let Word::Value(v) = board::load(image, map, a) else {
-        return Kept::Blank(a);
-    };
-    board::store(image, map, log, b, v)
-}
-
-// The byte at a is moved to b.
-fn move_byte(image: &mut [u8], map: &[u8], log: &mut [u16; 32], a: u16, b: u16) -> Kept
-    requires { ⌜ Board (now map) (beside (now image) (now log)) ⌝ }
-    ensures { λ r. ⌜ Did (now (map .entry)) (Spec.transfer byte a b) (beside (now (image .entry)) (now (log .entry))) (keptAs r (beside (now (image .exit)) (now (log .exit)))) (beside (now (image .exit)) (now (log .exit))) ⌝ }
-{
-    let Byte::Value(v) = board::load_byte(image, map, a) else {
-        return Kept::Blank(a);
-    };
-    board::store_byte(image, map, log, b, wide(v))
-}
-
 // The byte or the word at a is moved to b.
 fn transfer(image: &mut [u8], map: &[u8], log: &mut [u16; 32], bytes: bool, a: u16, b: u16) -> Kept
     requires { ⌜ Board (now map) (beside (now image) (now log)) ⌝ }
-    ensures { λ r. ⌜ Did (now (map .entry)) (Spec.transfer (Spec.moveSize bytes) a b) (beside (now (image .entry)) (now (log .entry))) (keptAs r (beside (now (image .exit)) (now (log .exit)))) (beside (now (image .exit)) (now (log .exit))) ⌝ }
+    ensures { λ r. ⌜ Did (now (map .entry)) (Spec.transfer (sizeOf bytes) a b) (beside (now (image .entry)) (now (log .entry))) (keptAs r (beside (now (image .exit)) (now (log .exit)))) (beside (now (image .exit)) (now (log .exit))) ⌝ }
 {
-    if bytes {
-        return move_byte(image, map, log, a, b);
-    }
-    move_word(image, map, log, a, b)
+    let Word::Value(v) = board::read(image, map, bytes, a) else {
+        return Kept::Blank(a);
+    };
+    board::write(image, map, log, bytes, b, v)
 }
 
 // REG ← REG + n.

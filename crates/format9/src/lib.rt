@@ -7,8 +7,7 @@ use opcodes::fields::register;
 use operand::Found;
 use operand::Held;
 use operand::Place;
-use operand::destination::destination_byte;
-use operand::destination::destination_word;
+use operand::destination::destination;
 use operand::destination::unheld;
 use operand::locate;
 use operand::moved;
@@ -115,7 +114,7 @@ fn ash(s: State, image: &[u8], map: &[u8], op: u16) -> Went
     ensures { λ r. ⌜ Saw (now (map .entry)) (Spec.ash s op) (now (image .entry)) (wentAs r) ⌝ }
 {
     let k = register(op);
-    let held = destination_byte(s, image, map, op);
+    let held = destination(s, image, map, true, op);
     let Held::At(t, _, n) = held else {
         return unheld(held);
     };
@@ -144,12 +143,12 @@ fn xch(s: State, image: &mut [u8], map: &[u8], log: &mut [u16; 32], op: u16) -> 
 {
     let k = register(op);
     let to = destination_register(op);
-    let held = destination_word(s, image, map, op);
+    let held = destination(s, image, map, false, op);
     let Held::At(t, place, d) = held else {
         return unheld(held);
     };
     let r = t.reg(k);
-    operand::write_word(t.with_reg(k, d), image, map, log, to, place, r)
+    operand::write(t.with_reg(k, d), image, map, log, false, to, place, r)
 }
 
 // ASHC: as ASH, on REG+1:REG.
@@ -158,7 +157,7 @@ fn ashc(s: State, image: &[u8], map: &[u8], op: u16) -> Went
     ensures { λ r. ⌜ Saw (now (map .entry)) (Spec.ashc s op) (now (image .entry)) (wentAs r) ⌝ }
 {
     let k = register(op);
-    let held = destination_byte(s, image, map, op);
+    let held = destination(s, image, map, true, op);
     let Held::At(t, _, n) = held else {
         return unheld(held);
     };
@@ -172,7 +171,7 @@ fn mul(s: State, image: &[u8], map: &[u8], op: u16) -> Went
     ensures { λ r. ⌜ Saw (now (map .entry)) (Spec.mul s op) (now (image .entry)) (wentAs r) ⌝ }
 {
     let k = register(op);
-    let held = destination_word(s, image, map, op);
+    let held = destination(s, image, map, false, op);
     let Held::At(t, _, d) = held else {
         return unheld(held);
     };
@@ -186,7 +185,7 @@ fn div(s: State, image: &[u8], map: &[u8], op: u16) -> Went
     ensures { λ r. ⌜ Saw (now (map .entry)) (Spec.div s op) (now (image .entry)) (wentAs r) ⌝ }
 {
     let k = register(op);
-    let held = destination_word(s, image, map, op);
+    let held = destination(s, image, map, false, op);
     let Held::At(t, _, d) = held else {
         return unheld(held);
     };

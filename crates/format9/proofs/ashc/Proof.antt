@@ -6,21 +6,21 @@ use borrow.Author.Needs.{needs}
 use Rattle.format9.proofs.ashc.Statement.{statement}
 use Rattle.format9.proofs.ashc.Tie as tie
 
-destination-byte-requires : tie.Need-destination-byte-requires
-destination-byte-requires c κs = c .before .before .before .pre
+destination-requires : tie.Need-destination-requires
+destination-requires c κs = c .before .before .before .pre
 
 returns : tie.Need-returns
 unfolding ashc
 returns c =
     rw (← c .before .before .before .before .register .ensures)
-    (record { got = got-gone _ (c .before .before .before .destination-byte .ensures .got) (means heldAs (c .before .enum-told .given .1)) (passes wentAs unheld (c .unheld .ensures) (c .before .enum-told .given .1)) })
+    (record { got = got-gone _ (c .before .before .before .destination .ensures .got) (means heldAs (c .before .enum-told .given .1)) (passes wentAs unheld (c .unheld .ensures) (c .before .enum-told .given .1)) })
 
 returns-2 : tie.Need-returns-2
 unfolding ashc
 returns-2 c =
     rw (← c .before .before .before .before .before .before .before .before .before .register .ensures)
     (record {
-      got = got-then _ (c .before .before .before .before .before .before .before .before .destination-byte .ensures .got) (means heldAs (c .before .before .before .before .before .before .held .given .1))
+      got = got-then _ (c .before .before .before .before .before .before .before .before .destination .ensures .got) (means heldAs (c .before .before .before .before .before .before .held .given .1))
           (got-give (rw (c .with-pair .ensures, c .before .ashc .ensures, c .before .before .reg2 .ensures, c .before .before .before .next .ensures, c .before .before .before .before .reg .ensures)));
     })
 
@@ -29,7 +29,7 @@ ashc-spec =
     tie.close
     (tie.spec
     (λ c κs. search needs)
-    destination-byte-requires
+    destination-requires
     (λ c. search needs)
     (λ c. search needs)
     (λ c κs. search needs)

@@ -6,21 +6,21 @@ use borrow.Author.Needs.{needs}
 use Rattle.format9.proofs.div.Statement.{statement}
 use Rattle.format9.proofs.div.Tie as tie
 
-destination-word-requires : tie.Need-destination-word-requires
-destination-word-requires c κs = c .before .before .before .pre
+destination-requires : tie.Need-destination-requires
+destination-requires c κs = c .before .before .before .pre
 
 returns : tie.Need-returns
 unfolding div
 returns c =
     rw (← c .before .before .before .before .register .ensures)
-    (record { got = got-gone _ (c .before .before .before .destination-word .ensures .got) (means heldAs (c .before .enum-told .given .1)) (passes wentAs unheld (c .unheld .ensures) (c .before .enum-told .given .1)) })
+    (record { got = got-gone _ (c .before .before .before .destination .ensures .got) (means heldAs (c .before .enum-told .given .1)) (passes wentAs unheld (c .unheld .ensures) (c .before .enum-told .given .1)) })
 
 returns-2 : tie.Need-returns-2
 unfolding div
 returns-2 c =
     rw (← c .before .before .before .before .before .before .before .before .before .register .ensures)
     (record {
-      got = got-then _ (c .before .before .before .before .before .before .before .before .destination-word .ensures .got) (means heldAs (c .before .before .before .before .before .before .held .given .1))
+      got = got-then _ (c .before .before .before .before .before .before .before .before .destination .ensures .got) (means heldAs (c .before .before .before .before .before .before .held .given .1))
           (got-give (rw (c .with-pair .ensures, c .before .div .ensures, c .before .before .reg2 .ensures, c .before .before .before .next .ensures, c .before .before .before .before .reg .ensures)));
     })
 
@@ -29,7 +29,7 @@ div-spec =
     tie.close
     (tie.spec
     (λ c κs. search needs)
-    destination-word-requires
+    destination-requires
     (λ c. search needs)
     (λ c. search needs)
     (λ c κs. search needs)

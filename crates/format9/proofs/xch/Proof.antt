@@ -7,30 +7,30 @@ use borrow.Author.Needs.{needs}
 use Rattle.format9.proofs.xch.Statement.{statement}
 use Rattle.format9.proofs.xch.Tie as tie
 
-destination-word-requires : tie.Need-destination-word-requires
-destination-word-requires c κs = c .before .before .before .before .before .pre .lent
+destination-requires : tie.Need-destination-requires
+destination-requires c κs = c .before .before .before .before .before .pre .lent
 
 returns : tie.Need-returns
 unfolding xch
 returns c =
     rw (← c .before .before .before .before .before .before .register .ensures)
     (did (went-store (c .unheld .result)) (c .before .before .before .before .before .before .before .before .before .pre)
-    (got-gone _ (c .before .before .before .destination-word .ensures .got) (means heldAs (c .before .enum-told .given .1)) (passes wentAs unheld (c .unheld .ensures) (c .before .enum-told .given .1))))
+    (got-gone _ (c .before .before .before .destination .ensures .got) (means heldAs (c .before .enum-told .given .1)) (passes wentAs unheld (c .unheld .ensures) (c .before .enum-told .given .1))))
 
-write-word-requires : tie.Need-write-word-requires
-write-word-requires c κs = c .before .before .before .before .before .before .before .before .before .before .before .before .before .pre
+write-requires : tie.Need-write-requires
+write-requires c κs = c .before .before .before .before .before .before .before .before .before .before .before .before .before .pre
 
 same-length-2 : tie.Need-same-length-2
-same-length-2 c = c .before .before .write-word .ensures .board .lent .size ∙ sym (c .before .before .before .before .before .before .before .before .before .before .before .before .before .before .before .before .pre .lent .size)
+same-length-2 c = c .before .before .write .ensures .board .lent .size ∙ sym (c .before .before .before .before .before .before .before .before .before .before .before .before .before .before .before .before .pre .lent .size)
 
 returns-2 : tie.Need-returns-2
 unfolding xch
 returns-2 c =
     rw (← c .before .before .before .before .before .before .before .before .before .before .before .before .before .register .ensures)
     (record {
-      got = got-then _ (c .before .before .before .before .before .before .before .before .before .before .destination-word .ensures .got) (means heldAs (c .before .before .before .before .before .before .before .before .held .given .1))
-          ((rw (c .before .before .before .before .before .with-reg .ensures, c .before .before .before .before .before .before .reg .ensures, c .before .before .before .before .before .before .before .before .before .before .before .before .destination-register .ensures) at (c .before .before .write-word .ensures)) .got);
-      board = c .before .before .write-word .ensures .board;
+      got = got-then _ (c .before .before .before .before .before .before .before .before .before .before .destination .ensures .got) (means heldAs (c .before .before .before .before .before .before .before .before .held .given .1))
+          ((rw (c .before .before .before .before .before .with-reg .ensures, c .before .before .before .before .before .before .reg .ensures, c .before .before .before .before .before .before .before .before .before .before .before .before .destination-register .ensures) at (c .before .before .write .ensures)) .got);
+      board = c .before .before .write .ensures .board;
     })
 
 pub xch-spec : {M : Type 1} → statement M
@@ -39,7 +39,7 @@ xch-spec =
     (tie.spec
     (λ c κs. search needs)
     (λ c κs. search needs)
-    destination-word-requires
+    destination-requires
     (λ c. search needs)
     (λ c. search needs)
     (λ c κs. search needs)
@@ -47,6 +47,6 @@ xch-spec =
     returns
     (λ c κs. search needs)
     (λ c κs. search needs)
-    write-word-requires
+    write-requires
     same-length-2
     returns-2)

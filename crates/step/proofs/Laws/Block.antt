@@ -10,7 +10,7 @@ use lib.Dec.{eqb}
 use borrow.Author.Tests.{ne-eqb, eqb-true, eqb-false}
 use Rattle.plate.specs.Plate.{formatOf}
 use Rattle.wordmath.specs.Address.{plus, minus}
-use Rattle.board.specs.Work.{Size, value, run, fitted, writable, wordAt, get, put, _>>=_}
+use Rattle.board.specs.Work.{Size, value, run, fitted, writable, wordAt, get, put, _>>=_, sizeOf}
 use Rattle.board.proofs.Laws.Follows.{run-then, put-apart}
 use Rattle.state.specs.declared.State.{State}
 use Rattle.state.specs.declared.Outside.{Outside}
@@ -19,7 +19,7 @@ use Rattle.state.specs.Registers.{regOf, setReg}
 use Rattle.state.specs.Answer.{takenWord}
 use Rattle.state.specs.Stack.{fetch}
 use Rattle.format8.specs.declared.Row.{Row}
-use Rattle.format8.specs.Format8.{moveRow, moveSize, transfer, onward, counted, again, element, format8}
+use Rattle.format8.specs.Format8.{moveRow, transfer, onward, counted, again, element, format8}
 use Rattle.opcodes.specs.Fields.{blockSource, blockDestination}
 use Rattle.format8.specs.Page.{Plain, elementCount, along, blockMoved, imageMoved, stateMoved}
 use Rattle.format8.proofs.Laws.Moved.{onceMore, once-after, once-pc, once-count, once-source, once-destination, last-after, counted-count, past-source, past-destination}
@@ -38,9 +38,9 @@ unfolding run transfer _>>=_
 transfer-well map z a b m e h = rw (e, h)
 
 element-well : (map : List ℕ) (r : Row) (s : State) (i j : ℕ) (m : List ℕ) → fitted map (reg s i) ≡ true → writable map (reg s j) ≡ true
-    → run map (element r s i j) m ≡ value (again s (counted r s i j)) (put (moveSize (r .bytes)) m (reg s j) (get (moveSize (r .bytes)) m (reg s i)))
+    → run map (element r s i j) m ≡ value (again s (counted r s i j)) (put (sizeOf (r .bytes)) m (reg s j) (get (sizeOf (r .bytes)) m (reg s i)))
 unfolding run element
-element-well map r s i j m e h = run-then map (transfer (moveSize (r .bytes)) (reg s i) (reg s j)) _ m (transfer-well map (moveSize (r .bytes)) (reg s i) (reg s j) m e h)
+element-well map r s i j m e h = run-then map (transfer (sizeOf (r .bytes)) (reg s i) (reg s j)) _ m (transfer-well map (sizeOf (r .bytes)) (reg s i) (reg s j) m e h)
 
 -- 0E00 to 0FFF is format 8
 format-eight : (op : ℕ) → op / 512 ≡ 7 → formatOf (op / 256) ≡ 8
@@ -71,7 +71,7 @@ begun-well map out s op m h = rw (ne-eqb op 5 (λ e. omega arith))
 
 -- the image with an element moved
 abbrev pub elementIn : ℕ → State → List ℕ → List ℕ
-elementIn op s m = put (moveSize (moveRow op .bytes)) m (reg s (blockDestination op)) (get (moveSize (moveRow op .bytes)) m (reg s (blockSource op)))
+elementIn op s m = put (sizeOf (moveRow op .bytes)) m (reg s (blockDestination op)) (get (sizeOf (moveRow op .bytes)) m (reg s (blockSource op)))
 
 -- R0 means that n elements are left
 pub record Left (n : ℕ) (s : State) : Type 0 where
@@ -226,7 +226,7 @@ module _ {map : List ℕ} {op : ℕ} (p : Plain (blockSource op) (blockDestinati
         running = once-kept (moveRow op) (blockSource op) (blockDestination op) s (s .regs .pc) (plus (s .regs .pc) 2) .0 ∙ a .running;
         address = rw pc (a .address);
         here = rw pc (a .here);
-        code = rw pc (put-apart (moveSize (moveRow op .bytes)) m (reg s (blockDestination op)) _ (s .regs .pc) (a .apart 0 (omega arith)) ∙ a .code);
+        code = rw pc (put-apart (sizeOf (moveRow op .bytes)) m (reg s (blockDestination op)) _ (s .regs .pc) (a .apart 0 (omega arith)) ∙ a .code);
         reads = λ i l. rw (once-source (moveRow op) p s) (a .reads (suc i) (omega arith));
         writes = λ i l. rw (once-destination (moveRow op) p s) (a .writes (suc i) (omega arith));
         apart = λ i l. rw (once-destination (moveRow op) p s, pc) (a .apart (suc i) (omega arith));
