@@ -13,3 +13,4 @@ pub mod Sources
 pub mod StepLines
 pub mod Texts
 pub mod Took
+pub mod WordLines
