@@ -2,7 +2,7 @@
 use Prim.Native.Nat.{ℕ, zero, suc, _/_, _≤_, _<_}
 use Prim.Native.Char.{code}
 use native.Mathlib.Omega.{arith}
-use mathlib.Core.Bool.{Bool, true, false, cond, true≢false}
+use mathlib.Core.Bool.{Bool, true, false, cond}
 use mathlib.Core.List.{List, [], _∷_, _++_}
 use mathlib.Core.Logic.{⊎-elim}
 use mathlib.Core.Path.{_≡_, refl, sym, ap, _∙_, subst}
@@ -11,13 +11,11 @@ use lib.Dec.{T, eqb, ltb}
 use lib.ListN.{length, take, getD, length-append, List·getD-append}
 use lib.Seq.{getD-take}
 use Rattle.hexdigits.specs.Digits.{letters, hex4}
-use Rattle.wordbytes.specs.Words.{wordAt}
 use Rattle.optext.specs.declared.ReadBack.{ReadBack}
 use Rattle.optext.specs.declared.ReadBack.the-variants.{Words, WordsShort, EarlyEnd, AfterText, UnknownName, BadOperand}
 use Rattle.optext.specs.Rows.{Row, wordRow, rows, theRow, noRow, nameOf, firstOf, secondOf}
 use Rattle.optext.specs.Line.{isReserved, rowOf, sepText, opText, taken, textOf, wordText}
 use Rattle.optext.specs.Answer.{readPage}
-use Rattle.optext.specs.Column.{IsText}
 use Rattle.optext.specs.Words.{Reads}
 use Rattle.optext.specs.Read.{wordsOfText}
 use Rattle.optext.specs.Theorems.{hasColumn}
@@ -25,7 +23,7 @@ use Rattle.optext.proofs.Laws.Reserved.{has-row}
 use Rattle.optext.proofs.Laws.Reader.{read-of-text, read-word, any-word-text}
 use Rattle.refusal.specs.Page.{Page, refused, refusedAt, answered, left, call, told}
 use Rattle.answer.specs.Answer.{answerWhy}
-use Rattle.optext_c.specs.Calls.{lent, wordsIn, oddLength, lentWhy, wordsRead, ReadCall}
+use Rattle.optext_c.specs.Calls.{wordsIn, oddLength, lentWhy, wordsRead}
 use Rattle.demands.specs.Terms.{tellsColumn}
 use Rattle.demands.proofs.Laws.Texts.{why-tells}
 use Rattle.demands.specs.WordLines.{WordNoText, WordNotRead, Wd16WordNotRead}
