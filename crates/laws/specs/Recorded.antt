@@ -9,6 +9,7 @@ use mathlib.Core.Path.{_≡_}
 use lib.ListN.{length, replicate}
 use Rattle.state.specs.declared.State.{State}
 use Rattle.state.specs.declared.Settings.{Settings}
+use Rattle.wordbytes.specs.Words.{wordAt}
 use Rattle.refusal.specs.Page.{left, nothing, told}
 use Rattle.machine.specs.declared.Tally.{Tally}
 use Rattle.plugs.specs.declared.Channel.{Channel}
@@ -92,3 +93,7 @@ abbrev pub Wd16ScansReported : Type 0
 Wd16ScansReported = (d : List ℕ) (scans : List (List Channel)) (k : ℕ) (b : List ℕ) (number : ℕ) (b′ : List ℕ) → LentRecorder d scans → k < 16 → length b ≡ 12
     → told number b′ ≡ reportCall d (k ∷ []) b
     → (number ≡ 0) × (b′ ≡ reportBytes (plugPage (reportOf (columnOf k scans)))) × ReadsColumn (reportOf (columnOf k scans)) (columnOf k scans)
+
+-- "Over up to 4,096 such scans": the first word of the recorder's 194 bytes counts the scans that were not refused, and there are no more
+abbrev pub Wd16ScansCounted : Type 0
+Wd16ScansCounted = (d : List ℕ) (scans : List (List Channel)) → LentRecorder d scans → (length d ≡ 194) × (wordAt d 0 ≡ length scans) × (length scans ≤ 4096)

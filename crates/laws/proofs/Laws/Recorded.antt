@@ -32,7 +32,7 @@ use Rattle.recorder.proofs.Laws.Sound.{scan-sound}
 use Rattle.recorder_c.specs.Layout.{channelsFrom, reportBytes, recorderBytes, recorderFrom, plugsAt, plugFrom, plugsFrom, seenFrom, reportsBytes, scansBytes, refusedScan, refusedReport}
 use Rattle.recorder_c.specs.Calls.{ScanBuffers, scanIn, scanCall, reportCall}
 use Rattle.recorder_c.proofs.Laws.Again.{Told, AllTold, no, one, report-told, report-length, recorder-again}
-use Rattle.laws.specs.Recorded.{inState, Recorded, fresh, ReadsColumn, Reports, ScansReported, ScansCounted, LentRecorder, zeros, Wd16ScansReported}
+use Rattle.laws.specs.Recorded.{inState, Recorded, fresh, ReadsColumn, Reports, ScansReported, ScansCounted, LentRecorder, zeros, Wd16ScansReported, Wd16ScansCounted}
 use Rattle.recorder_c.proofs.Laws.Sound.{sixteen}
 use Rattle.machine_c.specs.Layout.{stateFrom, settingsFrom}
 use Rattle.refusal.specs.Numbers.{noState}
@@ -269,3 +269,6 @@ wd16-scans-reported d ss k b number b′ l h r e =
     let page : told number b′ ≡ told 0 (reportBytes (plugPage (reportOf (columnOf k ss)))) =
     e ∙ rw (bytes .size, r, not-over k h, held-report (bytes .held) k h) in
     (ap (λ z. z .number) page, ap (λ z. z .lent) page, held-reads (bytes .held) k)
+
+pub wd16-scans-counted : Wd16ScansCounted
+wd16-scans-counted d ss l = let h = held-lent d ss l in (h .size, h .held .scans, h .held .few)
