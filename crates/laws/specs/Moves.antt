@@ -31,6 +31,7 @@ use Rattle.machine.specs.Entry.{finishedPage, runPage}
 use Rattle.machine_c.specs.Layout.{stateFrom, settingsFrom}
 use Rattle.machine_c.specs.Calls.{runCall}
 use Rattle.wordbytes.specs.Words.{byteAt}
+use Rattle.wordbytes.specs.Words as Words
 use Rattle.laws.specs.Mark.{StepCall, LentSteps}
 
 -- ---- runs one after another, each from where the last ended: `lines` are the line words of all, `blanks` the blanks of all
@@ -124,3 +125,13 @@ abbrev pub Wd16XctElement : Type 0
 Wd16XctElement = (w b m map : List ℕ) (line : ℕ) (b′ m′ : List ℕ) → LentSteps w b m map line b′ m′
     → (let s = stateFrom b in settingsFrom w .blocks ≡ true → s .mode ≡ Running → byteAt b′ 19 ≡ 0 → wordAt m (s .regs .pc) ≡ 0x5
     → (let op = wordAt m (wordAt m (s .regs .sp)) in op / 512 ≡ 7 → OneElement (settingsFrom w) map line op s m (stateFrom b′) m′))
+
+-- ---- and no blank is counted on the way: the first words of the tallies that the calls leave, added up
+
+unfoldable pub blanksTold : {w map b m lines b′ m′ : List ℕ} → LentRuns w map b m lines b′ m′ → ℕ
+blanksTold none = 0
+blanksTold (runs lines rest t b₁ t₁ m₁ e more) = Words.wordAt t₁ 0 + blanksTold more
+
+abbrev pub Wd16MovesCounted : Type 0
+Wd16MovesCounted = (w map : List ℕ) (op : ℕ) (lines b m b′ m′ : List ℕ) → Moves (settingsFrom w) map op lines (stateFrom b) m
+    → (r : LentRuns w map b m lines b′ m′) → blanksTold r ≡ 0

@@ -47,12 +47,13 @@ use Rattle.machine_c.proofs.Laws.Again.{state-again}
 use Rattle.machine.specs.Numbers.{nowhere}
 use Rattle.laws.proofs.Laws.Append.{behind, goOn, run-append}
 use Rattle.laws.proofs.Laws.Taken.{ran-is}
-use Rattle.laws.proofs.Laws.Calls.{call-answered, run-not-refused, step-done, cause-0, cause-5}
+use Rattle.wordbytes.specs.Words as Words
+use Rattle.laws.proofs.Laws.Calls.{blanks-word, call-answered, run-not-refused, step-done, cause-0, cause-5}
 use Rattle.laws.proofs.Laws.Always.{Always, always-value, run-split}
 use Rattle.opcodes.proofs.Laws.Past.{Below, below}
 use Rattle.laws.proofs.Laws.Marked.{code-work}
 use Rattle.laws.proofs.Laws.Mark.{turn-is}
-use Rattle.laws.specs.Moves.{RunsOn, LentRuns, quiet, Moves, RunMoves, RunsMove, Wd16RunsMove, ElementDropped, opened, OneElement, XctElement, Wd16ElementDropped, Wd16XctElement}
+use Rattle.laws.specs.Moves.{RunsOn, LentRuns, quiet, Moves, RunMoves, RunsMove, Wd16RunsMove, ElementDropped, opened, OneElement, XctElement, Wd16ElementDropped, Wd16XctElement, blanksTold, Wd16MovesCounted}
 use Rattle.laws.specs.Moves as Spec
 
 -- ---- quiet lines
@@ -282,3 +283,18 @@ wd16-xct-element w b m map line b′ m′ e fit runs zero five eight =
     let d = step-done w b m map line b′ m′ e in
     let x = xct-element (settingsFrom w) m map line (stateFrom b) (d .turn) m′ (d .page) fit runs (cause-0 (d .turn .cause) (sym (d .cause) ∙ zero)) five eight in
     subst (λ (s : State). OneElement (settingsFrom w) map line (wordAt m (wordAt m (stateFrom b .regs .sp))) (stateFrom b) m s m′) (sym (d .state)) x
+
+-- the tallies' blanks are the runs'
+told-lent : (w map b m lines b′ m′ : List ℕ) (r : LentRuns w map b m lines b′ m′) → blanksTold r ≡ lent-runs w map b m lines b′ m′ r .blanks
+unfolding blanksTold lent-runs
+told-lent w map b m lines b′ m′ Spec.LentRuns.none = refl
+told-lent w map b m lines b′ m′ (Spec.LentRuns.runs xs ys t b₁ t₁ m₁ e r) =
+    let free = run-not-refused b t m map w xs b₁ t₁ m₁ e in
+    let call = call-answered b t m map w xs 0 b₁ t₁ m₁ (free .0) (free .1) e .1 in
+    let here : Words.wordAt t₁ 0 ≡ call .ran .tally .blanks = ap (λ (z : List ℕ). Words.wordAt z 0) (call .tally) ∙ blanks-word (call .ran .tally .blanks) _ in
+    rw (here, told-lent w map b₁ m₁ ys b′ m′ r) refl
+
+pub wd16-moves-counted : Wd16MovesCounted
+wd16-moves-counted w map op lines b m b′ m′ a r =
+    let x = lent-runs w map b m lines b′ m′ r in
+    told-lent w map b m lines b′ m′ r ∙ runs-move (settingsFrom w) map op lines (stateFrom b) m (x .blanks) (stateFrom b′) m′ a (x .runs) .2
