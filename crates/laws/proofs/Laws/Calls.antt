@@ -102,9 +102,9 @@ told-word n p = word-again (placeTold p)
 
 -- ---- the first blank of two calls, by the words of their tallies
 
--- a place is below 4,096, so that FFFF is none
+-- a place is below FFFF, so that FFFF is none
 abbrev pub Within : First → Type 0
-Within f = (p a : ℕ) → f ≡ At p a → p < 4096
+Within f = (p a : ℕ) → f ≡ At p a → p < 65535
 
 pub place-after : (n : ℕ) (f g : First) → Within f → Within g → placeNumber (placePage (orFirst f (placeMoved n g))) ≡ firstPlace n (placeNumber (placePage f)) (placeNumber (placePage g))
 place-after n (At p a) g h k = let low = h p a refl in rw (ne-eqb p 65535 (λ z. omega arith))
@@ -117,7 +117,7 @@ told-after n Never (At q b) h = refl
 told-after n Never Never h = refl
 
 -- a run's first place is one of its steps'
-pub run-low : (settings : Settings) (map lines : List ℕ) (s : State) (m : List ℕ) (a : Ran) (n : List ℕ) → ranOf a n ≡ runOf settings map lines s m → length lines ≤ 4096 → Within (a .tally .first)
+pub run-low : (settings : Settings) (map lines : List ℕ) (s : State) (m : List ℕ) (a : Ran) (n : List ℕ) → ranOf a n ≡ runOf settings map lines s m → length lines ≤ 65535 → Within (a .tally .first)
 run-low settings map lines s m a n e l =
     let same : a .tally .first ≡ firstBlankIn (trailOf settings map lines s m) = ap firstOf (e ∙ run-trail settings map lines s m Cause.Nothing) in
     rw same (low (firstBlankIn (trailOf settings map lines s m)) (trailOf settings map lines s m) (trail-length settings map lines s m) (first-least (trailOf settings map lines s m)))
@@ -131,7 +131,7 @@ run-low settings map lines s m a n e l =
 
 -- ---- a call that answers 0 wasn't refused
 
-told-none : (b : Bool) → cond b noState 0 ≡ 0 → b ≡ false
+pub told-none : (b : Bool) → cond b noState 0 ≡ 0 → b ≡ false
 told-none true e = absurd (omega arith)
 told-none false e = refl
 

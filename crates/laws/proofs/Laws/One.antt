@@ -65,7 +65,7 @@ told-bytes : (s : State) (c : Cause) → wordAt (stateBytes (statePage s) (cause
 unfolding stateBytes statePage
 told-bytes s c = word-again (wordTold (toldOf (causeAddress c)))
 
-uncaused-bytes : (s : State) (c : Cause) → stateBytes (statePage s) 0 nowhere ≡ uncaused (stateBytes (statePage s) (causeNumber c) (toldOf (causeAddress c)))
+pub uncaused-bytes : (s : State) (c : Cause) → stateBytes (statePage s) 0 nowhere ≡ uncaused (stateBytes (statePage s) (causeNumber c) (toldOf (causeAddress c)))
 unfolding stateBytes statePage
 uncaused-bytes s c = refl
 
