@@ -42,6 +42,11 @@ abbrev pub Wd16ScanCarded : Type 0
 Wd16ScanCarded = (b t m map w lines cards readings d b′ t′ m′ d′ : List ℕ) → told 0 (b′, t′, m′, d′) ≡ scanCall b t m map w lines cards readings d
     → Carded (channelsFrom cards readings) m map
 
+-- so where every card is there, a byte 1 for each channel, the lent readings stand there, channel by channel
+abbrev pub Wd16ReadingsStand : Type 0
+Wd16ReadingsStand = (b t m map w lines cards readings d b′ t′ m′ d′ : List ℕ) → told 0 (b′, t′, m′, d′) ≡ scanCall b t m map w lines cards readings d
+    → ((k : ℕ) → k < 16 → byteAt cards k ≡ 1) → (k : ℕ) → k < 16 → wordAt (scanImage (channelsFrom cards readings) m) (0xFE00 + 2 * k) ≡ getD readings k 0
+
 -- ---- what it changes: a byte outside page FE, at which no step of the run writes, is as lent; also where the scan is refused
 
 abbrev pub ScanChanges : Type 0

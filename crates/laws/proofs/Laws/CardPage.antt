@@ -10,12 +10,12 @@ use Rattle.board.specs.Work.{even, wordAt}
 use Rattle.wordbytes.specs.Words.{byteAt}
 use Rattle.wordbytes.specs.Words as Words
 use Rattle.refusal.specs.Numbers.{noState}
-use Rattle.refusal.specs.Page.{Page, refused, refusedAt, answered, Left, left, call, tells, reading}
-use Rattle.refusal.proofs.Laws.Page.{call-right}
+use Rattle.refusal.specs.Page.{Page, refused, refusedAt, answered, Left, left, call, told, tells, reading}
+use Rattle.refusal.proofs.Laws.Page.{first-both, call-right}
 use Rattle.machine_c.specs.Layout.{stateFrom, settingsFrom}
 use Rattle.plugs.specs.declared.Channel.{Channel}
 use Rattle.plugs.specs.declared.Channel.the-variants.{NoCard, Reading}
-use Rattle.plugs.specs.Plugs.{inRange, allOf}
+use Rattle.plugs.specs.Plugs.{inRange, present, allOf}
 use Rattle.plugs.proofs.Laws.Sum.{range-word}
 use Rattle.recorder.specs.declared.Recorder.{Recorder}
 use Rattle.recorder.specs.Scan.{TallyPage, scanWhy, withChannel, channelsPlaced, scanDone, scanOf}
@@ -24,8 +24,10 @@ use Rattle.recorder.proofs.Laws.Sound.{scan-sound}
 use Rattle.recorder.proofs.Laws.Writes.{scan-only}
 use Rattle.recorder_c.specs.Layout.{channelsFrom, recorderFrom, refusedScan}
 use Rattle.recorder_c.specs.Calls.{scanIn, scanCall}
-use Rattle.recorder_c.proofs.Laws.Sound.{sixteen}
-use Rattle.laws.specs.CardPage.{Carded, ScanCarded, Wd16ScanCarded, ScanChanges, Wd16ScanChanges}
+use Rattle.recorder_c.proofs.Laws.Sound.{scan-lengths, sixteen}
+use Rattle.demands.proofs.Laws.Scans.{wd16-scan-answers}
+use Rattle.laws.proofs.Laws.Calls.{told-none}
+use Rattle.laws.specs.CardPage.{Carded, ScanCarded, Wd16ScanCarded, Wd16ReadingsStand, ScanChanges, Wd16ScanChanges}
 
 -- ---- where the readings stand
 
@@ -118,20 +120,37 @@ wd16-scan-changes b t m map w lines cards readings d number b′ t′ m′ d′ 
         e ∙ ap (λ (z : List ℕ). getD z a 0) (read-image b t d (scanOf r cs m map (settingsFrom w) lines))
         ∙ scan-only r cs m map (settingsFrom w) lines a (sixteen b t w cards readings d q) n h
 
+scan-not-refused : (b t m map w lines cards readings d b′ t′ m′ d′ : List ℕ) → told 0 (b′, t′, m′, d′) ≡ scanCall b t m map w lines cards readings d
+    → (refusedScan b t w cards readings d ≡ false) × (scanWhy (recorderFrom (stateFrom b) d) (channelsFrom cards readings) m map (settingsFrom w) lines ≡ 0)
+scan-not-refused b t m map w lines cards readings d b′ t′ m′ d′ e =
+    let why = scanWhy (recorderFrom (stateFrom b) d) (channelsFrom cards readings) m map (settingsFrom w) lines in
+    let both = first-both (cond (refusedScan b t w cards readings d) noState 0) why (sym (wd16-scan-answers b t m map w lines cards readings d (told 0 (b′, t′, m′, d′)) e .numberIs)) in
+    (told-none (refusedScan b t w cards readings d) (both .0), both .1)
+
 pub wd16-scan-carded : Wd16ScanCarded
-unfolding scanCall scanOf
 wd16-scan-carded b t m map w lines cards readings d b′ t′ m′ d′ e =
-    let r = recorderFrom (stateFrom b) d in
-    by (refusedScan b t w cards readings d) refl (scanWhy r (channelsFrom cards readings) m map (settingsFrom w) lines) refl (ap (λ z. z .number) e)
-  where
-    by : (bad : Bool) → refusedScan b t w cards readings d ≡ bad → (why : ℕ) → scanWhy (recorderFrom (stateFrom b) d) (channelsFrom cards readings) m map (settingsFrom w) lines ≡ why
-        → (let r = recorderFrom (stateFrom b) d in
-        0 ≡ reading scanIn (λ l. (b, t, l .1, d)) (call (cond bad noState 0) (call why (scanDone r (channelsFrom cards readings) m map (settingsFrom w) lines) (r, m)) (r, m)) .number)
-        → Carded (channelsFrom cards readings) m map
-    by true q why z e = absurd (omega (arith, e))
-    by false q (suc why) z e = absurd (omega (arith, e))
-    by false q zero z e =
-        let r = recorderFrom (stateFrom b) d in
-        let cs = channelsFrom cards readings in
-        let known = scan-sound (r .scans) cs (length m) map (settingsFrom w) lines z in
-        carded cs m map (sixteen b t w cards readings d q) (known .bytes) (known .pages) (known .range)
+    let cs = channelsFrom cards readings in
+    let free = scan-not-refused b t m map w lines cards readings d b′ t′ m′ d′ e in
+    let known = scan-sound (recorderFrom (stateFrom b) d .scans) cs (length m) map (settingsFrom w) lines (free .1) in
+    carded cs m map (sixteen b t w cards readings d (free .0)) (known .bytes) (known .pages) (known .range)
+
+-- the lent channels, one by one
+channel-at : (cs ws : List ℕ) (k : ℕ) → length cs ≡ length ws → k < length cs → byteAt cs k ≡ 1 → getD (channelsFrom cs ws) k NoCard ≡ Reading (getD ws k 0)
+unfolding channelsFrom
+channel-at [] ws k l h e = absurd (omega (arith, h))
+channel-at (c ∷ cs) [] k l h e = absurd (omega (arith, l))
+channel-at (c ∷ cs) (w ∷ ws) zero l h e = rw e refl
+channel-at (c ∷ cs) (w ∷ ws) (suc k) l h e = channel-at cs ws k (omega (arith, l)) (omega (arith, h)) e
+
+all-present : (cs ws : List ℕ) → length cs ≡ length ws → ((k : ℕ) → k < length cs → byteAt cs k ≡ 1) → allOf present (channelsFrom cs ws) ≡ true
+unfolding channelsFrom allOf
+all-present [] ws l h = refl
+all-present (c ∷ cs) [] l h = absurd (omega (arith, l))
+all-present (c ∷ cs) (w ∷ ws) l h = rw (h 0 (omega arith)) (all-present cs ws (omega (arith, l)) (λ k i. h (suc k) (omega (arith, i))))
+
+pub wd16-readings-stand : Wd16ReadingsStand
+wd16-readings-stand b t m map w lines cards readings d b′ t′ m′ d′ e all k h =
+    let lengths = scan-lengths b t w cards readings d (scan-not-refused b t m map w lines cards readings d b′ t′ m′ d′ e .0) in
+    let even : length cards ≡ length readings = lengths .cards ∙ sym (lengths .readings) in
+    wd16-scan-carded b t m map w lines cards readings d b′ t′ m′ d′ e .readings
+    (all-present cards readings even (λ j i. all j (omega (arith, i, lengths .cards)))) k (getD readings k 0) h (channel-at cards readings k even (omega (arith, h, lengths .cards)) (all k h))
