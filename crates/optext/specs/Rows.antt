@@ -114,7 +114,7 @@ placeOf Word = place 1 65536
 
 -- the rows as the program has them, each in as many bytes
 abbrev pub rowWidth : ℕ
-rowWidth = 11
+rowWidth = 12
 
 abbrev pub letterOf : Kind → ℕ
 letterOf None = code "-"
@@ -150,7 +150,7 @@ kindAs c =
 abbrev pub rowBytes : Row → List ℕ
 rowBytes r =
     getD (r .name) 0 32 ∷ getD (r .name) 1 32 ∷ getD (r .name) 2 32 ∷ getD (r .name) 3 32 ∷ getD (r .name) 4 32
-    ∷ (hex4 (r .base) ++ (letterOf (r .first) ∷ letterOf (r .second) ∷ []))
+    ∷ (hex4 (r .base) ++ (letterOf (r .first) ∷ letterOf (r .second) ∷ 32 ∷ []))
 
 abbrev pub tableBytes : List Row → List ℕ
 tableBytes [] = []

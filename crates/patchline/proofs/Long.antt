@@ -1,7 +1,7 @@
 -- A text over 33 characters is no op code's, whatever digits stand for its labels: an op code's text has 24 at most, a name gives
 -- way to two digits or more, and an alias to a name that is one shorter at most.
 use mathlib.Core.Path.{_≡_, refl, ap}
-use mathlib.Core.Bool.{Bool, true, false, cond}
+use mathlib.Core.Bool.{cond}
 use mathlib.Core.List.{List, [], _++_}
 use mathlib.Core.Logic.{⊎-elim}
 use Prim.Native.Nat.{ℕ, suc, _+_, _-_, _≤_, _<_}

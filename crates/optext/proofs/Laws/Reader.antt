@@ -21,7 +21,7 @@ use Rattle.optext.proofs.Laws.Choose.{no, eq-cases, at}
 use Rattle.optext.proofs.Laws.Back.{hex4-back}
 use Rattle.optext.proofs.Laws.Reserved.{row-lt}
 use Rattle.optext.proofs.Laws.Meets.{taken-le, three}
-use Rattle.optext.proofs.Laws.Theorems.{one-text}
+use Rattle.optext.proofs.Laws.Theorems.{take-three, words-of, one-text}
 use Rattle.optext.proofs.Laws.Calls.{some-taken, whole-take}
 
 -- ---- the op codes by their numbers
@@ -31,13 +31,6 @@ unfolding opCode
 whole-code n h =
     whole-take (n / 2 ^ 32 ∷ n / 2 ^ 16 % 2 ^ 16 ∷ n % 2 ^ 16 ∷ []) (taken (n / 2 ^ 32)) (three (n / 2 ^ 32) (n / 2 ^ 16 % 2 ^ 16) (n % 2 ^ 16) (omega arith) (omega arith) (omega arith)) refl
     (taken-le (n / 2 ^ 32))
-
-take-three : (l : List ℕ) → length l ≤ 3 → take (length l) (getD l 0 0 ∷ getD l 1 0 ∷ getD l 2 0 ∷ []) ≡ l
-take-three [] h = refl
-take-three (a ∷ []) h = refl
-take-three (a ∷ b ∷ []) h = refl
-take-three (a ∷ b ∷ c ∷ []) h = refl
-take-three (a ∷ b ∷ c ∷ d ∷ l) h = absurd (omega arith)
 
 -- every op code has a number
 abbrev numberOf : ℕ → ℕ → ℕ → ℕ
@@ -135,18 +128,13 @@ none-taken : (w : ℕ) → 1 + takes (firstOf wordRow) w + takes (secondOf wordR
 unfolding theRow rows
 none-taken w = refl
 
-single : (l : List ℕ) → length l ≡ 1 → l ≡ getD l 0 0 ∷ []
-single [] e = absurd (omega arith)
-single (a ∷ []) e = refl
-single (a ∷ b ∷ l) e = absurd (omega arith)
-
 -- words whose text begins with a point are one word, after .WORD
 pointed : (vs : List ℕ) → Whole vs → getD (textOf vs) 0 0 ≡ 46 → (vs ≡ getD vs 0 0 ∷ []) × (textOf vs ≡ letters ".WORD " ++ hex4 (getD vs 0 0))
 unfolding textOf taken
 pointed vs h e =
     let w : ℕ = getD vs 0 0 in
     let k : rowOf w ≡ wordRow = dot-row (rowOf w) (row-lt w) .1 (sym (first-letter w _ _) ∙ e) in
-    (single vs (h .count ∙ alone w k), word-text w _ _ k)
+    (sym (words-of 1 vs (h .count ∙ alone w k) (omega arith)), word-text w _ _ k)
   where
     alone : (w : ℕ) → rowOf w ≡ wordRow → 1 + takes (firstOf (rowOf w)) w + takes (secondOf (rowOf w)) w ≡ 1
     alone w k = rw k (none-taken w)
