@@ -106,8 +106,9 @@ def wrong_places(text, specs, laws):
 
 
 def rows_of_text():
-    found = re.findall(r'row "(\w+)" 0x([0-9A-F]{4})', read("crates", "optext", "specs", "Rows.antt"))
-    return [(name, number) for name, number in found if name != "WORD"]
+    runs = re.findall(r'run 0x([0-9A-F]{4}) (\w+) \S+ \S+ \((.*) ∷ \[\]\)', read("crates", "optext", "specs", "Rows.antt"))
+    found = [(name, int(base, 16) + k * int(step, 0)) for base, step, names in runs for k, name in enumerate(re.findall(r'"([.\w]+)"', names))]
+    return [(name, f"{number:04X}") for name, number in found if name != ".WORD"]
 
 
 def table_of(text):

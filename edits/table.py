@@ -23,6 +23,8 @@ FEWER = {"endline write_end": "it is write_end_on on bench's board, and has that
 ALIKE = """destination_mode destination_register source_mode source_register register format9_code offset format2_code only_register
     format4_code argument format8_code block_source block_destination"""
 FEWER |= {f"opcodes fields::{field}": "its line stands in other fields too" for field in ALIKE.split()}
+PRINTS = "put put_first put_line put_spaces put_word put_printed put_refused say_unless read_board"
+FEWER |= {f"printing {name}": "what the C library reads and writes is not in the logic" for name in PRINTS.split()}
 
 Edit = collections.namedtuple("Edit", "name crate gate place words")
 

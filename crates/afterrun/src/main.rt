@@ -2,43 +2,21 @@
 // 256 of each fitted page as the run leaves them; a refused job is its line alone. The board is its four settings as for C, a byte
 // each. Where the answer could not be written standard error says so.
 ghost use Prim.Native.Nat.{_<_};
-use benchline::Printed;
-use job::Answer;
-use libc::STDERR_FILENO;
+use job::JobRead;
+use job::READ_OF_JOB;
 use libc::STDIN_FILENO;
-use libc::STDOUT_FILENO;
 use machine::Finished;
 use machine::Powered;
 use machine::Ran;
+use printing::put;
+use printing::put_printed;
+use printing::put_refused;
+use printing::read_board;
+use printing::say_unless;
+use refusal::MOST_LINE_WORDS;
 use refusal::number::LINES_LENGTH;
 use state::Settings;
 use state::State;
-
-fn put(bytes: &[u8]) -> bool {
-    io::write_all(STDOUT_FILENO, bytes)
-}
-
-// Writes the first bytes of a text and ends the line; answers whether all was written.
-fn put_line(text: &[u8], n: usize) -> bool {
-    if n <= text.len() {
-        return put(&text[..n]) && put(b"\n");
-    }
-    false
-}
-
-// Writes a line that was printed into a text.
-fn put_printed(text: &[u8], printed: Printed) -> bool {
-    match printed {
-        Printed::Line(n) => put_line(text, n),
-        Printed::Refused(_) => false,
-    }
-}
-
-fn put_refused(why: u8) -> bool {
-    let mut text = [0u8; 16];
-    let printed = benchline::write_refused(&mut text, why);
-    put_printed(&text, printed)
-}
 
 fn put_end(ran: Ran, board: Settings) -> bool {
     let mut text = [0u8; 64];
@@ -115,37 +93,16 @@ fn run_first(image: &mut [u8], map: &[u8], board: Settings, lines: &[u16], count
 fn run_job(input: &[u8], board: Settings) -> bool {
     let mut image = io::large_buffer();
     let mut map = [0u8; 256];
-    let mut lines = [0u16; 4096];
+    let mut lines = [0u16; MOST_LINE_WORDS];
     match job::read_job(input, &mut image, &mut map, &mut lines) {
-        Answer::Refused(why) => put_refused(why),
-        Answer::Lines(count) => run_first(&mut image, &map, board, &lines, count),
+        JobRead::Refused(why) => put_refused(why),
+        JobRead::Lines(count) => run_first(&mut image, &map, board, &lines, count),
     }
 }
 
-fn read_board() -> Settings {
-    let mut bytes = [0u8; 4];
-    io::read_full(STDIN_FILENO, &mut bytes);
-    Settings {
-        blocks: bytes[0] != 0,
-        powerup: bytes[1],
-        halt: bytes[2],
-        register: bytes[3],
-    }
-}
-
-fn say_unless(written: bool) {
-    if !written {
-        io::write_all(
-            STDERR_FILENO,
-            b"afterrun: the answer could not be written\n",
-        );
-    }
-}
-
-// The longest job has 25,096 bytes; one byte more shows that there are bytes left over.
 fn main() {
     let board = read_board();
-    let mut input = [0u8; 25097];
+    let mut input = [0u8; READ_OF_JOB];
     let got = io::read_full(STDIN_FILENO, &mut input);
-    say_unless(run_job(&input[..got], board));
+    say_unless(run_job(&input[..got], board), b"afterrun");
 }

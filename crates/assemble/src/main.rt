@@ -11,7 +11,9 @@ use assembler::Labelled;
 use assembler::MOST_LABELS;
 use libc::STDERR_FILENO;
 use libc::STDIN_FILENO;
-use libc::STDOUT_FILENO;
+use printing::line_end;
+use printing::put_first;
+use printing::say_unless;
 use refusal::number::LABEL_AGAIN;
 use refusal::number::LABEL_MISSING;
 use refusal::number::OUT_OF_PLACE;
@@ -30,21 +32,6 @@ fn say(text: &[u8]) {
 
 fn say_number(n: u64) {
     io::print_decimal(STDERR_FILENO, n);
-}
-
-// Where the line that begins at a place ends.
-fn line_end(t: &[u8], from: usize) -> usize
-    requires { ⌜ from ≤ length (now t) ⌝ }
-    ensures { λ r. ⌜ (from ≤ r) × (r ≤ length (now (t .entry))) ⌝ }
-{
-    let mut i = from;
-    while i < t.len() {
-        if t[i] == b'\n' {
-            return i;
-        }
-        i += 1;
-    }
-    i
 }
 
 // Where the text of a line ends that ends at a place: a CR directly before its newline is not of it.
@@ -178,24 +165,10 @@ fn say_long(line: usize) {
     say(b", from 0, is longer than 32 bytes\n");
 }
 
-// Writes the first bytes of an answer; tells whether all were written.
-fn put(section: &[u8], n: usize) -> bool {
-    if n <= section.len() {
-        return io::write_all(STDOUT_FILENO, &section[..n]);
-    }
-    false
-}
-
-fn say_unless(written: bool) {
-    if !written {
-        say(b"assemble: the answer could not be written\n");
-    }
-}
-
 fn answer_section(source: &[u8]) {
     let mut section = [0u8; LONGEST_SECTION];
     match assembler::assemble(source, &mut section) {
-        Assembled::Section(n) => say_unless(put(&section, n as usize)),
+        Assembled::Section(n) => say_unless(put_first(&section, n as usize), b"assemble"),
         Assembled::Refused(why) => say_refused(why),
         Assembled::RefusedAt(why, line) => say_refused_at(source, why, line),
     }
@@ -204,7 +177,7 @@ fn answer_section(source: &[u8]) {
 fn answer_labels(source: &[u8]) {
     let mut labels = [0u8; MOST_LABELS];
     match assembler::labels(source, &mut labels) {
-        Labelled::Bytes(n) => say_unless(put(&labels, n as usize)),
+        Labelled::Bytes(n) => say_unless(put_first(&labels, n as usize), b"assemble"),
         Labelled::Refused(why) => say_refused(why),
         Labelled::RefusedAt(why, line) => say_refused_at(source, why, line),
     }

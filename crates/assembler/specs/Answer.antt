@@ -7,7 +7,7 @@ use lib.ListN.{length}
 use Rattle.hexdigits.specs.Over.{inFrontOf}
 use Rattle.refusal.specs.Numbers.{unknownText, labelAgain, labelMissing, outOfReach, outOfPlace, sourceLines, outputShort}
 use Rattle.refusal.specs.Page.{Page, refused, refusedAt, answered, Left, left, call, first}
-use Rattle.assembler.specs.Source.{lineCount, lowest}
+use Rattle.assembler.specs.Source.{lineCount, mostLines, lowest}
 use Rattle.assembler.specs.Section.{wordsPlaced, sectionOf}
 use Rattle.assembler.specs.declared.Assembled.{Assembled}
 use Rattle.assembler.specs.declared.Assembled.the-variants.{Section, Refused, RefusedAt}
@@ -38,7 +38,7 @@ unfoldable pub sourceWhy : ℕ → List ℕ → ℕ → ℕ
 sourceWhy room s size =
     first (cond (ltb size room) outputShort 0)
     (first (cond (eqb (length s % 32) 0) 0 sourceLines)
-    (cond (ltb 1024 (lineCount s)) sourceLines 0))
+    (cond (ltb mostLines (lineCount s)) sourceLines 0))
 
 -- what is written in front of the output, of which the rest is as lent, and its length
 abbrev pub sectionWritten : List ℕ → List ℕ → Left ℕ (List ℕ)

@@ -51,13 +51,17 @@ sectionBytes (e ∷ l) = entryBytes e ++ sectionBytes l
 unfoldable pub sectionOf : List ℕ → List ℕ
 sectionOf l = pair (length l) ++ sectionBytes l
 
+-- the most words of a source: three a line
+abbrev pub mostWords : ℕ
+mostWords = 3072
+
 -- the table whose first entries these are: one entry more, and a line's entries more
 pub record Inserts (t e : List ℕ) (n x r : ℕ) : Type 0 where
   pub entries : take r e ≡ inserted x (take n t)
   pub count : r ≡ n + 1
-  pub size : length e ≡ 3072
+  pub size : length e ≡ mostWords
 
 pub record Enters (t e : List ℕ) (n : ℕ) (o : Op) (h r : ℕ) : Type 0 where
   pub entries : take r e ≡ entered o h (take n t)
   pub count : r ≤ n + 3
-  pub size : length e ≡ 3072
+  pub size : length e ≡ mostWords

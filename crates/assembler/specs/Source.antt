@@ -18,6 +18,10 @@ use Rattle.assembler.specs.declared.source.Fault.the-variants.{Text, Giv
 abbrev pub lineCount : List ℕ → ℕ
 lineCount s = length s / 32
 
+-- the most lines of a source
+abbrev pub mostLines : ℕ
+mostLines = 1024
+
 unfoldable pub lineAt : List ℕ → ℕ → List ℕ
 lineAt s i = take 32 (drop (32 * i) s)
 
@@ -129,7 +133,7 @@ lineOp s h t =
 
 -- tables of the origins and of the ends
 pub record Starts (s table : List ℕ) : Type 0 where
-  pub few : lineCount s ≤ 1024
+  pub few : lineCount s ≤ mostLines
   pub at : (k : ℕ) → k < lineCount s + 1 → getD table k 0 ≡ originAt s k
 
 pub record LineEnds (s table : List ℕ) : Type 0 where

@@ -5,7 +5,7 @@ ghost use Prim.Native.Nat.{_+_, _*_, _≤_};
 ghost use lib.ListN.{length};
 ghost use Rattle.hexdigits.specs.Over.{Wrote, WroteAt};
 ghost use Rattle.refusal.specs.Page.{left};
-ghost use Rattle.assembler.specs.Source.{lineCount, Starts};
+ghost use Rattle.assembler.specs.Source.{lineCount, Starts, mostLines};
 ghost use Rattle.assembler.specs.Section.{pair};
 ghost use Rattle.assembler.specs.Answer.{sectionWritten, checked};
 ghost use Rattle.assembler.specs.Labels as Spec;
@@ -41,8 +41,8 @@ fn line_label_at(out: &mut [u8], at: usize, n: usize, h: u16) -> usize
 
 // All lines'.
 fn put_labels(source: &[u8], starts: &[u32; MOST_STARTS], out: &mut [u8]) -> usize
-    requires { ⌜ Starts (now source) (now starts) × (4096 ≤ length (now out)) ⌝ }
-    ensures { λ r. ⌜ Wrote (Spec.labelsOf (now (source .entry))) (now (out .entry)) (now (out .exit)) r × (r ≤ 4096) ⌝ }
+    requires { ⌜ Starts (now source) (now starts) × (Spec.mostLabels ≤ length (now out)) ⌝ }
+    ensures { λ r. ⌜ Wrote (Spec.labelsOf (now (source .entry))) (now (out .entry)) (now (out .exit)) r × (r ≤ Spec.mostLabels) ⌝ }
 {
     let lines = count(source);
     let mut at = 0;
@@ -58,7 +58,7 @@ fn put_labels(source: &[u8], starts: &[u32; MOST_STARTS], out: &mut [u8]) -> usi
 
 // A source of whole lines: its first fault of those that make labels doubtful, or its labels in front of the output.
 pub(crate) fn label_lines(source: &[u8], out: &mut [u8]) -> Labelled
-    requires { ⌜ (lineCount (now source) ≤ 1024) × (4096 ≤ length (now out)) ⌝ }
+    requires { ⌜ (lineCount (now source) ≤ mostLines) × (Spec.mostLabels ≤ length (now out)) ⌝ }
     ensures { λ r. ⌜ left (Spec.labelledPage r) (now (out .exit)) ≡ checked Spec.labelFaults (now (source .entry)) (sectionWritten (Spec.labelsOf (now (source .entry))) (now (out .entry))) (now (out .entry)) ⌝ }
 {
     let n = count(source);

@@ -2,8 +2,8 @@
 ghost use mathlib.Core.Path.{_≡_};
 ghost use Prim.Native.Nat.{_≤_};
 ghost use lib.ListN.{length};
-ghost use Rattle.assembler.specs.Source.{lineCount};
-ghost use Rattle.assembler.specs.Answer.{faults, assembledPage, sourceWhy, sectionWritten, checked, assembled, asmOf};
+ghost use Rattle.assembler.specs.Source.{lineCount, mostLines};
+ghost use Rattle.assembler.specs.Answer.{faults, assembledPage, sourceWhy, sectionWritten, checked, assembled, asmOf, longestSection};
 ghost use Rattle.refusal.specs.Page.{left};
 ghost use Rattle.assembler.specs.Labels.{labelledPage, labelsPage};
 use crate::source::Fault;
@@ -52,7 +52,7 @@ pub enum Labelled {
 
 // A source of whole lines: its first fault, or its section in front of the output.
 fn assemble_lines(source: &[u8], out: &mut [u8]) -> Assembled
-    requires { ⌜ (lineCount (now source) ≤ 1024) × (12290 ≤ length (now out)) ⌝ }
+    requires { ⌜ (lineCount (now source) ≤ mostLines) × (longestSection ≤ length (now out)) ⌝ }
     ensures { λ r. ⌜ left (assembledPage r) (now (out .exit)) ≡ checked faults (now (source .entry)) (sectionWritten (assembled (now (source .entry))) (now (out .entry))) (now (out .entry)) ⌝ }
 {
     let n = source::count(source);

@@ -5,7 +5,8 @@ ghost use Prim.Native.Nat.{_+_, _*_, _≤_, _<_};
 ghost use lib.ListN.{length, take};
 ghost use Rattle.hexdigits.specs.Over.{Wrote, WroteAt};
 ghost use Rattle.assembler.specs.Source.{lineCount, Starts};
-ghost use Rattle.assembler.specs.Section.{sectionEntry, lowerOf, higherOf, inserted, entered, wordsPlaced, pair, entryBytes, sectionBytes, sectionOf, Inserts, Enters};
+ghost use Rattle.assembler.specs.Section.{sectionEntry, lowerOf, higherOf, inserted, entered, wordsPlaced, pair, entryBytes, sectionBytes, sectionOf, Inserts, Enters, mostWords};
+ghost use Rattle.assembler.specs.Answer.{longestSection};
 use super::MOST_STARTS;
 use super::MOST_WORDS;
 use crate::source::count;
@@ -42,7 +43,7 @@ fn higher(x: u32, y: u32) -> u32
 
 // One entry more, at its place among the first n.
 fn insert(table: &mut [u32; MOST_WORDS], n: usize, x: u32) -> usize
-    requires { ⌜ (n < 3072) × (length (now table) ≡ 3072) ⌝ }
+    requires { ⌜ (n < mostWords) × (length (now table) ≡ mostWords) ⌝ }
     ensures { λ r. ⌜ Inserts (now (table .entry)) (now (table .exit)) n x r ⌝ }
 {
     let mut carry = x;
@@ -59,7 +60,7 @@ fn insert(table: &mut [u32; MOST_WORDS], n: usize, x: u32) -> usize
 
 // The words of a line from an address on.
 fn enter(table: &mut [u32; MOST_WORDS], n: usize, o: Op, h: u16) -> usize
-    requires { ⌜ (n + 3 ≤ 3072) × (length (now table) ≡ 3072) ⌝ }
+    requires { ⌜ (n + 3 ≤ mostWords) × (length (now table) ≡ mostWords) ⌝ }
     ensures { λ r. ⌜ Enters (now (table .entry)) (now (table .exit)) n o h r ⌝ }
 {
     if o.count < 1 {
@@ -82,8 +83,8 @@ pub(crate) fn place_all(
     starts: &[u32; MOST_STARTS],
     table: &mut [u32; MOST_WORDS],
 ) -> usize
-    requires { ⌜ Starts (now source) (now starts) × (length (now table) ≡ 3072) ⌝ }
-    ensures { λ r. ⌜ (take r (now (table .exit)) ≡ wordsPlaced (now (source .entry)) (lineCount (now (source .entry)))) × (r ≤ 3072) × (length (now (table .exit)) ≡ 3072) ⌝ }
+    requires { ⌜ Starts (now source) (now starts) × (length (now table) ≡ mostWords) ⌝ }
+    ensures { λ r. ⌜ (take r (now (table .exit)) ≡ wordsPlaced (now (source .entry)) (lineCount (now (source .entry)))) × (r ≤ mostWords) × (length (now (table .exit)) ≡ mostWords) ⌝ }
 {
     let lines = count(source);
     let mut n = 0;
@@ -128,7 +129,7 @@ pub(crate) fn put_count(out: &mut [u8], n: usize) -> usize
 
 // The first n entries from a place on.
 fn put_entries(out: &mut [u8], from: usize, table: &[u32; MOST_WORDS], n: usize) -> usize
-    requires { ⌜ (from + 12288 ≤ length (now out)) × (n ≤ 3072) × (length (now table) ≡ 3072) ⌝ }
+    requires { ⌜ (from + 4 * mostWords ≤ length (now out)) × (n ≤ mostWords) × (length (now table) ≡ mostWords) ⌝ }
     ensures { λ k. ⌜ WroteAt from (sectionBytes (take n (now (table .entry)))) (now (out .entry)) (now (out .exit)) k ⌝ }
 {
     let mut at = from;
@@ -142,7 +143,7 @@ fn put_entries(out: &mut [u8], from: usize, table: &[u32; MOST_WORDS], n: usize)
 
 // The section of the first n entries.
 pub(crate) fn put_section(out: &mut [u8], table: &[u32; MOST_WORDS], n: usize) -> usize
-    requires { ⌜ (12290 ≤ length (now out)) × (n ≤ 3072) × (length (now table) ≡ 3072) ⌝ }
+    requires { ⌜ (longestSection ≤ length (now out)) × (n ≤ mostWords) × (length (now table) ≡ mostWords) ⌝ }
     ensures { λ k. ⌜ Wrote (sectionOf (take n (now (table .entry)))) (now (out .entry)) (now (out .exit)) k ⌝ }
 {
     let at = put_count(out, n);

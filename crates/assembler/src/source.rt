@@ -3,7 +3,7 @@ ghost use mathlib.Core.Path.{_≡_};
 ghost use Prim.Native.Nat.{ℕ, _+_, _*_, _≤_, _<_};
 ghost use lib.ListN.{length};
 ghost use Rattle.optext.specs.First.{firstFrom};
-ghost use Rattle.assembler.specs.Source.{lineCount, lineAt, textAt, saidAt, isOrigin, endAfter, nextFrom, givesAt, giverOf, valueOf, hereOf, isUnknown, isGiven, hasLabels, lacks, overlaps, isOdd, isFar, fails, isMissing, misplaced, far, lowest, lineOp, Starts, LineEnds};
+ghost use Rattle.assembler.specs.Source.{lineCount, lineAt, textAt, saidAt, isOrigin, endAfter, nextFrom, givesAt, giverOf, valueOf, hereOf, isUnknown, isGiven, hasLabels, lacks, overlaps, isOdd, isFar, fails, isMissing, misplaced, far, lowest, lineOp, Starts, LineEnds, mostLines};
 ghost use Rattle.assembler.specs.Source as Spec;
 use super::MOST_LINES;
 use super::MOST_STARTS;
@@ -103,7 +103,7 @@ fn next_from(o: u32, s: Said) -> u32
 
 // The tables of the origins and of the ends.
 pub(crate) fn survey(source: &[u8], starts: &mut [u32; MOST_STARTS], ends: &mut [u32; MOST_LINES])
-    requires { ⌜ (lineCount (now source) ≤ 1024) × (length (now starts) ≡ 1025) × (length (now ends) ≡ 1024) ⌝ }
+    requires { ⌜ (lineCount (now source) ≤ mostLines) × (length (now starts) ≡ mostLines + 1) × (length (now ends) ≡ mostLines) ⌝ }
     ensures { λ _. ⌜ Starts (now (source .entry)) (now (starts .exit)) × LineEnds (now (source .entry)) (now (ends .exit)) ⌝ }
 {
     let n = count(source);

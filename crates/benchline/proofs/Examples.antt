@@ -3,7 +3,7 @@ use mathlib.Core.Path.{_≡_, refl}
 use mathlib.Core.List.{List, [], _∷_}
 use Prim.Native.Nat.{ℕ}
 use Rattle.hexdigits.specs.Digits.{digits, hexOf, hex4}
-use Rattle.benchline.specs.declared.Place.the-variants.{At, Nowhere}
+use Rattle.benchline.specs.declared.WordOrNone.the-variants.{At, Nowhere}
 use Rattle.benchline.specs.Line.{field, fields, modeDigit, placeText, firstText, lineText, name, decimal, refusedText}
 
 registers : List ℕ

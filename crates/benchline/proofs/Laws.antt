@@ -10,8 +10,8 @@ use borrow.Author.Tests.{lt-ltb, le-ltb}
 use lib.Dec.{ltb}
 use lib.ListN.{length, length-append}
 use Rattle.hexdigits.specs.Digits.{hex4}
-use Rattle.benchline.specs.declared.Place.{Place}
-use Rattle.benchline.specs.declared.Place.the-variants.{At, Nowhere}
+use Rattle.benchline.specs.declared.WordOrNone.{WordOrNone}
+use Rattle.benchline.specs.declared.WordOrNone.the-variants.{At, Nowhere}
 use Rattle.benchline.proofs.Laws.Lengths.{field-length, fields-length}
 use Rattle.benchline.specs.Line.{modeDigit, placeText, firstText, lineText, name, decimal, refusedText}
 
@@ -20,16 +20,16 @@ pub mode-length : (mode : ℕ) → length (modeDigit mode) ≡ 2
 unfolding modeDigit
 mode-length mode = refl
 
-pub place-length : (place : Place) → length (placeText place) ≡ 4
+pub place-length : (place : WordOrNone) → length (placeText place) ≡ 4
 unfolding placeText hex4
 place-length (At x) = refl
 place-length Nowhere = refl
 
-pub first-length : (place address : Place) → length (firstText place address) ≡ 9
+pub first-length : (place address : WordOrNone) → length (firstText place address) ≡ 9
 unfolding firstText
 first-length place address = simp length-append (omega (arith, place-length place, place-length address))
 
-pub line-length : (regs : List ℕ) (ps mode blanks : ℕ) (place address : Place) → length (lineText regs ps mode blanks place address) ≡ 61
+pub line-length : (regs : List ℕ) (ps mode blanks : ℕ) (place address : WordOrNone) → length (lineText regs ps mode blanks place address) ≡ 61
 unfolding lineText
 line-length regs ps mode blanks place address =
     simp length-append

@@ -9,8 +9,8 @@ use Rattle.hexdigits.specs.Digits.{hexOf, hex4}
 use Rattle.hexdigits.specs.Over.{inFrontOf}
 use Rattle.refusal.specs.Numbers.{textShort}
 use Rattle.refusal.specs.Page.{Page, refused, answered, Left, left, call}
-use Rattle.benchline.specs.declared.Place.{Place}
-use Rattle.benchline.specs.declared.Place.the-variants.{At, Nowhere}
+use Rattle.benchline.specs.declared.WordOrNone.{WordOrNone}
+use Rattle.benchline.specs.declared.WordOrNone.the-variants.{At, Nowhere}
 use Rattle.benchline.specs.declared.Printed.{Printed}
 use Rattle.benchline.specs.declared.Printed.the-variants as Printed
 
@@ -34,16 +34,16 @@ unfoldable pub modeDigit : ℕ → List ℕ
 modeDigit mode = hexOf (mode % 16) ∷ space
 
 -- a place or an address, or ----
-unfoldable pub placeText : Place → List ℕ
+unfoldable pub placeText : WordOrNone → List ℕ
 placeText (At x) = hex4 x
 placeText Nowhere = dashes
 
 -- the first blank: its place and the address that it told
-unfoldable pub firstText : Place → Place → List ℕ
+unfoldable pub firstText : WordOrNone → WordOrNone → List ℕ
 firstText place address = (placeText place ++ space) ++ placeText address
 
 -- PS has bits 15 and 14 clear
-unfoldable pub lineText : List ℕ → ℕ → ℕ → ℕ → Place → Place → List ℕ
+unfoldable pub lineText : List ℕ → ℕ → ℕ → ℕ → WordOrNone → WordOrNone → List ℕ
 lineText regs ps mode blanks place address =
     (((fields regs 8 ++ field (ps % 16384)) ++ modeDigit mode) ++ field blanks) ++ firstText place address
 

@@ -11,7 +11,7 @@ ghost use Rattle.hexdigits.specs.Over as Over;
 ghost use Rattle.refusal.specs.Page.{left};
 
 // Where the first blank was: a place in the list of line words, or an address; or none.
-pub enum Place {
+pub enum WordOrNone {
     At(u16),
     Nowhere,
 }
@@ -74,13 +74,13 @@ pub fn put_dashes(out: &mut [u8]) -> usize
 }
 
 // A place or an address in four hex digits, or four dashes.
-fn put_place(out: &mut [u8], place: Place) -> usize
+fn put_place(out: &mut [u8], place: WordOrNone) -> usize
     requires { ⌜ 4 ≤ length (now out) ⌝ }
     ensures { λ n. ⌜ Wrote (placeText place) (now (out .entry)) (now (out .exit)) n ⌝ }
 {
     match place {
-        Place::At(x) => put_hex4(out, x),
-        Place::Nowhere => put_dashes(out),
+        WordOrNone::At(x) => put_hex4(out, x),
+        WordOrNone::Nowhere => put_dashes(out),
     }
 }
 
@@ -101,7 +101,7 @@ fn mode_at(text: &mut [u8], at: usize, mode: u8) -> usize
 }
 
 // The same in its place of the text.
-fn place_at(text: &mut [u8], at: usize, place: Place) -> usize
+fn place_at(text: &mut [u8], at: usize, place: WordOrNone) -> usize
     requires { ⌜ at + 4 ≤ length (now text) ⌝ }
     ensures { λ n. ⌜ WroteAt at (placeText place) (now (text .entry)) (now (text .exit)) n ⌝ }
 {
@@ -109,7 +109,7 @@ fn place_at(text: &mut [u8], at: usize, place: Place) -> usize
 }
 
 // The first blank's place and the address that it told.
-fn put_first(out: &mut [u8], place: Place, address: Place) -> usize
+fn put_first(out: &mut [u8], place: WordOrNone, address: WordOrNone) -> usize
     requires { ⌜ 9 ≤ length (now out) ⌝ }
     ensures { λ n. ⌜ Wrote (firstText place address) (now (out .entry)) (now (out .exit)) n ⌝ }
 {
@@ -118,7 +118,7 @@ fn put_first(out: &mut [u8], place: Place, address: Place) -> usize
     place_at(out, after, address)
 }
 
-fn first_at(text: &mut [u8], at: usize, place: Place, address: Place) -> usize
+fn first_at(text: &mut [u8], at: usize, place: WordOrNone, address: WordOrNone) -> usize
     requires { ⌜ at + 9 ≤ length (now text) ⌝ }
     ensures { λ n. ⌜ WroteAt at (firstText place address) (now (text .entry)) (now (text .exit)) n ⌝ }
 {
@@ -147,8 +147,8 @@ pub fn write_line(
     ps: u16,
     mode: u8,
     blanks: u16,
-    place: Place,
-    address: Place,
+    place: WordOrNone,
+    address: WordOrNone,
 ) -> Printed
     ensures { λ r. ⌜ left (printedPage r) (now (text .exit)) ≡ printOf (lineText regs ps mode blanks place address) (now (text .entry)) ⌝ }
 {

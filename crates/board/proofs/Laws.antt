@@ -9,39 +9,40 @@ pub mod Exec
 use Prim.Native.Nat.{ℕ, _+_, _*_, _/_, _%_, _<_}
 use native.Mathlib.Omega.{arith}
 use native.Mathlib.Decide.{ℕ-discrete, decLt}
-use mathlib.Core.Bool.{Bool, true, false}
+use mathlib.Core.Bool.{Bool, true, false, _&&_}
 use mathlib.Core.List.{List}
 use mathlib.Core.Path.{_≡_, refl, sym, ap, _∙_, subst}
 use lib.ListN.{getD, set, length, length-set}
 use lib.Seq.{getD-set-same, getD-set-other, set-out}
 use borrow.Author.Tests.{ltb-true}
-use Rattle.board.specs.Work.{Work, give, readAt, writeAt, Size, word, byte, fitted, writable, even, wordAt, withWord, withByte, get, put, _>>=_}
+use Rattle.board.specs.Work.{Work, give, readAt, writeAt, Size, word, byte, fitted, writable, even, imageWord, withWord, withByte, get, put, _>>=_}
 use Rattle.board.specs.Work as Work
-use Rattle.board.specs.Exec.{and, Store, Now, good, gone, logCount, logRoom, note, withNote, allowed, exec, Board, Got, Did}
-pub use Rattle.board.specs.Exec.{wordAs, byteAs, keptAs}
-use Rattle.board.proofs.Laws.Exec.{stateOf}
+use Rattle.board.specs.Exec.{Store, Now, good, gone, logCount, logRoom, note, withNote, allowed, exec, Board, Got, Did, widened}
+pub use Rattle.board.specs.Exec.{wordAs, byteAs, storedAs}
+use Rattle.board.proofs.Laws.Exec.{storeOf}
+use Rattle.board.specs.declared.Word.{Word}
+use Rattle.board.specs.declared.Byte.{Byte}
+use Rattle.board.specs.declared.Byte.the-variants as Byte
 
-abbrev pub after : {A B : Type 0} → Now A → (A → Store → Now B) → Now B
-after (good x st) f = f x st
-after (gone a st) f = gone a st
+abbrev andThen : {A B : Type 0} → Now A → (A → Store → Now B) → Now B
+andThen (good x st) f = f x st
+andThen (gone a st) f = gone a st
 
-allowed-after : {A B : Type 0} (b : Bool) (a : ℕ) (st : Store) (x : Now A) (f : A → Store → Now B) → after (allowed b a st x) f ≡ allowed b a st (after x f)
+allowed-after : {A B : Type 0} (b : Bool) (a : ℕ) (st : Store) (x : Now A) (f : A → Store → Now B) → andThen (allowed b a st x) f ≡ allowed b a st (andThen x f)
 allowed-after true a st x f = refl
 allowed-after false a st x f = refl
 
-pub exec-bind : {A B : Type 0} (map : List ℕ) (w : Work A) (f : A → Work B) (st : Store) → exec map (w >>= f) st ≡ after (exec map w st) (λ x t. exec map (f x) t)
+exec-bind : {A B : Type 0} (map : List ℕ) (w : Work A) (f : A → Work B) (st : Store) → exec map (w >>= f) st ≡ andThen (exec map w st) (λ x t. exec map (f x) t)
 unfolding exec _>>=_
 exec-bind map (give x) f st = refl
 exec-bind map (readAt z a k) f st = rw (exec-bind map (k (get z (st .image) a)) f st, allowed-after)
 exec-bind map (writeAt z a v w) f st = rw (exec-bind map w f (withNote z a v st), allowed-after, allowed-after)
 
-allowed-and : {A : Type 0} (b c : Bool) (a : ℕ) (st : Store) (x : Now A) → allowed b a st (allowed c a st x) ≡ allowed (and b c) a st x
-unfolding and
+allowed-and : {A : Type 0} (b c : Bool) (a : ℕ) (st : Store) (x : Now A) → allowed b a st (allowed c a st x) ≡ allowed (b && c) a st x
 allowed-and true c a st x = refl
 allowed-and false c a st x = refl
 
-pub and-right : (b c : Bool) → and b c ≡ true → c ≡ true
-unfolding and
+pub and-right : (b c : Bool) → b && c ≡ true → c ≡ true
 and-right true c e = e
 and-right false true e = refl
 and-right false false e = e
@@ -54,12 +55,12 @@ module _ {map : List ℕ} where
   -- work that came to a value, and then the work that follows it
   pub got-then : {A B : Type 0} {w : Work A} (f : A → Work B) {st st₁ : Store} {x : A} {r₁ : Now A} {r : Now B}
       → Got map w st r₁ → r₁ ≡ good x st₁ → Got map (f x) st₁ r → Got map (w >>= f) st r
-  got-then {w = w} f {st} d e u = record { came = u .came ∙ sym (exec-bind map w f st ∙ ap (λ c. after c (λ x t. exec map (f x) t)) (sym (d .came) ∙ e)) }
+  got-then {w = w} f {st} d e u = record { came = u .came ∙ sym (exec-bind map w f st ∙ ap (λ c. andThen c (λ x t. exec map (f x) t)) (sym (d .came) ∙ e)) }
 
   -- work that came to nothing ends there, with the address that was reached
   pub got-gone : {A B : Type 0} {w : Work A} (f : A → Work B) {a : ℕ} {st st₁ : Store} {r₁ : Now A} {r : Now B}
       → Got map w st r₁ → r₁ ≡ gone a st₁ → r ≡ gone a st₁ → Got map (w >>= f) st r
-  got-gone {w = w} f {st = st} d e u = record { came = u ∙ sym (exec-bind map w f st ∙ ap (λ c. after c (λ x t. exec map (f x) t)) (sym (d .came) ∙ e)) }
+  got-gone {w = w} f {st = st} d e u = record { came = u ∙ sym (exec-bind map w f st ∙ ap (λ c. andThen c (λ x t. exec map (f x) t)) (sym (d .came) ∙ e)) }
 
   -- the same in other words
   pub got-as : {A : Type 0} {w : Work A} {st : Store} {x r : Now A} → Got map w st x → r ≡ x → Got map w st r
@@ -86,14 +87,14 @@ module _ {map : List ℕ} where
 
   pub unwritten-at : {st : Store} {z : Size} {a v : ℕ} {r : Now (Unit {0})} {b : ℕ} {st₁ : Store} → Got map (writeAt z a v (give tt)) st r → r ≡ gone b st₁ → r ≡ gone a st₁
   unfolding exec
-  unwritten-at {st = st} {z = z} {a = a} {v = v} g e = only-gone (and (writable map a) (logRoom (st .log))) a st tt (withNote z a v st) (g .came ∙ allowed-and (writable map a) (logRoom (st .log)) a st (good tt (withNote z a v st))) e
+  unwritten-at {st = st} {z = z} {a = a} {v = v} g e = only-gone (writable map a && logRoom (st .log)) a st tt (withNote z a v st) (g .came ∙ allowed-and (writable map a) (logRoom (st .log)) a st (good tt (withNote z a v st))) e
 
   -- a page that is fitted, and room in the log
-  pub got-written : {st st′ : Store} (z : Size) (a v : ℕ) → and (writable map a) (logRoom (st .log)) ≡ true → st′ ≡ withNote z a v st → Got {A = Unit {0}} map (writeAt z a v (give tt)) st (good tt st′)
+  pub got-written : {st st′ : Store} (z : Size) (a v : ℕ) → writable map a && logRoom (st .log) ≡ true → st′ ≡ withNote z a v st → Got {A = Unit {0}} map (writeAt z a v (give tt)) st (good tt st′)
   unfolding exec
   got-written {st = st} z a v e h = record { came = rw (h, allowed-and, e) }
 
-  pub got-lost : {A : Type 0} (z : Size) (a : ℕ) {v : ℕ} {w : Work A} {st : Store} → and (writable map a) (logRoom (st .log)) ≡ false → Got map (writeAt z a v w) st (gone a st)
+  pub got-lost : {A : Type 0} (z : Size) (a : ℕ) {v : ℕ} {w : Work A} {st : Store} → writable map a && logRoom (st .log) ≡ false → Got map (writeAt z a v w) st (gone a st)
   unfolding exec
   got-lost z a e = record { came = rw (allowed-and, e) }
 
@@ -119,7 +120,7 @@ unfolding withWord withByte
 size-put word m a v = simp length-set
 size-put byte m a v = simp length-set
 
-pub size-note : (l : List ℕ) (a v : ℕ) → length (note l a v) ≡ length l
+size-note : (l : List ℕ) (a v : ℕ) → length (note l a v) ≡ length l
 unfolding note
 size-note l a v = simp length-set
 
@@ -136,15 +137,15 @@ board-noted z a v st e b =
     let f = room-few (st .log) e in
     record {
       lent = record { pages = b .lent .pages; size = size-put z (st .image) a v ∙ b .lent .size; bytes = bytes-put z (st .image) a v (b .lent .bytes) };
-      whole = size-note (st .log) a (wordAt (st .image) a) ∙ b .whole;
-      few = rw (count-note (st .log) a (wordAt (st .image) a) (b .whole)) (omega arith);
+      whole = size-note (st .log) a (imageWord (st .image) a) ∙ b .whole;
+      few = rw (count-note (st .log) a (imageWord (st .image) a) (b .whole)) (omega arith);
     }
 
-allowed-board : {A : Type 0} {map : List ℕ} (b : Bool) (a : ℕ) (st : Store) (x : Now A) → Board map st → (b ≡ true → Board map (stateOf x)) → Board map (stateOf (allowed b a st x))
+allowed-board : {A : Type 0} {map : List ℕ} (b : Bool) (a : ℕ) (st : Store) (x : Now A) → Board map st → (b ≡ true → Board map (storeOf x)) → Board map (storeOf (allowed b a st x))
 allowed-board true a st x h g = g refl
 allowed-board false a st x h g = h
 
-pub exec-board : {A : Type 0} (map : List ℕ) (w : Work A) (st : Store) → Board map st → Board map (stateOf (exec map w st))
+pub exec-board : {A : Type 0} (map : List ℕ) (w : Work A) (st : Store) → Board map st → Board map (storeOf (exec map w st))
 unfolding exec
 exec-board map (give x) st b = b
 exec-board map (readAt z a k) st b = allowed-board (fitted map a) a st _ b (λ _. exec-board map (k (get z (st .image) a)) st b)
@@ -152,13 +153,18 @@ exec-board map (writeAt z a v w) st b =
     allowed-board (writable map a) a st _ b (λ _. allowed-board (logRoom (st .log)) a st _ b (λ e. exec-board map w (withNote z a v st) (board-noted z a v st e b)))
 
 -- what a function that writes promises follows from what it got
-pub did : {A : Type 0} {map : List ℕ} {w : Work A} {st st′ : Store} {r : Now A} → stateOf r ≡ st′ → Board map st → Got map w st r → Did map w st r st′
-did {map = map} {w = w} {st = st} e b g = record { got = g; board = subst (λ (t : Store). Board map t) (ap stateOf (sym (g .came)) ∙ e) (exec-board map w st b) }
+pub did : {A : Type 0} {map : List ℕ} {w : Work A} {st st′ : Store} {r : Now A} → storeOf r ≡ st′ → Board map st → Got map w st r → Did map w st r st′
+did {map = map} {w = w} {st = st} e b g = record { got = g; board = subst (λ (t : Store). Board map t) (ap storeOf (sym (g .came)) ∙ e) (exec-board map w st b) }
 
--- what an answer means, for the laws above; `meant` is how an answer of its type is meant: `wordAs`, `keptAs`, ..
+-- what an answer means, for the laws above; `meant` is how an answer of its type is meant: `wordAs`, `storedAs`, ..
 pub means : {R A : Type 0} (meant : R → Store → Now A) {r x : R} {st : Store} → r ≡ x → meant r st ≡ meant x st
 means meant {st = st} e = ap (λ z. meant z st) e
 
 -- the same of an answer that a function makes of its callee's
 pub passes : {Q R A : Type 0} (meant : R → Store → Now A) (made : Q → R) {r : R} {q x : Q} {st : Store} → r ≡ made q → q ≡ x → meant r st ≡ meant (made x) st
 passes meant made e h = means meant (e ∙ ap made h)
+
+-- a byte that was read, as a word
+pub got-widened : {map : List ℕ} {w : Work ℕ} {st : Store} (b : Byte) {r : Word} → r ≡ widened b → Got map w st (byteAs b st) → Got map w st (wordAs r st)
+got-widened (Byte.Value v) e g = got-as g (means wordAs e)
+got-widened (Byte.Blank a) e g = got-as g (means wordAs e)

@@ -5,13 +5,13 @@ use mathlib.Core.List.{List}
 use mathlib.Core.Path.{_≡_}
 use lib.ListN.{getD, set, length}
 use lib.Dec.{ltb}
-use Rattle.board.specs.Work.{Work, give, readAt, writeAt, Size, fitted, writable, wordAt, get, put, withWord}
+use Rattle.board.specs.Work.{Work, give, readAt, writeAt, Size, fitted, writable, imageWord, get, put, withWord}
 use Rattle.board.specs.declared.Word.{Word}
 use Rattle.board.specs.declared.Word.the-variants.{Value, Blank}
 use Rattle.board.specs.declared.Byte.{Byte}
 use Rattle.board.specs.declared.Byte.the-variants as Byte
-use Rattle.board.specs.declared.Kept.{Kept}
-use Rattle.board.specs.declared.Kept.the-variants as Kept
+use Rattle.board.specs.declared.Stored.{Stored}
+use Rattle.board.specs.declared.Stored.the-variants as Stored
 
 pub record Store : Type 0 where
   pub image : List ℕ
@@ -32,15 +32,11 @@ logCount l = getD l 0 0
 unfoldable pub logRoom : List ℕ → Bool
 logRoom l = ltb (logCount l) 15
 
-unfoldable pub and : Bool → Bool → Bool
-and true b = b
-and false b = false
-
 unfoldable pub note : List ℕ → ℕ → ℕ → List ℕ
 note l a old = set (set (set l (logCount l * 2 + 1) a) (logCount l * 2 + 2) old) 0 (logCount l + 1)
 
 abbrev pub withNote : Size → ℕ → ℕ → Store → Store
-withNote z a v st = beside (put z (st .image) a v) (note (st .log) a (wordAt (st .image) a))
+withNote z a v st = beside (put z (st .image) a v) (note (st .log) a (imageWord (st .image) a))
 
 abbrev pub allowed : {A : Type 0} → Bool → ℕ → Store → Now A → Now A
 allowed true a st x = x
@@ -84,9 +80,14 @@ abbrev pub byteAs : Byte → Store → Now ℕ
 byteAs (Byte.Value v) st = good v st
 byteAs (Byte.Blank a) st = gone a st
 
-abbrev pub keptAs : Kept → Store → Now (Unit {0})
-keptAs Kept.Done st = good tt st
-keptAs (Kept.Blank a) st = gone a st
+abbrev pub storedAs : Stored → Store → Now (Unit {0})
+storedAs Stored.Done st = good tt st
+storedAs (Stored.Blank a) st = gone a st
+
+-- a byte that was read, as a word
+abbrev pub widened : Byte → Word
+widened (Byte.Value v) = Value v
+widened (Byte.Blank a) = Blank a
 
 -- ---- taking the log back, the newest entry first
 

@@ -1,6 +1,6 @@
 -- What one step does to memory, as a tree of accesses, each of a word or of a byte; and what it comes to on a map and an image.
 use Prim.Native.Nat.{ℕ, _+_, _*_, _/_, _%_}
-use mathlib.Core.Bool.{Bool, true, false, not}
+use mathlib.Core.Bool.{Bool, true, false, not, cond}
 use mathlib.Core.List.{List}
 use lib.ListN.{getD, set}
 use lib.Dec.{eqb}
@@ -11,6 +11,10 @@ use Rattle.wordbytes.specs.Words as Words
 pub data Size : Type 0 where
   word : Size
   byte : Size
+
+-- bytes, or words
+abbrev pub sizeOf : Bool → Size
+sizeOf bytes = cond bytes byte word
 
 -- A piece of a step's work that ends in an A.
 pub data Work (A : Type 0) : Type 0 where
@@ -24,7 +28,7 @@ pub data Came (A : Type 0) : Type 0 where
   blank : ℕ → Came A
 
 -- The map's byte for the page of an address: 0 unfitted, 1 fitted, 2 fitted and read-only.
-abbrev pub pageOf : List ℕ → ℕ → ℕ
+abbrev pageOf : List ℕ → ℕ → ℕ
 pageOf map a = getD map (a / 256) 0
 
 -- A read asks this: the page is 1 or 2. (A map byte over 2 is refused.)
@@ -39,9 +43,9 @@ writable map a = eqb (pageOf map a) 1
 unfoldable pub even : ℕ → ℕ
 even a = a / 2 * 2
 
-unfoldable pub wordAt : List ℕ → ℕ → ℕ
+unfoldable pub imageWord : List ℕ → ℕ → ℕ
 unfolding even
-wordAt m a = Words.wordAt m (even a)
+imageWord m a = Words.wordAt m (even a)
 
 unfoldable pub withWord : List ℕ → ℕ → ℕ → List ℕ
 unfolding even
@@ -51,7 +55,7 @@ unfoldable pub withByte : List ℕ → ℕ → ℕ → List ℕ
 withByte m a v = set m a (v % 256)
 
 abbrev pub get : Size → List ℕ → ℕ → ℕ
-get word m a = wordAt m a
+get word m a = imageWord m a
 get byte m a = getD m a 0
 
 abbrev pub put : Size → List ℕ → ℕ → ℕ → List ℕ
@@ -69,6 +73,9 @@ run map (readAt z a k) m = found (fitted map a) a (run map (k (get z m a)) m)
 run map (writeAt z a v w) m = found (writable map a) a (run map w (put z m a v))
 
 -- a word or a byte is read or written
+abbrev pub read : Size → ℕ → Work ℕ
+read z a = readAt z a (λ v. give v)
+
 abbrev pub write : Size → ℕ → ℕ → Work (Unit {0})
 write z a v = writeAt z a v (give tt)
 

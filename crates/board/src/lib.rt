@@ -1,13 +1,14 @@
 // The board: the lent image, the page map, and the log of what a step wrote over.
 use wordbytes::high;
 use wordbytes::low;
+ghost use mathlib.Core.Bool.{_&&_};
 ghost use mathlib.Core.Path.{_≡_};
 ghost use Prim.Native.Nat.{_+_, _*_, _≤_, _<_, _%_, _/_};
 ghost use lib.ListN.{length, getD, set};
 ghost use Rattle.board.specs.Work as Work;
-ghost use Rattle.board.specs.Work.{wordAt, withWord};
+ghost use Rattle.board.specs.Work.{imageWord, withWord};
 ghost use Rattle.board.specs.Exec as Exec;
-ghost use Rattle.board.specs.Exec.{and, beside, logCount, Lent, Board, Saw, Did, wordAs, byteAs, keptAs, undone};
+ghost use Rattle.board.specs.Exec.{beside, logCount, Lent, Board, Saw, Did, wordAs, byteAs, storedAs, undone};
 
 // What a read answers: the value, or the address where nothing is fitted.
 pub enum Word {
@@ -22,7 +23,7 @@ pub enum Byte {
 }
 
 // What a write answers.
-pub enum Kept {
+pub enum Stored {
     Done,
     Blank(u16),
 }
@@ -54,7 +55,7 @@ fn writable(map: &[u8], a: u16) -> bool
 // The word at an address.
 fn word_at(image: &[u8], a: u16) -> u16
     requires { ⌜ length (now image) ≡ 65536 ⌝ }
-    ensures { λ r. ⌜ r ≡ wordAt (now (image .entry)) a ⌝ }
+    ensures { λ r. ⌜ r ≡ imageWord (now (image .entry)) a ⌝ }
 {
     let at = (a / 2 * 2) as usize;
     wide(image[at]) + wide(image[at + 1]) * 256
@@ -93,10 +94,31 @@ pub fn load_byte(image: &[u8], map: &[u8], a: u16) -> Byte
     }
 }
 
+// A byte that was read, as a word.
+pub fn widened(b: Byte) -> Word
+    ensures { λ r. ⌜ r ≡ Exec.widened b ⌝ }
+{
+    match b {
+        Byte::Value(v) => Word::Value(v as u16),
+        Byte::Blank(at) => Word::Blank(at),
+    }
+}
+
+// The byte or the word at an address.
+pub fn read(image: &[u8], map: &[u8], bytes: bool, a: u16) -> Word
+    requires { ⌜ Lent (now map) (now image) ⌝ }
+    ensures { λ r. ⌜ Saw (now (map .entry)) (Work.read (Work.sizeOf bytes) a) (now (image .entry)) (wordAs r) ⌝ }
+{
+    if bytes {
+        return widened(load_byte(image, map, a));
+    }
+    load(image, map, a)
+}
+
 // Notes the word at an address in the log.
 fn note(image: &[u8], log: &mut [u16; 32], a: u16)
     requires { ⌜ (length (now image) ≡ 65536) × (logCount (now log) < 15) ⌝ }
-    ensures { λ _. ⌜ now (log .exit) ≡ Exec.note (now (log .entry)) a (wordAt (now (image .entry)) a) ⌝ }
+    ensures { λ _. ⌜ now (log .exit) ≡ Exec.note (now (log .entry)) a (imageWord (now (image .entry)) a) ⌝ }
 {
     let n = log[0];
     let k = (n as usize) * 2;
@@ -108,36 +130,53 @@ fn note(image: &[u8], log: &mut [u16; 32], a: u16)
 // May this address be written, and is there room in the log?
 fn may_write(map: &[u8], log: &[u16; 32], a: u16) -> bool
     requires { ⌜ length (now map) ≡ 256 ⌝ }
-    ensures { λ r. ⌜ r ≡ and (Work.writable (now (map .entry)) a) (Exec.logRoom (now (log .entry))) ⌝ }
+    ensures { λ r. ⌜ r ≡ Work.writable (now (map .entry)) a && Exec.logRoom (now (log .entry)) ⌝ }
 {
     writable(map, a) && log[0] < 15
 }
 
-pub fn store(image: &mut [u8], map: &[u8], log: &mut [u16; 32], a: u16, v: u16) -> Kept
+pub fn store(image: &mut [u8], map: &[u8], log: &mut [u16; 32], a: u16, v: u16) -> Stored
     requires { ⌜ Board (now map) (beside (now image) (now log)) ⌝ }
-    ensures { λ r. ⌜ Did (now (map .entry)) (Work.store a v) (beside (now (image .entry)) (now (log .entry))) (keptAs r (beside (now (image .exit)) (now (log .exit)))) (beside (now (image .exit)) (now (log .exit))) ⌝ }
+    ensures { λ r. ⌜ Did (now (map .entry)) (Work.store a v) (beside (now (image .entry)) (now (log .entry))) (storedAs r (beside (now (image .exit)) (now (log .exit)))) (beside (now (image .exit)) (now (log .exit))) ⌝ }
 {
     if may_write(map, log, a) {
         note(image, log, a);
         put_word(image, a, v);
-        Kept::Done
+        Stored::Done
     } else {
-        Kept::Blank(a)
+        Stored::Blank(a)
     }
 }
 
-pub fn store_byte(image: &mut [u8], map: &[u8], log: &mut [u16; 32], a: u16, v: u16) -> Kept
+pub fn store_byte(image: &mut [u8], map: &[u8], log: &mut [u16; 32], a: u16, v: u16) -> Stored
     requires { ⌜ Board (now map) (beside (now image) (now log)) ⌝ }
-    ensures { λ r. ⌜ Did (now (map .entry)) (Work.storeByte a v) (beside (now (image .entry)) (now (log .entry))) (keptAs r (beside (now (image .exit)) (now (log .exit)))) (beside (now (image .exit)) (now (log .exit))) ⌝ }
+    ensures { λ r. ⌜ Did (now (map .entry)) (Work.storeByte a v) (beside (now (image .entry)) (now (log .entry))) (storedAs r (beside (now (image .exit)) (now (log .exit)))) (beside (now (image .exit)) (now (log .exit))) ⌝ }
 {
     if may_write(map, log, a) {
         note(image, log, a);
         let at = a as usize;
         image[at] = low(v);
-        Kept::Done
+        Stored::Done
     } else {
-        Kept::Blank(a)
+        Stored::Blank(a)
     }
+}
+
+pub fn write(
+    image: &mut [u8],
+    map: &[u8],
+    log: &mut [u16; 32],
+    bytes: bool,
+    a: u16,
+    v: u16,
+) -> Stored
+    requires { ⌜ Board (now map) (beside (now image) (now log)) ⌝ }
+    ensures { λ r. ⌜ Did (now (map .entry)) (Work.write (Work.sizeOf bytes) a v) (beside (now (image .entry)) (now (log .entry))) (storedAs r (beside (now (image .exit)) (now (log .exit)))) (beside (now (image .exit)) (now (log .exit))) ⌝ }
+{
+    if bytes {
+        return store_byte(image, map, log, a, v);
+    }
+    store(image, map, log, a, v)
 }
 
 // Empties the log.

@@ -1,26 +1,21 @@
 // Checks another shop's trace of a job and says in words what it is found to be: check_trace JOB TRACE, two files by name. Where the
 // answer could not be written standard error says so. Each function that prints answers whether all was written.
-use hexdigits::put_hex4;
 ghost use mathlib.Core.Path.{_≡_};
 ghost use lib.ListN.{length};
+use job::READ_OF_JOB;
 use libc::STDERR_FILENO;
 use libc::STDOUT_FILENO;
+use printing::put;
+use printing::put_word;
+use printing::say_unless;
+use refusal::MOST_LINE_WORDS;
 use trace::Checked;
+use trace::READ_OF_TRACE;
 use trace::Verdict;
 use wordbytes::word_at;
 
-fn put(text: &[u8]) -> bool {
-    io::write_all(STDOUT_FILENO, text)
-}
-
 fn put_decimal(n: u16) -> bool {
     io::print_decimal(STDOUT_FILENO, n as u64)
-}
-
-fn put_word(w: u16) -> bool {
-    let mut digits = [0u8; 4];
-    put_hex4(&mut digits, w);
-    put(&digits)
 }
 
 // A field's name in the bench line's order.
@@ -90,19 +85,10 @@ fn put_refused(why: u8) -> bool {
 fn answer(job: &[u8], trace: &[u8]) -> bool {
     let mut image = io::large_buffer();
     let mut map = [0u8; 256];
-    let mut lines = [0u16; 4096];
+    let mut lines = [0u16; MOST_LINE_WORDS];
     match trace::check(job, trace, &mut image, &mut map, &mut lines) {
         Checked::Done(found) => put_verdict(found, trace),
         Checked::Refused(why) => put_refused(why),
-    }
-}
-
-fn say_unless(written: bool) {
-    if !written {
-        io::write_all(
-            STDERR_FILENO,
-            b"check_trace: the answer could not be written\n",
-        );
     }
 }
 
@@ -121,23 +107,24 @@ fn opened(which: usize) -> i32 {
     file
 }
 
-// The longest trace has 1,310,702 bytes; one byte more shows that there are bytes left over.
-fn trace_buffer() -> [u8; 1310703]
+fn trace_buffer() -> [u8; READ_OF_TRACE]
     ensures { λ r. ⌜ 1310703 ≡ length r ⌝ }
 {
-    [0; 1310703]
+    [0; READ_OF_TRACE]
 }
 
-// The longest job has 25,096 bytes, and again one more is read.
 fn main() {
     let job_file = opened(1);
     let trace_file = opened(2);
     if (job_file < 0) | (trace_file < 0) {
         return;
     }
-    let mut job = [0u8; 25097];
+    let mut job = [0u8; READ_OF_JOB];
     let job_length = io::read_full(job_file, &mut job);
     let mut trace = trace_buffer();
     let trace_length = io::read_full(trace_file, &mut trace);
-    say_unless(answer(&job[..job_length], &trace[..trace_length]));
+    say_unless(
+        answer(&job[..job_length], &trace[..trace_length]),
+        b"check_trace",
+    );
 }

@@ -13,3 +13,5 @@ pub mod Sources
 pub mod StepLines
 pub mod Texts
 pub mod Took
+pub mod MoreCalls
+pub mod WordLines

@@ -75,7 +75,7 @@ pub record KeptAt {A B : Type 0} (why : ℕ) (tells : ℕ → Bool) (IsPlace : �
   pub refusedOnly : (why ≡ 0 → ⊥) → OrPlace (tells why) (IsPlace why) (left (refused why) lent) (λ place. left (refusedAt why place) lent) x
   pub notRefused : why ≡ 0 → IsAnswer (x .page)
 
-abbrev pub KeepsAt : {A B : Type 0} → ℕ → (ℕ → Bool) → (ℕ → ℕ → Type 0) → B → Left A B → Type 0
+abbrev KeepsAt : {A B : Type 0} → ℕ → (ℕ → Bool) → (ℕ → ℕ → Type 0) → B → Left A B → Type 0
 KeepsAt {A} {B} why tells IsPlace lent promised = (x : Left A B) → x ≡ promised → KeptAt why tells IsPlace lent x
 
 -- for C the place is in what is left of a refusal

@@ -16,7 +16,7 @@ use Rattle.refusal.specs.Page.{answered, left, told}
 use Rattle.machine.specs.declared.Powered.{Powered}
 use Rattle.machine.specs.declared.Stepped.{Stepped}
 use Rattle.machine.specs.declared.Finished.{Finished}
-use Rattle.machine.specs.Numbers.{StatePage, statePage, nowhere, toldOf, TurnPage, placePage, RanPage}
+use Rattle.machine.specs.Numbers.{StatePage, statePage, nowhere, toldOf, TurnPage, firstPage, RanPage}
 use Rattle.machine.specs.Entry.{poweredPage, powered, powerUpPage, steppedPage, turned, stepPage, finishedPage, runPage}
 use Rattle.machine.specs.Trail.{trailOf, lastAfter, blanksIn, firstBlankIn, runShown}
 use Rattle.machine_c.specs.Layout.{stateBytes, tallyBytes, stateFrom, settingsFrom}
@@ -71,7 +71,7 @@ abbrev pub Wd16RunIs : Type 0
 Wd16RunIs = (b t m map w lines b′ t′ m′ : List ℕ) → told 0 (b′, t′, m′) ≡ runCall b t m map w lines
     → (let rs = trailOf (settingsFrom w) map lines (stateFrom b) m in
     let x = lastAfter (after (stateFrom b) m Cause.Nothing) rs in
-    (b′ ≡ stateBytes (statePage (x .state)) 0 nowhere) × (t′ ≡ tallyBytes (blanksIn rs) (placePage (firstBlankIn rs))) × (m′ ≡ x .image))
+    (b′ ≡ stateBytes (statePage (x .state)) 0 nowhere) × (t′ ≡ tallyBytes (blanksIn rs) (firstPage (firstBlankIn rs))) × (m′ ≡ x .image))
 
 -- ---- "The text of an op code, read again, gives the same words,"
 

@@ -22,7 +22,7 @@ use Rattle.machine.specs.Until.{stoppedPage, runUntilPage}
 use Rattle.machine_c.specs.Layout.{stateFrom, settingsFrom}
 use Rattle.machine_c.specs.Calls.{powerUpCall, stepCall, runCall}
 use Rattle.machine_c.specs.Runs.{runSameCall, runUntilCall}
-use Rattle.job.specs.declared.Answer.{Answer}
+use Rattle.job.specs.declared.JobRead.{JobRead}
 use Rattle.job.specs.Job.{jobPage, whyRead, jobOf}
 use Rattle.job_c.specs.Calls.{readCall}
 use Rattle.benchline.specs.declared.Printed.{Printed}
@@ -105,7 +105,7 @@ Wd16ListLineBlind = (map m n : List ℕ) → length m ≡ length n → Agree map
 
 module _ (input i₁ i₂ m₁ m₂ l₁ l₂ : List ℕ) (hi : length i₁ ≡ length i₂) (hm : length m₁ ≡ length m₂) (hl : length l₁ ≡ length l₂) where
   abbrev pub JobBlind : Type 0
-  JobBlind = (r q : Answer) (i₁′ m₁′ l₁′ i₂′ m₂′ l₂′ : List ℕ)
+  JobBlind = (r q : JobRead) (i₁′ m₁′ l₁′ i₂′ m₂′ l₂′ : List ℕ)
       → left (jobPage r) (i₁′, m₁′, l₁′) ≡ jobOf input i₁ m₁ l₁ → left (jobPage q) (i₂′, m₂′, l₂′) ≡ jobOf input i₂ m₂ l₂
       → (r ≡ q) × (whyRead (length i₁) (length m₁) (length l₁) input ≡ 0 → (i₁′ ≡ i₂′) × (m₁′ ≡ m₂′) × (l₁′ ≡ l₂′))
 

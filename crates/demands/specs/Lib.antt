@@ -5,3 +5,5 @@ pub mod Demand3
 pub mod Cause7
 pub mod Scans
 pub mod Programs
+pub mod MoreCalls
+pub mod WordLines

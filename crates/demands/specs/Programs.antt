@@ -10,22 +10,32 @@ use Rattle.listjob.specs.Stretch.{listOf}
 use Rattle.trace.specs.Trace.{checkOf, makeOf}
 use Rattle.demands.specs.Terms.{AllBytes}
 
+-- what is read of a job; of a listing's input, whose two addresses stand before the job; and of a trace
+abbrev readOfJob : ℕ
+readOfJob = 25097
+
+abbrev readOfListing : ℕ
+readOfListing = 25101
+
+abbrev readOfTrace : ℕ
+readOfTrace = 1310703
+
 -- a job's refusal
 abbrev pub JobReads : Type 0
-JobReads = (input : List ℕ) → whyJob (take 25097 input) ≡ whyJob input
+JobReads = (input : List ℕ) → whyJob (take readOfJob input) ≡ whyJob input
 
 -- bench: the line, and what is left in its buffers
 abbrev pub BenchReads : Type 0
-BenchReads = (input text image map lines : List ℕ) → benchOf (take 25097 input) text image map lines ≡ benchOf input text image map lines
+BenchReads = (input text image map lines : List ℕ) → benchOf (take readOfJob input) text image map lines ≡ benchOf input text image map lines
 
--- list, whose two addresses stand before the job
+-- list
 abbrev pub ListReads : Type 0
-ListReads = (input text image map lines : List ℕ) → listOf (take 25101 input) text image map lines ≡ listOf input text image map lines
+ListReads = (input text image map lines : List ℕ) → listOf (take readOfListing input) text image map lines ≡ listOf input text image map lines
 
 -- make_trace
 abbrev pub MakeReads : Type 0
-MakeReads = (input out image map lines : List ℕ) → makeOf (take 25097 input) out image map lines ≡ makeOf input out image map lines
+MakeReads = (input out image map lines : List ℕ) → makeOf (take readOfJob input) out image map lines ≡ makeOf input out image map lines
 
 -- check_trace
 abbrev pub CheckReads : Type 0
-CheckReads = (input t image map lines : List ℕ) → AllBytes t → checkOf (take 25097 input) (take 1310703 t) image map lines ≡ checkOf input t image map lines
+CheckReads = (input t image map lines : List ℕ) → AllBytes t → checkOf (take readOfJob input) (take readOfTrace t) image map lines ≡ checkOf input t image map lines

@@ -1,4 +1,4 @@
--- DEMANDS 1 AND 3 FOR THE PLUG RECORDER, in this code and for C: whatever its calls answer and leave, as their contracts promise.
+-- THE DEMANDS FOR THE PLUG RECORDER, in this code and for C: whatever its calls answer and leave, as their contracts promise.
 use Prim.Native.Nat.{ℕ}
 use mathlib.Core.Bool.{cond}
 use mathlib.Core.List.{List}
@@ -6,10 +6,14 @@ use mathlib.Core.Path.{_≡_}
 use lib.ListN.{length}
 use Rattle.board.specs.Work.{Agree, Blind}
 use Rattle.state.specs.declared.Settings.{Settings}
+use Rattle.step.specs.declared.Cause.the-variants as Cause
+use Rattle.step.specs.Step.{after}
 use Rattle.wordbytes.specs.Words.{byteAt}
 use Rattle.refusal.specs.Numbers.{noState}
 use Rattle.refusal.specs.Page.{answered, left, nothing, first, told}
-use Rattle.machine_c.specs.Layout.{stateFrom, settingsFrom}
+use Rattle.machine.specs.Numbers.{statePage, nowhere, firstPage}
+use Rattle.machine.specs.Trail.{trailOf, lastAfter, blanksIn, firstBlankIn}
+use Rattle.machine_c.specs.Layout.{stateBytes, tallyBytes, stateFrom, settingsFrom}
 use Rattle.plugs.specs.declared.Channel.{Channel}
 use Rattle.recorder.specs.declared.Recorder.{Recorder}
 use Rattle.recorder.specs.declared.Scanned.{Scanned}
@@ -61,3 +65,22 @@ abbrev pub Wd16ScanCounted : Type 0
 Wd16ScanCounted = (b t m map w lines cards readings d b′ t′ m′ d′ : List ℕ) → told 0 (b′, t′, m′, d′) ≡ scanCall b t m map w lines cards readings d
     → (let cs = channelsFrom cards readings in
     TallyBytes t′ (λ blanks place. Counted (settingsFrom w) (scanMap cs map) lines (stateFrom b) (scanImage cs m) blanks place))
+
+-- ---- demand 2: "the processor's state goes on from scan to scan"
+
+-- A SCAN is the manual's run from the recorder's state over the cards' map and image: the recorder's state after it, the blanks and the image are those
+-- where the run's trail ends (Demand2 `TrailIs`); the next scan is lent that recorder
+abbrev pub ScanIs : Type 0
+ScanIs = (r : Recorder) (cs : List Channel) (m map : List ℕ) (settings : Settings) (lines : List ℕ) (x : Scanned) (m′ : List ℕ) (p : TallyPage)
+    → left (answerPage (x .answer)) (x .recorder, m′) ≡ scanOf r cs m map settings lines → answerPage (x .answer) ≡ answered p
+    → (let rs = trailOf settings (scanMap cs map) lines (r .state) (scanImage cs m) in
+    let y = lastAfter (after (r .state) (scanImage cs m) Cause.Nothing) rs in
+    (x .recorder .state ≡ y .state) × (p .blanks ≡ blanksIn rs) × (p .first ≡ firstPage (firstBlankIn rs)) × (m′ ≡ y .image))
+
+-- for C: the state's bytes go on
+abbrev pub Wd16ScanIs : Type 0
+Wd16ScanIs = (b t m map w lines cards readings d b′ t′ m′ d′ : List ℕ) → told 0 (b′, t′, m′, d′) ≡ scanCall b t m map w lines cards readings d
+    → (let cs = channelsFrom cards readings in
+    let rs = trailOf (settingsFrom w) (scanMap cs map) lines (stateFrom b) (scanImage cs m) in
+    let y = lastAfter (after (stateFrom b) (scanImage cs m) Cause.Nothing) rs in
+    (b′ ≡ stateBytes (statePage (y .state)) 0 nowhere) × (t′ ≡ tallyBytes (blanksIn rs) (firstPage (firstBlankIn rs))) × (m′ ≡ y .image))

@@ -19,7 +19,7 @@ use Rattle.step.specs.Locks.{LocksUp}
 use Rattle.refusal.specs.Numbers.{outputShort}
 use Rattle.refusal.specs.Page.{first}
 use Rattle.optext.specs.Column.{IsText, Column, Why}
-use Rattle.machine.specs.Numbers.{statePage, address, nowhere, TurnPage, Place}
+use Rattle.machine.specs.Numbers.{statePage, address, nowhere, TurnPage, FirstPage}
 use Rattle.machine.specs.Trail.{trailOf, lastAfter, blanksIn, causeAt, Least}
 use Rattle.machine_c.specs.Layout.{stateBytes, tallyBytes}
 
@@ -95,7 +95,7 @@ pub record Fitted (map : List ℕ) (out : Outside) (s : State) (m : List ℕ) (p
 
 -- the count of a run's blanks and the first of them: as many as steps with cause 5, 6 or 9, the least of their places with the address told
 -- there; and the step at a place is one exactly where an access of its work is not answered, and the trap of its bus error is
-pub record Counted (settings : Settings) (map lines : List ℕ) (s : State) (m : List ℕ) (blanks : ℕ) (place : Place) : Type 0 where
+pub record Counted (settings : Settings) (map lines : List ℕ) (s : State) (m : List ℕ) (blanks : ℕ) (place : FirstPage) : Type 0 where
   pub number : blanks ≡ blanksIn (trailOf settings map lines s m)
   pub least : Least (trailOf settings map lines s m) place
   pub each : (k : ℕ) → k < length lines
@@ -108,8 +108,8 @@ pub record StepBytes (b : List ℕ) (P : TurnPage → Type 0) : Type 0 where
   pub bytes : b ≡ stateBytes (page .state) (page .cause) (page .told)
   pub holds : P page
 
-pub record TallyBytes (t : List ℕ) (P : ℕ → Place → Type 0) : Type 0 where
+pub record TallyBytes (t : List ℕ) (P : ℕ → FirstPage → Type 0) : Type 0 where
   pub blanks : ℕ
-  pub place : Place
+  pub place : FirstPage
   pub bytes : t ≡ tallyBytes blanks place
   pub holds : P blanks place

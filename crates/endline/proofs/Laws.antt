@@ -7,13 +7,13 @@ use Rattle.state.specs.declared.Outside.{Outside}
 use Rattle.state.specs.declared.Settings.{Settings}
 use Rattle.state.specs.State.{modeNumber, psOf, heard}
 use Rattle.machine.specs.declared.Ran.{Ran}
-use Rattle.benchline.specs.declared.Place.{Place}
+use Rattle.benchline.specs.declared.WordOrNone.{WordOrNone}
 use Rattle.refusal.specs.Page.{Left}
 use Rattle.benchline.specs.Line.{lineText, printOf}
 use Rattle.machine.specs.Numbers.{registersOf}
 use Rattle.endline.specs.Report.{benchBoard, blankPlace, blankAddress, endOn, endText}
 
-pub end-is : (r : Ran) (text : List ℕ) (w : Left ℕ (List ℕ)) (regs : List ℕ) (board : Settings) (out : Outside) (ps mode : ℕ) (at told : Place)
+pub end-is : (r : Ran) (text : List ℕ) (w : Left ℕ (List ℕ)) (regs : List ℕ) (board : Settings) (out : Outside) (ps mode : ℕ) (at told : WordOrNone)
     → w ≡ printOf (lineText regs ps mode (r .tally .blanks) at told) text
     → regs ≡ registersOf (r .state) → out ≡ heard board 0 → ps ≡ psOf out false (r .state)
     → mode ≡ modeNumber (r .state .mode) → at ≡ blankPlace (r .tally .first) → told ≡ blankAddress (r .tally .first)

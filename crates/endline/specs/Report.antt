@@ -8,21 +8,21 @@ use Rattle.machine.specs.declared.Ran.{Ran}
 use Rattle.machine.specs.Numbers.{registersOf}
 use Rattle.machine.specs.declared.First.{First}
 use Rattle.machine.specs.declared.First.the-variants as First
-use Rattle.benchline.specs.declared.Place.{Place}
-use Rattle.benchline.specs.declared.Place.the-variants as Place
+use Rattle.benchline.specs.declared.WordOrNone.{WordOrNone}
+use Rattle.benchline.specs.declared.WordOrNone.the-variants as WordOrNone
 use Rattle.benchline.specs.Line.{lineText}
 
 -- bench runs with the third microm fitted and the jumpers 11 and 11
 abbrev pub benchBoard : Settings
 benchBoard = record { blocks = true; powerup = 3; halt = 3; register = 0 }
 
-abbrev pub blankPlace : First → Place
-blankPlace (First.At place address) = Place.At place
-blankPlace First.Never = Place.Nowhere
+abbrev pub blankPlace : First → WordOrNone
+blankPlace (First.At place address) = WordOrNone.At place
+blankPlace First.Never = WordOrNone.Nowhere
 
-abbrev pub blankAddress : First → Place
-blankAddress (First.At place address) = Place.At address
-blankAddress First.Never = Place.Nowhere
+abbrev pub blankAddress : First → WordOrNone
+blankAddress (First.At place address) = WordOrNone.At address
+blankAddress First.Never = WordOrNone.Nowhere
 
 -- PS as it is formed on a quiet line
 unfoldable pub endOn : Settings → Ran → List ℕ

@@ -1,6 +1,6 @@
 // The line of a run's end, on bench's board and on others: the machine's answer in the line's own fields.
-use benchline::Place;
 use benchline::Printed;
+use benchline::WordOrNone;
 use machine::First;
 use machine::Ran;
 use state::Settings;
@@ -40,22 +40,22 @@ fn registers(s: State) -> [u16; 8]
 }
 
 // The first blank's place.
-fn place(first: First) -> Place
+fn place(first: First) -> WordOrNone
     ensures { λ r. ⌜ r ≡ Spec.blankPlace first ⌝ }
 {
     match first {
-        First::At(at, _) => Place::At(at),
-        First::Never => Place::Nowhere,
+        First::At(at, _) => WordOrNone::At(at),
+        First::Never => WordOrNone::Nowhere,
     }
 }
 
 // The address that it told.
-fn address(first: First) -> Place
+fn address(first: First) -> WordOrNone
     ensures { λ r. ⌜ r ≡ Spec.blankAddress first ⌝ }
 {
     match first {
-        First::At(_, told) => Place::At(told),
-        First::Never => Place::Nowhere,
+        First::At(_, told) => WordOrNone::At(told),
+        First::Never => WordOrNone::Nowhere,
     }
 }
 

@@ -5,7 +5,7 @@ use mathlib.Core.List.{List, [], _∷_, _++_, map}
 use lib.ListN.{replicate}
 use Rattle.wordmath.specs.Number.{digit}
 use Rattle.wordmath.specs.Status.{flagsOf}
-use Rattle.board.specs.Work.{wordAt, withWord}
+use Rattle.board.specs.Work.{imageWord, withWord}
 use Rattle.state.specs.declared.State.{State}
 use Rattle.state.specs.State.{withReg, withPc, withSp, withFlags, withI2, cleared, heard}
 use Rattle.hexdigits.specs.Digits.{letters}
@@ -82,7 +82,7 @@ table =
     ∷ example (r1pc (stepped 0x7643 (before 0 0 0 0 false) 0x300 0)) (0xffff ∷ 0x00fc ∷ [])
     -- B240 at 0100, R1 8000 unfitted, SP 0200, I2 set, indicators clear, 0300 at 12: R0 kept, 5F00 at 01FE, 0102 at 01FC, PC 0300
     ∷ (let a = stepped 0xb240 (before 0x1234 0x8000 0 0 true) 0x12 0x300 in
-    example (a .state .regs .r0 ∷ wordAt (a .image) 0x1fe ∷ wordAt (a .image) 0x1fc ∷ a .state .regs .pc ∷ []) (0x1234 ∷ 0x5f00 ∷ 0x0102 ∷ 0x0300 ∷ []))
+    example (a .state .regs .r0 ∷ imageWord (a .image) 0x1fe ∷ imageWord (a .image) 0x1fc ∷ a .state .regs .pc ∷ []) (0x1234 ∷ 0x5f00 ∷ 0x0102 ∷ 0x0300 ∷ []))
     -- B44A with R2 unfitted: R1 is not incremented
     ∷ example (r1pc (stepped 0xb44a (before 0 0x0300 0x8000 0 false) 0x12 0x300)) (0x0300 ∷ 0x0300 ∷ [])
     -- 15C0 0005 is ADD #0005,R0. B7E6 1234 is MOV @#1234,-(SP). Each takes both words

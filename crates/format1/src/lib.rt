@@ -1,5 +1,5 @@
 // Format 1, 0000 to 000F.
-use board::Kept;
+use board::Stored;
 use board::Word;
 use state::Mode;
 use state::Outside;
@@ -114,7 +114,7 @@ fn savs(s: State, image: &mut [u8], map: &[u8], log: &mut [u16; 32]) -> Went
     let Went::Done(pushed) = went else {
         return went;
     };
-    let Kept::Done = board::store(image, map, log, 0x2e, old | mask) else {
+    let Stored::Done = board::store(image, map, log, 0x2e, old | mask) else {
         return Went::Blank(0x2e);
     };
     Went::Done(ien(pushed))
@@ -193,7 +193,7 @@ fn rsts(s: State, image: &mut [u8], map: &[u8], log: &mut [u16; 32]) -> Went
     let Took::Word(t, mask) = took else {
         return untaken(took);
     };
-    let Kept::Done = board::store(image, map, log, 0x2e, mask) else {
+    let Stored::Done = board::store(image, map, log, 0x2e, mask) else {
         return Went::Blank(0x2e);
     };
     rrtt(t, image, map)

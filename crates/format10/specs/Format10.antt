@@ -61,24 +61,12 @@ onOperands z result settle s op = do
   to ← destination z (from .state) op
   settled settle (to .state) (destinationRegister op) (to .place) (result (from .operand) (to .operand) (to .state .flags))
 
--- the same from the source x on
-unfoldable pub onto : Size → (ℕ → ℕ → Flags → Done) → (State → ℕ → Place → ℕ → Work State) → State → ℕ → ℕ → Work State
-onto z result settle s op x = do
-  to ← destination z s op
-  settled settle (to .state) (destinationRegister op) (to .place) (result x (to .operand) (to .state .flags))
-
 -- on words, and on bytes
 abbrev pub onWords : Binary → State → ℕ → Work State
 onWords b = onOperands word (binaryOf b) (settle b)
 
 abbrev pub onBytes : ByteBinary → State → ℕ → Work State
 onBytes b = onOperands byte (byteBinaryOf b) (settleByte b)
-
-abbrev pub ontoWords : Binary → State → ℕ → ℕ → Work State
-ontoWords b = onto word (binaryOf b) (settle b)
-
-abbrev pub ontoBytes : ByteBinary → State → ℕ → ℕ → Work State
-ontoBytes b = onto byte (byteBinaryOf b) (settleByte b)
 
 -- the op code of a number
 abbrev pub binaryCode : ℕ → Binary

@@ -1,1 +1,2 @@
 pub mod Format10
+pub mod Inner

@@ -27,6 +27,7 @@ ghost use Rattle.board.specs.Exec.{beside, Lent, Board, Saw};
 ghost use Rattle.state.specs.Answer.{Works, wentAs};
 ghost use Prim.Native.Nat.{_%_};
 ghost use Rattle.format10.specs.Format10 as Spec;
+ghost use Rattle.format10.specs.Inner as Inner;
 
 // The place of a word op code: ADD to XOR, CMP, BIT, MOV.
 fn binary_number(op: u16) -> u16
@@ -70,7 +71,7 @@ fn settle(
     ensures { λ r. ⌜ Works (now (map .entry)) (Spec.settle b s k place v) (now (image .entry)) (now (log .entry)) r (now (image .exit)) (now (log .exit)) ⌝ }
 {
     if stores(b) {
-        return operand::write_word(s, image, map, log, k, place, v);
+        return operand::write(s, image, map, log, false, k, place, v);
     }
     Went::Done(s)
 }
@@ -78,7 +79,7 @@ fn settle(
 // The op code on words, with the source x: MOV, which does not read its destination, is tried first.
 fn onto_words(s: State, image: &mut [u8], map: &[u8], log: &mut [u16; 32], op: u16, x: u16) -> Went
     requires { ⌜ Board (now map) (beside (now image) (now log)) ⌝ }
-    ensures { λ r. ⌜ Works (now (map .entry)) (Spec.ontoWords (Spec.binaryCode op) s op x) (now (image .entry)) (now (log .entry)) r (now (image .exit)) (now (log .exit)) ⌝ }
+    ensures { λ r. ⌜ Works (now (map .entry)) (Inner.ontoWords (Spec.binaryCode op) s op x) (now (image .entry)) (now (log .entry)) r (now (image .exit)) (now (log .exit)) ⌝ }
 {
     let to = destination_register(op);
     let mode = destination_mode(op);
@@ -90,7 +91,8 @@ fn onto_words(s: State, image: &mut [u8], map: &[u8], log: &mut [u16; 32], op: u
     let u = moved(s, place);
     if opc == 11 {
         let done = wordmath::result::mov16(x, u.flags);
-        return operand::write_word(u.with_flags(done.flags), image, map, log, to, place, x);
+        let w = u.with_flags(done.flags);
+        return operand::write(w, image, map, log, false, to, place, x);
     }
     let Word::Value(y) = read_word(image, map, place, u.reg(to)) else {
         return unanswered(place);
@@ -142,7 +144,7 @@ fn move_byte(
 {
     match place {
         Place::Reg => Went::Done(s.with_reg(k, arith::on_bytes::extend(low(v)))),
-        Place::Mem(_, _, _) => operand::write_byte(s, image, map, log, k, place, v),
+        Place::Mem(_, _, _) => operand::write(s, image, map, log, true, k, place, v),
     }
 }
 
@@ -162,14 +164,14 @@ fn settle_byte(
     match b {
         ByteBinary::Cmpb => Went::Done(s),
         ByteBinary::Movb => move_byte(s, image, map, log, k, place, v),
-        ByteBinary::Bisb => operand::write_byte(s, image, map, log, k, place, v),
+        ByteBinary::Bisb => operand::write(s, image, map, log, true, k, place, v),
     }
 }
 
 // The op code on bytes, with the source x: MOVB, which does not read its destination, is tried first.
 fn onto_bytes(s: State, image: &mut [u8], map: &[u8], log: &mut [u16; 32], op: u16, x: u8) -> Went
     requires { ⌜ Board (now map) (beside (now image) (now log)) ⌝ }
-    ensures { λ r. ⌜ Works (now (map .entry)) (Spec.ontoBytes (Spec.byteCode op) s op x) (now (image .entry)) (now (log .entry)) r (now (image .exit)) (now (log .exit)) ⌝ }
+    ensures { λ r. ⌜ Works (now (map .entry)) (Inner.ontoBytes (Spec.byteCode op) s op x) (now (image .entry)) (now (log .entry)) r (now (image .exit)) (now (log .exit)) ⌝ }
 {
     let to = destination_register(op);
     let mode = destination_mode(op);

@@ -26,12 +26,12 @@ abbrev pub inRegister : ℕ → Bool
 inRegister op = eqb (destinationMode op) 0
 
 -- the result of an op code that both columns have: on words, and on bytes
-abbrev pub resultOf : Size → Unary → ℕ → ℕ → Flags → Done
+abbrev resultOf : Size → Unary → ℕ → ℕ → Flags → Done
 resultOf word u op = unaryOf 16 u (inRegister op)
 resultOf byte u op = unaryOf 8 u (inRegister op)
 
 -- the indicators set, and the result stored
-abbrev pub resultStored : Size → ℕ → State → Place → Done → Work State
+abbrev resultStored : Size → ℕ → State → Place → Done → Work State
 resultStored z op s p d = writeTo z (withFlags s (d .flags)) (destinationRegister op) p (d .value)
 
 -- (DST) ← its result; the indicators

@@ -31,7 +31,7 @@ resultAt byte op row d f = unaryOf 8 (unaryAt row) (inRegister op) d f
 unfoldable pub storedAt : Size → ℕ → ℕ → State → Place → ℕ → Work State
 storedAt z op row s p v = cond (eqb row 2) (give s) (writeTo z s (destinationRegister op) p v)
 
-abbrev pub settledAt : Size → ℕ → ℕ → State → Place → Done → Work State
+abbrev settledAt : Size → ℕ → ℕ → State → Place → Done → Work State
 settledAt z op row s p d = storedAt z op row (withFlags s (d .flags)) p (d .value)
 
 unfoldable pub modifyAt : Size → State → ℕ → ℕ → Work State

@@ -7,7 +7,7 @@ use operand::Found;
 use operand::Held;
 use operand::Place;
 use operand::byte_step;
-use operand::destination::destination_word;
+use operand::destination::destination;
 use operand::destination::unheld;
 use operand::locate;
 use operand::moved;
@@ -23,7 +23,7 @@ use wordmath::Flags;
 use wordmath::address::minus;
 use wordmath::address::plus;
 ghost use mathlib.Core.Path.{_≡_};
-ghost use Rattle.board.specs.Work.{word, byte};
+ghost use Rattle.board.specs.Work.{word, byte, sizeOf};
 ghost use Rattle.board.specs.Exec.{beside, Lent, Board, Saw};
 ghost use Rattle.state.specs.Answer.{Works, wentAs};
 ghost use Rattle.format7.specs.Format7 as Spec;
@@ -77,44 +77,25 @@ fn byte_result(op: u16, row: u16, d: u8, f: Flags) -> Done
     unary::by_code::unary8(opcodes::unary_at(row), in_register(op), d, f)
 }
 
-fn stored_word(
+fn stored(
     s: State,
     image: &mut [u8],
     map: &[u8],
     log: &mut [u16; 32],
+    bytes: bool,
     op: u16,
     row: u16,
     place: Place,
     v: u16,
 ) -> Went
     requires { ⌜ Board (now map) (beside (now image) (now log)) ⌝ }
-    ensures { λ r. ⌜ Works (now (map .entry)) (Rows.storedAt word op row s place v) (now (image .entry)) (now (log .entry)) r (now (image .exit)) (now (log .exit)) ⌝ }
+    ensures { λ r. ⌜ Works (now (map .entry)) (Rows.storedAt (sizeOf bytes) op row s place v) (now (image .entry)) (now (log .entry)) r (now (image .exit)) (now (log .exit)) ⌝ }
 {
     let k = destination_register(op);
     if row == 2 {
         return Went::Done(s);
     }
-    operand::write_word(s, image, map, log, k, place, v)
-}
-
-fn stored_byte(
-    s: State,
-    image: &mut [u8],
-    map: &[u8],
-    log: &mut [u16; 32],
-    op: u16,
-    row: u16,
-    place: Place,
-    v: u16,
-) -> Went
-    requires { ⌜ Board (now map) (beside (now image) (now log)) ⌝ }
-    ensures { λ r. ⌜ Works (now (map .entry)) (Rows.storedAt byte op row s place v) (now (image .entry)) (now (log .entry)) r (now (image .exit)) (now (log .exit)) ⌝ }
-{
-    let k = destination_register(op);
-    if row == 2 {
-        return Went::Done(s);
-    }
-    operand::write_byte(s, image, map, log, k, place, v)
+    operand::write(s, image, map, log, bytes, k, place, v)
 }
 
 // ROR to DEC, IW2, SXT, ADC, SBC.
@@ -140,11 +121,12 @@ fn modify_word(
         return unanswered(place);
     };
     let done = word_result(op, row, d, t.flags);
-    stored_word(
+    stored(
         t.with_flags(done.flags),
         image,
         map,
         log,
+        false,
         op,
         row,
         place,
@@ -175,11 +157,12 @@ fn modify_byte(
         return unanswered(place);
     };
     let done = byte_result(op, row, d, t.flags);
-    stored_byte(
+    stored(
         t.with_flags(done.flags),
         image,
         map,
         log,
+        true,
         op,
         row,
         place,
@@ -192,7 +175,7 @@ fn tcall(s: State, image: &mut [u8], map: &[u8], log: &mut [u16; 32], op: u16) -
     requires { ⌜ Board (now map) (beside (now image) (now log)) ⌝ }
     ensures { λ r. ⌜ Works (now (map .entry)) (Spec.tcall s op) (now (image .entry)) (now (log .entry)) r (now (image .exit)) (now (log .exit)) ⌝ }
 {
-    let held = destination_word(s, image, map, op);
+    let held = destination(s, image, map, false, op);
     let Held::At(t, _, d) = held else {
         return unheld(held);
     };
@@ -208,7 +191,7 @@ fn tjmp(s: State, image: &[u8], map: &[u8], op: u16) -> Went
     requires { ⌜ Lent (now map) (now image) ⌝ }
     ensures { λ r. ⌜ Saw (now (map .entry)) (Spec.tjmp s op) (now (image .entry)) (wentAs r) ⌝ }
 {
-    let held = destination_word(s, image, map, op);
+    let held = destination(s, image, map, false, op);
     let Held::At(t, _, d) = held else {
         return unheld(held);
     };
@@ -220,7 +203,7 @@ fn lsts(s: State, image: &[u8], map: &[u8], op: u16) -> Went
     requires { ⌜ Lent (now map) (now image) ⌝ }
     ensures { λ r. ⌜ Saw (now (map .entry)) (Spec.lsts s op) (now (image .entry)) (wentAs r) ⌝ }
 {
-    let held = destination_word(s, image, map, op);
+    let held = destination(s, image, map, false, op);
     let Held::At(t, _, d) = held else {
         return unheld(held);
     };
@@ -233,11 +216,11 @@ fn ssts(s: State, image: &mut [u8], map: &[u8], log: &mut [u16; 32], out: Outsid
     ensures { λ r. ⌜ Works (now (map .entry)) (Spec.ssts out s op) (now (image .entry)) (now (log .entry)) r (now (image .exit)) (now (log .exit)) ⌝ }
 {
     let k = destination_register(op);
-    let held = destination_word(s, image, map, op);
+    let held = destination(s, image, map, false, op);
     let Held::At(t, place, _) = held else {
         return unheld(held);
     };
-    operand::write_word(t, image, map, log, k, place, t.ps(out, false))
+    operand::write(t, image, map, log, false, k, place, t.ps(out, false))
 }
 
 // 0A00 to 0D7F, and 8D80, 8DC0.

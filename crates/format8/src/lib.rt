@@ -1,6 +1,5 @@
 // Format 8: the block moves. One element is one step.
-use board::Byte;
-use board::Kept;
+use board::Stored;
 use board::Word;
 use opcodes::fields::block_destination;
 use opcodes::fields::block_source;
@@ -11,22 +10,22 @@ use state::unwritten;
 use wordmath::address::minus;
 use wordmath::address::plus;
 ghost use mathlib.Core.Path.{_≡_};
-ghost use Rattle.board.specs.Work.{word, byte};
-ghost use Rattle.board.specs.Exec.{beside, Board, Did, keptAs};
+ghost use Rattle.board.specs.Work.{sizeOf};
+ghost use Rattle.board.specs.Exec.{beside, Board, Did, storedAs};
 ghost use Rattle.state.specs.Answer.{Works};
 ghost use Rattle.format8.specs.Format8 as Spec;
 
 // Words or bytes; what is added to the source's register after an element, and what to the destination's.
-pub struct Row {
+pub struct BlockMove {
     pub bytes: bool,
     pub source: u16,
     pub destination: u16,
 }
 
-fn row_from(bytes: bool, source: u16, destination: u16) -> Row
+fn row_from(bytes: bool, source: u16, destination: u16) -> BlockMove
     ensures { λ r. ⌜ r ≡ Spec.rowFrom bytes source destination ⌝ }
 {
-    Row {
+    BlockMove {
         bytes,
         source,
         destination,
@@ -34,7 +33,7 @@ fn row_from(bytes: bool, source: u16, destination: u16) -> Row
 }
 
 // The eight op codes; down by n is up by 65,536 - n.
-fn row_at(k: u16) -> Row
+fn row_at(k: u16) -> BlockMove
     ensures { λ r. ⌜ r ≡ Spec.rowAt k ⌝ }
 {
     match k {
@@ -49,43 +48,22 @@ fn row_at(k: u16) -> Row
     }
 }
 
-fn wide(b: u8) -> u16
-    ensures { λ r. ⌜ r ≡ b ⌝ }
-{
-    b as u16
-}
-
-// The word at a is moved to b.
-fn move_word(image: &mut [u8], map: &[u8], log: &mut [u16; 32], a: u16, b: u16) -> Kept
-    requires { ⌜ Board (now map) (beside (now image) (now log)) ⌝ }
-    ensures { λ r. ⌜ Did (now (map .entry)) (Spec.transfer word a b) (beside (now (image .entry)) (now (log .entry))) (keptAs r (beside (now (image .exit)) (now (log .exit)))) (beside (now (image .exit)) (now (log .exit))) ⌝ }
-{
-    let Word::Value(v) = board::load(image, map, a) else {
-        return Kept::Blank(a);
-    };
-    board::store(image, map, log, b, v)
-}
-
-// The byte at a is moved to b.
-fn move_byte(image: &mut [u8], map: &[u8], log: &mut [u16; 32], a: u16, b: u16) -> Kept
-    requires { ⌜ Board (now map) (beside (now image) (now log)) ⌝ }
-    ensures { λ r. ⌜ Did (now (map .entry)) (Spec.transfer byte a b) (beside (now (image .entry)) (now (log .entry))) (keptAs r (beside (now (image .exit)) (now (log .exit)))) (beside (now (image .exit)) (now (log .exit))) ⌝ }
-{
-    let Byte::Value(v) = board::load_byte(image, map, a) else {
-        return Kept::Blank(a);
-    };
-    board::store_byte(image, map, log, b, wide(v))
-}
-
 // The byte or the word at a is moved to b.
-fn transfer(image: &mut [u8], map: &[u8], log: &mut [u16; 32], bytes: bool, a: u16, b: u16) -> Kept
+fn transfer(
+    image: &mut [u8],
+    map: &[u8],
+    log: &mut [u16; 32],
+    bytes: bool,
+    a: u16,
+    b: u16,
+) -> Stored
     requires { ⌜ Board (now map) (beside (now image) (now log)) ⌝ }
-    ensures { λ r. ⌜ Did (now (map .entry)) (Spec.transfer (Spec.moveSize bytes) a b) (beside (now (image .entry)) (now (log .entry))) (keptAs r (beside (now (image .exit)) (now (log .exit)))) (beside (now (image .exit)) (now (log .exit))) ⌝ }
+    ensures { λ r. ⌜ Did (now (map .entry)) (Spec.transfer (sizeOf bytes) a b) (beside (now (image .entry)) (now (log .entry))) (storedAs r (beside (now (image .exit)) (now (log .exit)))) (beside (now (image .exit)) (now (log .exit))) ⌝ }
 {
-    if bytes {
-        return move_byte(image, map, log, a, b);
-    }
-    move_word(image, map, log, a, b)
+    let Word::Value(v) = board::read(image, map, bytes, a) else {
+        return Stored::Blank(a);
+    };
+    board::write(image, map, log, bytes, b, v)
 }
 
 // REG ← REG + n.
@@ -96,8 +74,8 @@ fn onward(s: State, k: u16, n: u16) -> State
 }
 
 // Both registers move, the source's first; R0 ← R0 - 1.
-fn counted(row: Row, s: State, i: u16, j: u16) -> State
-    ensures { λ r. ⌜ r ≡ Spec.counted row s i j ⌝ }
+fn registers_moved(row: BlockMove, s: State, i: u16, j: u16) -> State
+    ensures { λ r. ⌜ r ≡ Spec.registersMoved row s i j ⌝ }
 {
     onward(
         onward(onward(s, i, row.source), j, row.destination),
@@ -125,8 +103,8 @@ pub fn format8(s: State, image: &mut [u8], map: &[u8], log: &mut [u16; 32], op: 
     let i = block_source(op);
     let j = block_destination(op);
     let kept = transfer(image, map, log, row.bytes, s.reg(i), s.reg(j));
-    let Kept::Done = kept else {
+    let Stored::Done = kept else {
         return unwritten(kept);
     };
-    Went::Done(again(s, counted(row, s, i, j)))
+    Went::Done(again(s, registers_moved(row, s, i, j)))
 }

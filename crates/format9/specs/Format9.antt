@@ -2,7 +2,6 @@
 use Prim.Native.Nat.{ℕ, _*_, _%_}
 use mathlib.Core.Bool.{cond}
 use mathlib.Core.List.{List, [], _∷_}
-use mathlib.Core.Path.{_≡_}
 use lib.Dec.{eqb}
 use lib.ListN.{getD}
 use Rattle.opcodes.specs.Fields.{destinationMode, destinationRegister, register, format9Code, offset}
@@ -25,14 +24,14 @@ abbrev pub illegal : Outside → State → Work State
 illegal out s = trapNow out s 0x1c
 
 -- JSR at an address: ↓ SP, @SP ← REG; REG ← PC; PC ← DST
-unfoldable pub call : State → ℕ → ℕ → Work State
-call s r a = do
+unfoldable pub jsrAt : State → ℕ → ℕ → Work State
+jsrAt s r a = do
   s ← pushReg s r
   give (withPc (withReg s r (s .regs .pc)) a)
 
 unfoldable pub jsrTo : Outside → State → ℕ → Place → Work State
 jsrTo out s r Reg = illegal out s
-jsrTo out s r (Mem a which v) = call s r a
+jsrTo out s r (Mem a which v) = jsrAt s r a
 
 -- JSR
 unfoldable pub jsr : Outside → State → ℕ → Work State
@@ -91,15 +90,18 @@ div s op = do
       (withPair (o .state) (register op)
       (divOf (reg (o .state) (register op)) (reg (o .state) (next (register op))) (o .operand)))
 
--- with the indicators preset: JSR 7000, LEA 7200, ASH 7400; SOB 7600 leaves them; XCH 7800, ASHC 7A00, MUL 7C00, DIV 7E00
+-- t is s with the indicators preset; SOB leaves them
 abbrev pub codes9 : Outside → State → State → ℕ → List (Work State)
-codes9 out s t op =
-    jsr out t op ∷ lea out t op ∷ ash t op ∷ give (sob s op) ∷ xch t op ∷ ashc t op ∷ mul t op ∷ div t op ∷ []
-
--- neither JSR nor SOB
-pub record NeitherJsrNorSob (op : ℕ) : Type 0 where
-  pub not-jsr : format9Code op ≡ 0 → ⊥
-  pub not-sob : format9Code op ≡ 3 → ⊥
+codes9 out s t op
+    = jsr out t op  -- 7000 JSR
+    ∷ lea out t op  -- 7200 LEA
+    ∷ ash t op  -- 7400 ASH
+    ∷ give (sob s op)  -- 7600 SOB
+    ∷ xch t op  -- 7800 XCH
+    ∷ ashc t op  -- 7A00 ASHC
+    ∷ mul t op  -- 7C00 MUL
+    ∷ div t op  -- 7E00 DIV
+    ∷ []
 
 unfoldable pub format9 : Outside → State → ℕ → Work State
 format9 out s op = getD (codes9 out s (withFlags s preset) op) (format9Code op) (div (withFlags s preset) op)

@@ -1,1 +1,2 @@
 pub mod Format9
+pub mod Inner

@@ -7,8 +7,7 @@ use opcodes::fields::register;
 use operand::Found;
 use operand::Held;
 use operand::Place;
-use operand::destination::destination_byte;
-use operand::destination::destination_word;
+use operand::destination::destination;
 use operand::destination::unheld;
 use operand::locate;
 use operand::moved;
@@ -23,11 +22,12 @@ ghost use Rattle.board.specs.Exec.{beside, Lent, Board, Saw};
 ghost use Rattle.state.specs.Answer.{Works, wentAs};
 ghost use Prim.Native.Nat.{_%_};
 ghost use Rattle.format9.specs.Format9 as Spec;
+ghost use Rattle.format9.specs.Inner as Inner;
 
 // JSR at an address: ↓ SP, @SP ← REG; REG ← PC; PC ← DST.
-fn call(s: State, image: &mut [u8], map: &[u8], log: &mut [u16; 32], k: u16, a: u16) -> Went
+fn jsr_at(s: State, image: &mut [u8], map: &[u8], log: &mut [u16; 32], k: u16, a: u16) -> Went
     requires { ⌜ Board (now map) (beside (now image) (now log)) ⌝ }
-    ensures { λ r. ⌜ Works (now (map .entry)) (Spec.call s k a) (now (image .entry)) (now (log .entry)) r (now (image .exit)) (now (log .exit)) ⌝ }
+    ensures { λ r. ⌜ Works (now (map .entry)) (Spec.jsrAt s k a) (now (image .entry)) (now (log .entry)) r (now (image .exit)) (now (log .exit)) ⌝ }
 {
     let went = s.push_reg(image, map, log, k);
     let Went::Done(t) = went else {
@@ -55,7 +55,7 @@ fn jsr_to(
             let m = map;
             state::apart(t.trap_now(image, m, log, o, 0x1c))
         }
-        Place::Mem(a, _, _) => call(s, image, map, log, k, a),
+        Place::Mem(a, _, _) => jsr_at(s, image, map, log, k, a),
     }
 }
 
@@ -115,7 +115,7 @@ fn ash(s: State, image: &[u8], map: &[u8], op: u16) -> Went
     ensures { λ r. ⌜ Saw (now (map .entry)) (Spec.ash s op) (now (image .entry)) (wentAs r) ⌝ }
 {
     let k = register(op);
-    let held = destination_byte(s, image, map, op);
+    let held = destination(s, image, map, true, op);
     let Held::At(t, _, n) = held else {
         return unheld(held);
     };
@@ -144,12 +144,12 @@ fn xch(s: State, image: &mut [u8], map: &[u8], log: &mut [u16; 32], op: u16) -> 
 {
     let k = register(op);
     let to = destination_register(op);
-    let held = destination_word(s, image, map, op);
+    let held = destination(s, image, map, false, op);
     let Held::At(t, place, d) = held else {
         return unheld(held);
     };
     let r = t.reg(k);
-    operand::write_word(t.with_reg(k, d), image, map, log, to, place, r)
+    operand::write(t.with_reg(k, d), image, map, log, false, to, place, r)
 }
 
 // ASHC: as ASH, on REG+1:REG.
@@ -158,7 +158,7 @@ fn ashc(s: State, image: &[u8], map: &[u8], op: u16) -> Went
     ensures { λ r. ⌜ Saw (now (map .entry)) (Spec.ashc s op) (now (image .entry)) (wentAs r) ⌝ }
 {
     let k = register(op);
-    let held = destination_byte(s, image, map, op);
+    let held = destination(s, image, map, true, op);
     let Held::At(t, _, n) = held else {
         return unheld(held);
     };
@@ -172,7 +172,7 @@ fn mul(s: State, image: &[u8], map: &[u8], op: u16) -> Went
     ensures { λ r. ⌜ Saw (now (map .entry)) (Spec.mul s op) (now (image .entry)) (wentAs r) ⌝ }
 {
     let k = register(op);
-    let held = destination_word(s, image, map, op);
+    let held = destination(s, image, map, false, op);
     let Held::At(t, _, d) = held else {
         return unheld(held);
     };
@@ -186,7 +186,7 @@ fn div(s: State, image: &[u8], map: &[u8], op: u16) -> Went
     ensures { λ r. ⌜ Saw (now (map .entry)) (Spec.div s op) (now (image .entry)) (wentAs r) ⌝ }
 {
     let k = register(op);
-    let held = destination_word(s, image, map, op);
+    let held = destination(s, image, map, false, op);
     let Held::At(t, _, d) = held else {
         return unheld(held);
     };
@@ -203,7 +203,7 @@ fn preset_code(
     out: Outside,
     op: u16,
 ) -> Went
-    requires { ⌜ (Board (now map) (beside (now image) (now log))) × (Spec.NeitherJsrNorSob op) ⌝ }
+    requires { ⌜ (Board (now map) (beside (now image) (now log))) × (Inner.NeitherJsrNorSob op) ⌝ }
     ensures { λ r. ⌜ Works (now (map .entry)) (Spec.format9 out s op) (now (image .entry)) (now (log .entry)) r (now (image .exit)) (now (log .exit)) ⌝ }
 {
     let opc = format9_code(op);
@@ -227,7 +227,7 @@ fn seldom(
     out: Outside,
     op: u16,
 ) -> Went
-    requires { ⌜ (Board (now map) (beside (now image) (now log))) × (Spec.NeitherJsrNorSob op) ⌝ }
+    requires { ⌜ (Board (now map) (beside (now image) (now log))) × (Inner.NeitherJsrNorSob op) ⌝ }
     ensures { λ r. ⌜ Works (now (map .entry)) (Spec.format9 out s op) (now (image .entry)) (now (log .entry)) r (now (image .exit)) (now (log .exit)) ⌝ }
 {
     let t = s;

@@ -1,5 +1,5 @@
 // Formats 2 and 3, 0010 to 003F.
-use board::Kept;
+use board::Stored;
 use board::Word;
 use opcodes::fields::format2_code;
 use opcodes::fields::only_register;
@@ -40,7 +40,7 @@ fn msko(s: State, image: &mut [u8], map: &[u8], log: &mut [u16; 32], k: u16) -> 
     requires { ⌜ Board (now map) (beside (now image) (now log)) ⌝ }
     ensures { λ r. ⌜ Works (now (map .entry)) (Spec.msko s k) (now (image .entry)) (now (log .entry)) r (now (image .exit)) (now (log .exit)) ⌝ }
 {
-    let Kept::Done = board::store(image, map, log, 0x2e, s.reg(k)) else {
+    let Stored::Done = board::store(image, map, log, 0x2e, s.reg(k)) else {
         return Went::Blank(0x2e);
     };
     Went::Done(s)

@@ -6,8 +6,8 @@ use mathlib.Core.Bool.{true, false, cond}
 use mathlib.Core.List.{List, _++_, append-nil}
 use mathlib.Core.Path.{_≡_, refl, sym, ap, _∙_}
 use lib.ListN.{length, getD, set, drop, replicate}
-use Rattle.job.specs.declared.Answer.{Answer}
-use Rattle.job.specs.declared.Answer.the-variants.{Lines, Refused}
+use Rattle.job.specs.declared.JobRead.{JobRead}
+use Rattle.job.specs.declared.JobRead.the-variants.{Lines, Refused}
 use Rattle.job.specs.declared.Section.{Section}
 use Rattle.job.specs.declared.Section.the-variants as section
 use native.Mathlib.Omega.{arith}
@@ -284,17 +284,17 @@ module _ (input image map lines : List ℕ) where
   read-filled e f = rw (e, f .image-is, f .map-is, f .lines-is, f .count-is) refl
 
 -- ---- ONE OUTCOME
-abbrev answerOf : Page ℕ → Answer
+abbrev answerOf : Page ℕ → JobRead
 answerOf (answered n) = Lines n
 answerOf (refused why) = Refused why
 answerOf (refusedAt why at) = Refused why
 
-answer-back : (a : Answer) → answerOf (jobPage a) ≡ a
+answer-back : (a : JobRead) → answerOf (jobPage a) ≡ a
 answer-back (Lines n) = refl
 answer-back (Refused why) = refl
 
-pub one-answer : (a b : Answer) → jobPage a ≡ jobPage b → a ≡ b
+pub one-answer : (a b : JobRead) → jobPage a ≡ jobPage b → a ≡ b
 one-answer = one answerOf answer-back
 
-pub one-outcome : (a b : Answer) (x y : List ℕ × List ℕ × List ℕ) → left (jobPage a) x ≡ left (jobPage b) y → (a ≡ b) × (x ≡ y)
+pub one-outcome : (a b : JobRead) (x y : List ℕ × List ℕ × List ℕ) → left (jobPage a) x ≡ left (jobPage b) y → (a ≡ b) × (x ≡ y)
 one-outcome = one-call jobPage one-answer

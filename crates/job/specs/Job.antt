@@ -8,9 +8,9 @@ use lib.Dec.{eqb, leb}
 use Rattle.wordbytes.specs.Words.{byteAt, wordAt}
 use Rattle.refusal.specs.Numbers.{imageLength, mapLength, linesLength, jobEnds, manyPages, pageNotRising, manyWords, addressOdd, addressNotRising, addressUnfitted, manyLines, jobLineBit, bytesLeft, readOnlyPage}
 use Rattle.refusal.specs.Page.{Page, refused, answered, Left, left, call, first}
-use Rattle.refusal.specs.Refusal.{plain}
-use Rattle.job.specs.declared.Answer.{Answer}
-use Rattle.job.specs.declared.Answer.the-variants.{Lines, Refused}
+use Rattle.refusal.specs.Refusal.{plain, mostLineWords}
+use Rattle.job.specs.declared.JobRead.{JobRead}
+use Rattle.job.specs.declared.JobRead.the-variants.{Lines, Refused}
 use Rattle.job.specs.declared.Section.{Section}
 use Rattle.job.specs.declared.Section.the-variants as section
 
@@ -36,7 +36,7 @@ entrySize section.ReadOnly = 1
 abbrev pub mostOf : Section → ℕ
 mostOf section.Pages = 256
 mostOf section.Words = 4096
-mostOf section.Lines = 4096
+mostOf section.Lines = mostLineWords
 mostOf section.ReadOnly = 256
 
 abbrev pub overOf : Section → ℕ
@@ -162,7 +162,7 @@ unfoldable pub imageOf : List ℕ → List ℕ
 imageOf input = wordsStored input (wordAt input (wordsSection input)) (wordsSection input + 2) (replicate 65536 0)
 
 unfoldable pub linesOf : List ℕ → List ℕ
-linesOf input = listed input (wordAt input (linesAt input)) (linesAt input + 2) 0 (replicate 4096 0)
+linesOf input = listed input (wordAt input (linesAt input)) (linesAt input + 2) 0 (replicate mostLineWords 0)
 
 -- the job's line words, without the unused rest of the line buffer
 unfoldable pub lineWords : List ℕ → List ℕ
@@ -172,7 +172,7 @@ lineWords input = take (wordAt input (linesAt input)) (linesOf input)
 pub record JobRoom (image map lines : List ℕ) : Type 0 where
   pub bytes : length image ≡ 65536
   pub pages : length map ≡ 256
-  pub words : length lines ≡ 4096
+  pub words : length lines ≡ mostLineWords
 
 -- the buffers and the number of line words of an accepted job
 pub record Filled (input image map lines : List ℕ) (count : ℕ) : Type 0 where
@@ -182,7 +182,7 @@ pub record Filled (input image map lines : List ℕ) (count : ℕ) : Type 0 wher
   pub count-is : count ≡ wordAt input (linesAt input)
 
 -- an answer in 01's numbers: the number of line words, or the refusal's number alone
-abbrev pub jobPage : Answer → Page ℕ
+abbrev pub jobPage : JobRead → Page ℕ
 jobPage (Lines n) = answered n
 jobPage (Refused why) = refused why
 
@@ -191,7 +191,7 @@ unfoldable pub whyRead : ℕ → ℕ → ℕ → List ℕ → ℕ
 whyRead image map lines input =
     first (cond (eqb image 65536) 0 imageLength)
     (first (cond (eqb map 256) 0 mapLength)
-    (first (cond (eqb lines 4096) 0 linesLength)
+    (first (cond (eqb lines mostLineWords) 0 linesLength)
     (whyJob input)))
 
 -- the image, the map and the line buffer of an accepted job

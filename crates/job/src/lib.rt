@@ -1,4 +1,5 @@
 // Reads a job: three sections, each after its count, and perhaps a fourth. First the whole input is checked, then the lent buffers are filled.
+use refusal::MOST_LINE_WORDS;
 use refusal::number;
 use wordbytes::byte_at;
 use wordbytes::word_at;
@@ -9,8 +10,11 @@ ghost use Rattle.job.specs.Job as Spec;
 ghost use Rattle.job.specs.Job.{sections, entrySize, mostOf, overOf, keyAt, fitPage, whyPage, whyAddress, whyLine, whyKey, whyEntry, whyCount, whyLeft, whyJob, fitPages, wordsStored, listed, JobRoom, Filled, whyRead, jobPage, jobOf};
 ghost use Rattle.refusal.specs.Page.{left};
 
+// What is read of a job: the longest has 25,096 bytes, and one byte more shows that there are bytes left over.
+pub const READ_OF_JOB: usize = 25097;
+
 // What the job reader answers: how many line words there are, or why the job is refused.
-pub enum Answer {
+pub enum JobRead {
     Lines(u16),
     Refused(u8),
 }
@@ -371,20 +375,20 @@ pub fn refusal(image: usize, map: usize, lines: usize, input: &[u8]) -> u8
     if map != 256 {
         return number::MAP_LENGTH;
     }
-    if lines != 4096 {
+    if lines != MOST_LINE_WORDS {
         return number::LINES_LENGTH;
     }
     first_refusal(input)
 }
 
 // Reads a job into the lent buffers: the answer is the number of line words, or the first refusal, which changes no buffer.
-pub fn read_job(input: &[u8], image: &mut [u8], map: &mut [u8], lines: &mut [u16]) -> Answer
+pub fn read_job(input: &[u8], image: &mut [u8], map: &mut [u8], lines: &mut [u16]) -> JobRead
     ensures { λ r. ⌜ left (jobPage r) (now (image .exit), now (map .exit), now (lines .exit))
         ≡ jobOf (now (input .entry)) (now (image .entry)) (now (map .entry)) (now (lines .entry)) ⌝ }
 {
     let why = refusal(image.len(), map.len(), lines.len(), input);
     if why != 0 {
-        return Answer::Refused(why);
+        return JobRead::Refused(why);
     }
-    Answer::Lines(fill(input, image, map, lines))
+    JobRead::Lines(fill(input, image, map, lines))
 }

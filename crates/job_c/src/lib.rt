@@ -1,5 +1,5 @@
 // The job reader for C, over plain lent bytes and words. c/hitchbriar.h has the answer's layout.
-use job::Answer;
+use job::JobRead;
 ghost use mathlib.Core.Path.{_≡_};
 ghost use Rattle.refusal.specs.Page.{told};
 ghost use Rattle.job_c.specs.Calls as Spec;
@@ -20,10 +20,10 @@ pub extern "C" fn wd16_read_job(
         return refused;
     }
     match job::read_job(job, image, map, lines) {
-        Answer::Lines(n) => {
+        JobRead::Lines(n) => {
             answer::put(answer, n, 0, 0);
             0
         }
-        Answer::Refused(why) => why,
+        JobRead::Refused(why) => why,
     }
 }

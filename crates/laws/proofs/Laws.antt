@@ -4,6 +4,7 @@ pub mod Append
 pub mod Boards
 pub mod Branches
 pub mod Calls
+pub mod CardPage
 pub mod Cards
 pub mod Empty
 pub mod Halves

@@ -9,7 +9,7 @@ use lib.Dec.{eqb}
 use Rattle.wordmath.specs.declared.Flags.{Flags}
 use Rattle.wordmath.specs.Address.{plus}
 use Rattle.arith.specs.Branch.{_xor_}
-use Rattle.board.specs.Work.{wordAt}
+use Rattle.board.specs.Work.{imageWord}
 use Rattle.plate.specs.Plate.{formatOf}
 use Rattle.opcodes.specs.Fields.{highByte}
 use Rattle.formats5to6.specs.Format5.{displacement}
@@ -29,7 +29,7 @@ pub record Line : Type 0 where
   pub high : ℕ
   pub when : Flags → Bool
 
-abbrev pub branchLine : String → ℕ → (Flags → Bool) → Line
+abbrev branchLine : String → ℕ → (Flags → Bool) → Line
 branchLine name high when = record { name = name; high = high; when = when }
 
 -- the manual's OPERATION lines of format 5: "IF x = 0" is not x, "IF x = 1" is x
@@ -67,10 +67,10 @@ branched op s =
 -- map or the image is needed.
 abbrev pub BranchesAsPrinted : Type 0
 BranchesAsPrinted = (settings : Settings) (m map : List ℕ) (lines : ℕ) (s : State) (t : Turn) (n : List ℕ) → StepCall settings m map lines s t n
-    → (let op = wordAt m (s .regs .pc) in s .mode ≡ Running → t .cause ≡ Cause.OpCode → formatOf (highByte op) ≡ 5 → (t .state ≡ branched op s) × (n ≡ m))
+    → (let op = imageWord m (s .regs .pc) in s .mode ≡ Running → t .cause ≡ Cause.OpCode → formatOf (highByte op) ≡ 5 → (t .state ≡ branched op s) × (n ≡ m))
 
 -- The same for C: a step that leaves cause 0, on the bytes that `wd16_step` leaves.
 abbrev pub Wd16BranchesAsPrinted : Type 0
 Wd16BranchesAsPrinted = (w b m map : List ℕ) (lines : ℕ) (b′ m′ : List ℕ) → LentSteps w b m map lines b′ m′
-    → (let s = stateFrom b in let op = wordAt m (s .regs .pc) in
+    → (let s = stateFrom b in let op = imageWord m (s .regs .pc) in
     s .mode ≡ Running → byteAt b′ 19 ≡ 0 → formatOf (highByte op) ≡ 5 → (stateFrom b′ ≡ branched op s) × (m′ ≡ m))

@@ -18,7 +18,7 @@ use mathlib.Core.Bool.{true, false, cond}
 use lib.ListN.{length}
 use Rattle.state.specs.declared.Settings.{Settings}
 use Rattle.refusal.specs.Page.{left, told}
-use Rattle.refusal.specs.Refusal.{allOf, plain}
+use Rattle.refusal.specs.Refusal.{allOf, plain, mostLineWords}
 use Rattle.machine.specs.declared.Stepped.{Stepped}
 use Rattle.machine.specs.Entry.{powerWhy, steppedPage, finishedPage, stepPage, runPage}
 use Rattle.machine_c.specs.Layout.{tallyBytes, settingsFrom, refusedStep}
@@ -78,7 +78,7 @@ pub record CallsJoined (n k₁ k₂ k₃ : ℕ) (t₁ b₂ t₂ m₂ b₃ t₃ m
   pub told : wordAt t₃ 4 ≡ firstTold (wordAt t₁ 2) (wordAt t₁ 4) (wordAt t₂ 4)
 
 module _ (settings : Settings) (map xs ys : List ℕ) (s : State) (m : List ℕ)
-    (board : powerWhy settings m map ≡ 0) (few : length xs + length ys ≤ 4096) (unused : allOf plain xs ≡ true) (unusedToo : allOf plain ys ≡ true) where
+    (board : powerWhy settings m map ≡ 0) (few : length xs + length ys ≤ mostLineWords) (unused : allOf plain xs ≡ true) (unusedToo : allOf plain ys ≡ true) where
   -- HALF NOW, HALF LATER
   abbrev pub RunJoined : Type 0
   RunJoined = (r q p : Finished) (m₁ m₂ m₃ : List ℕ)
@@ -109,7 +109,7 @@ RunOne = (settings : Settings) (map : List ℕ) (line : ℕ) (s : State) (m m₁
 -- third those that the first was lent. w are the settings' bytes
 
 module _ (map w xs ys b t t′ t″ m : List ℕ) (good : refusedStep b w ≡ false) (tally : length t ≡ 6) (tally′ : length t′ ≡ 6) (tally″ : length t″ ≡ 6)
-    (board : powerWhy (settingsFrom w) m map ≡ 0) (few : length xs + length ys ≤ 4096) (unused : allOf plain xs ≡ true) (unusedToo : allOf plain ys ≡ true) where
+    (board : powerWhy (settingsFrom w) m map ≡ 0) (few : length xs + length ys ≤ mostLineWords) (unused : allOf plain xs ≡ true) (unusedToo : allOf plain ys ≡ true) where
   abbrev pub Wd16RunJoined : Type 0
   Wd16RunJoined = (k₁ k₂ k₃ : ℕ) (b₁ t₁ m₁ b₂ t₂ m₂ b₃ t₃ m₃ : List ℕ)
       → told k₁ (b₁, t₁, m₁) ≡ runCall b t m map w xs

@@ -6,7 +6,7 @@ use Prim.Native.Nat.{ℕ, _%_, _<_}
 use mathlib.Core.Bool.{Bool, true, false}
 use mathlib.Core.List.{List}
 use mathlib.Core.Path.{_≡_}
-use Rattle.board.specs.Work.{Size, value, run, wordAt}
+use Rattle.board.specs.Work.{Size, value, run, imageWord}
 use Rattle.wordmath.specs.Address.{plus, minus}
 use Rattle.opcodes.specs.Fields.{highByte, register}
 use Rattle.state.specs.declared.State.{State}
@@ -16,7 +16,7 @@ use Rattle.state.specs.State.{reg}
 use Rattle.step.specs.declared.Turn.{Turn}
 use Rattle.step.specs.declared.Cause.the-variants as Cause
 use Rattle.operand.specs.declared.Place.the-variants.{Mem}
-use Rattle.operand.specs.Operand.{Seen, decode}
+use Rattle.operand.specs.Operand.{Decoded, decode}
 use Rattle.patchline.specs.declared.oneline.How.the-variants.{Branch, Sob, Relative}
 use Rattle.patchline.specs.Line.{isBranch, isSob, op, reaches, withLabel}
 use Rattle.laws.specs.Mark.{StepCall}
@@ -41,13 +41,13 @@ pub record Label (v : ℕ) : Type 0 where
 -- a branch w with an empty field, assembled for the label, which it reaches: where it is taken, it comes there
 abbrev pub BranchComes : Type 0
 BranchComes = (h v w : ℕ) (third : Bool) (settings : Settings) (m map : List ℕ) (line : ℕ) (s : State) (t : Turn) (n : List ℕ) → At h settings m map line s t n → Label v
-    → isBranch w ≡ true → w % 256 ≡ 0 → reaches Branch v h ≡ true → wordAt m h ≡ withLabel Branch third v h (op 1 w) .a
+    → isBranch w ≡ true → w % 256 ≡ 0 → reaches Branch v h ≡ true → imageWord m h ≡ withLabel Branch third v h (op 1 w) .a
     → whenIn lines (highByte w) (s .flags) ≡ true → t .state .regs .pc ≡ v
 
 -- a SOB with an empty field, of a register that is not PC and isn't 0 after the count
 abbrev pub SobComes : Type 0
 SobComes = (h v w : ℕ) (third : Bool) (settings : Settings) (m map : List ℕ) (line : ℕ) (s : State) (t : Turn) (n : List ℕ) → At h settings m map line s t n → Label v
-    → isSob w ≡ true → w % 64 ≡ 0 → reaches Sob v h ≡ true → wordAt m h ≡ withLabel Sob third v h (op 1 w) .a
+    → isSob w ≡ true → w % 64 ≡ 0 → reaches Sob v h ≡ true → imageWord m h ≡ withLabel Sob third v h (op 1 w) .a
     → (register w ≡ 7 → ⊥) → (minus (reg s (register w)) 1 ≡ 0 → ⊥) → t .state .regs .pc ≡ v
 
 -- ---- "as A or @A, the manual's relative operands, it gives the offset from op code +4 or +6"
@@ -55,11 +55,11 @@ SobComes = (h v w : ℕ) (third : Bool) (settings : Settings) (m map : List ℕ)
 -- JMP A is LEA PC,A, 73F7; CALL A is JSR PC,A, 71F7: the second word as assembled
 abbrev pub JumpComes : ℕ → Type 0
 JumpComes code = (h v : ℕ) (settings : Settings) (m map : List ℕ) (line : ℕ) (s : State) (t : Turn) (n : List ℕ) → At h settings m map line s t n → Label v
-    → wordAt m h ≡ code → wordAt m (plus h 2) ≡ withLabel Relative false v h (op 2 code) .b → t .state .regs .pc ≡ v
+    → imageWord m h ≡ code → imageWord m (plus h 2) ≡ withLabel Relative false v h (op 2 code) .b → t .state .regs .pc ≡ v
 
 -- Any operand A, in any op code and at any place in it: decoded where PC stands at its offset word, which is that of the label from the
 -- word after it, it stands at the label's value; @A at the address that stands there.
 abbrev pub OperandStands : Type 0
-OperandStands = (z : Size) (v : ℕ) (map : List ℕ) (s : State) (m : List ℕ) (o : Seen) (n : List ℕ) → Label v → wordAt m (s .regs .pc) ≡ minus v (plus (s .regs .pc) 2)
+OperandStands = (z : Size) (v : ℕ) (map : List ℕ) (s : State) (m : List ℕ) (o : Decoded) (n : List ℕ) → Label v → imageWord m (s .regs .pc) ≡ minus v (plus (s .regs .pc) 2)
     → (run map (decode z s 6 7) m ≡ value o n → o .place ≡ Mem v 7 (plus (s .regs .pc) 2))
-    × (run map (decode z s 7 7) m ≡ value o n → o .place ≡ Mem (wordAt m v) 7 (plus (s .regs .pc) 2))
+    × (run map (decode z s 7 7) m ≡ value o n → o .place ≡ Mem (imageWord m v) 7 (plus (s .regs .pc) 2))

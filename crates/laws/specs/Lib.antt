@@ -9,3 +9,4 @@ pub mod Boards
 pub mod Moves
 pub mod Names
 pub mod Labels
+pub mod CardPage

@@ -5,16 +5,18 @@ use mathlib.Core.Bool.{Bool, true, false, not, _&&_, _||_, cond}
 use mathlib.Core.List.{List, [], _∷_}
 use mathlib.Core.Path.{_≡_}
 use lib.Dec.{eqb}
-use Rattle.board.specs.Work.{wordAt}
+use Rattle.board.specs.Work.{imageWord}
 use Rattle.wordmath.specs.Number.{bit}
+use Rattle.wordmath.specs.Status.{enableOf}
 use Rattle.state.specs.declared.State.{State}
 use Rattle.state.specs.declared.Settings.{Settings}
+use Rattle.state.specs.declared.Outside.{Outside}
 use Rattle.state.specs.declared.Mode.{Mode}
 use Rattle.state.specs.declared.Mode.the-variants.{Running}
 use Rattle.step.specs.declared.Turn.{Turn}
 use Rattle.step.specs.declared.Cause.{Cause}
 use Rattle.step.specs.declared.Cause.the-variants as Cause
-use Rattle.state.specs.State.{modeNumber}
+use Rattle.state.specs.State.{modeNumber, psOf}
 use Rattle.step.specs.Step.{causeNumber}
 use Rattle.machine.specs.declared.Powered.the-variants as Powered
 use Rattle.machine.specs.declared.Stepped.the-variants as Stepped
@@ -30,7 +32,7 @@ enables op = eqb op 0x2 || eqb op 0xb
 
 -- The op code that a running processor's step executes: the one at PC; where that is XCT, 0005, the one at the PC that XCT pops.
 abbrev pub executed : State → List ℕ → ℕ
-executed s m = cond (eqb (wordAt m (s .regs .pc)) 0x5) (wordAt m (wordAt m (s .regs .sp))) (wordAt m (s .regs .pc))
+executed s m = cond (eqb (imageWord m (s .regs .pc)) 0x5) (imageWord m (imageWord m (s .regs .sp))) (imageWord m (s .regs .pc))
 
 abbrev pub isRunning : Mode → Bool
 isRunning mode = eqb (modeNumber mode) 0
@@ -149,3 +151,18 @@ Wd16LateOnce = (w b m map : List ℕ) (l₁ l₂ l₃ : ℕ) (b₁ m₁ b₂ m�
     → bit 3 l₂ ≡ false → bit 3 l₃ ≡ false → (bit 1 l₃ || bit 0 l₃) ≡ true
     → (among (0 ∷ 5 ∷ 8 ∷ []) (byteAt b₂ 19) ≡ true)
     × (byteAt b₂ 19 ≡ 0 → stateFrom b₂ .mode ≡ Running → stateFrom b₂ .i2 ≡ true → among (2 ∷ 3 ∷ 6 ∷ 8 ∷ []) (byteAt b₃ 19) ≡ true)
+
+-- ---- "I2 and the PS bit are set at once": after an IEN or SAVS that was executed, under XCT too, I2 is set, and so is bit 12 of every PS that is formed from
+-- the state, whatever the lines and the jumpers, in a bus error or not
+
+pub record SetAtOnce (s : State) : Type 0 where
+  pub i2 : s .i2 ≡ true
+  pub psBit : (out : Outside) (bus : Bool) → enableOf (psOf out bus s) ≡ true
+
+abbrev pub EnabledAtOnce : Type 0
+EnabledAtOnce = (settings : Settings) (m map : List ℕ) (line : ℕ) (s : State) (t : Turn) (n : List ℕ) → StepCall settings m map line s t n
+    → s .mode ≡ Running → enables (executed s m) ≡ true → t .cause ≡ Cause.OpCode → SetAtOnce (t .state)
+
+abbrev pub Wd16EnabledAtOnce : Type 0
+Wd16EnabledAtOnce = (w b m map : List ℕ) (line : ℕ) (b′ m′ : List ℕ) → LentSteps w b m map line b′ m′
+    → stateFrom b .mode ≡ Running → enables (executed (stateFrom b) m) ≡ true → byteAt b′ 19 ≡ 0 → SetAtOnce (stateFrom b′)

@@ -6,7 +6,7 @@ use mathlib.Core.Bool.{Bool, true, false, not, _||_}
 use mathlib.Core.List.{List, [], _++_}
 use mathlib.Core.Path.{_≡_}
 use lib.ListN.{length}
-use Rattle.board.specs.Work.{value, run, wordAt, withWord}
+use Rattle.board.specs.Work.{value, run, imageWord, withWord}
 use Rattle.wordmath.specs.Number.{bit}
 use Rattle.wordmath.specs.Address.{plus, minus}
 use Rattle.wordmath.specs.Status.{flagsOf}
@@ -31,6 +31,7 @@ use Rattle.machine.specs.Entry.{finishedPage, runPage}
 use Rattle.machine_c.specs.Layout.{stateFrom, settingsFrom}
 use Rattle.machine_c.specs.Calls.{runCall}
 use Rattle.wordbytes.specs.Words.{byteAt}
+use Rattle.wordbytes.specs.Words as Words
 use Rattle.laws.specs.Mark.{StepCall, LentSteps}
 
 -- ---- runs one after another, each from where the last ended: `lines` are the line words of all, `blanks` the blanks of all
@@ -99,8 +100,8 @@ ElementDropped = (settings : Settings) (m map : List ℕ) (line : ℕ) (s : Stat
 abbrev pub opened : State → List ℕ → State
 opened s m =
     let sp = s .regs .sp in
-    let pc = wordAt m sp in
-    withMark (withPc (withFlags (withSp (withPc s pc) (plus (plus sp 2) 2)) (flagsOf (wordAt m (plus sp 2)))) (plus pc 2)) false
+    let pc = imageWord m sp in
+    withMark (withPc (withFlags (withSp (withPc s pc) (plus (plus sp 2) 2)) (flagsOf (imageWord m (plus sp 2)))) (plus pc 2)) false
 
 pub record OneElement (settings : Settings) (map : List ℕ) (line op : ℕ) (s : State) (m : List ℕ) (t : State) (n : List ℕ) : Type 0 where
   pub moved : State
@@ -110,8 +111,8 @@ pub record OneElement (settings : Settings) (map : List ℕ) (line op : ℕ) (s 
 
 abbrev pub XctElement : Type 0
 XctElement = (settings : Settings) (m map : List ℕ) (line : ℕ) (s : State) (t : Turn) (n : List ℕ) → StepCall settings m map line s t n
-    → settings .blocks ≡ true → s .mode ≡ Running → t .cause ≡ Cause.OpCode → wordAt m (s .regs .pc) ≡ 0x5
-    → (let op = wordAt m (wordAt m (s .regs .sp)) in op / 512 ≡ 7 → OneElement settings map line op s m (t .state) n)
+    → settings .blocks ≡ true → s .mode ≡ Running → t .cause ≡ Cause.OpCode → imageWord m (s .regs .pc) ≡ 0x5
+    → (let op = imageWord m (imageWord m (s .regs .sp)) in op / 512 ≡ 7 → OneElement settings map line op s m (t .state) n)
 
 -- ---- the same for C: a step that leaves cause 5 drops only its own element; and under XCT a step that leaves cause 0
 
@@ -122,5 +123,15 @@ Wd16ElementDropped = (w b m map : List ℕ) (line : ℕ) (b′ m′ : List ℕ) 
 
 abbrev pub Wd16XctElement : Type 0
 Wd16XctElement = (w b m map : List ℕ) (line : ℕ) (b′ m′ : List ℕ) → LentSteps w b m map line b′ m′
-    → (let s = stateFrom b in settingsFrom w .blocks ≡ true → s .mode ≡ Running → byteAt b′ 19 ≡ 0 → wordAt m (s .regs .pc) ≡ 0x5
-    → (let op = wordAt m (wordAt m (s .regs .sp)) in op / 512 ≡ 7 → OneElement (settingsFrom w) map line op s m (stateFrom b′) m′))
+    → (let s = stateFrom b in settingsFrom w .blocks ≡ true → s .mode ≡ Running → byteAt b′ 19 ≡ 0 → imageWord m (s .regs .pc) ≡ 0x5
+    → (let op = imageWord m (imageWord m (s .regs .sp)) in op / 512 ≡ 7 → OneElement (settingsFrom w) map line op s m (stateFrom b′) m′))
+
+-- ---- and no blank is counted on the way: the first words of the tallies that the calls leave, added up
+
+unfoldable pub blanksTold : {w map b m lines b′ m′ : List ℕ} → LentRuns w map b m lines b′ m′ → ℕ
+blanksTold none = 0
+blanksTold (runs lines rest t b₁ t₁ m₁ e more) = Words.wordAt t₁ 0 + blanksTold more
+
+abbrev pub Wd16MovesCounted : Type 0
+Wd16MovesCounted = (w map : List ℕ) (op : ℕ) (lines b m b′ m′ : List ℕ) → Moves (settingsFrom w) map op lines (stateFrom b) m
+    → (r : LentRuns w map b m lines b′ m′) → blanksTold r ≡ 0

@@ -59,21 +59,21 @@ abbrev pub noName : Named
 noName = named "" 0 (λ out s op. give s)
 
 -- format 5: IF the printed line says so, PC ← PC + (DISP * 2)
-abbrev pub branchOf : Line → Named
+abbrev branchOf : Line → Named
 branchOf l = named (l .name) 5 (λ out s op. give (cond (l .when (s .flags)) (withPc s (plus (s .regs .pc) (displacement op))) s))
 
 -- format 6: REG, or REG+1:REG, and the number or count
-abbrev pub immediateBy : Immediate → Outside → State → ℕ → Work State
+abbrev immediateBy : Immediate → Outside → State → ℕ → Work State
 immediateBy i out s op = give (withDone s (register op) (immediateOf i (count op) (reg s (register op)) (s .flags)))
 
-abbrev pub singleBy : Way → Outside → State → ℕ → Work State
+abbrev singleBy : Way → Outside → State → ℕ → Work State
 singleBy way out s op = give (withDone s (register op) (singleOf way (count op) (reg s (register op)) (s .flags)))
 
-abbrev pub doubleBy : Way → Outside → State → ℕ → Work State
+abbrev doubleBy : Way → Outside → State → ℕ → Work State
 doubleBy way out s op = give (withPair s (register op) (doubleOf way (count op) (reg s (register op)) (reg s (next (register op))) (s .flags)))
 
 -- format 7: the result of (DST), written back; and one of which only the indicators are kept
-abbrev pub modified : Size → (Bool → ℕ → Flags → Done) → Outside → State → ℕ → Work State
+abbrev modified : Size → (Bool → ℕ → Flags → Done) → Outside → State → ℕ → Work State
 modified z result out s op = do
   o ← destination z s op
   writeTo z (withFlags (o .state) (result (eqb (destinationMode op) 0) (o .operand) (o .state .flags) .flags)) (destinationRegister op) (o .place) (result (eqb (destinationMode op) 0) (o .operand) (o .state .flags) .value)
@@ -202,7 +202,7 @@ unfoldable pub executedRows : List Row
 executedRows = take 5 rows ++ drop 6 (take 111 rows)
 
 -- the plate has formats 1 to 4, of the high byte 00, as 1
-abbrev pub plateOf : ℕ → ℕ
+abbrev plateOf : ℕ → ℕ
 plateOf format = cond (leb format 4) 1 format
 
 -- a word of a row: its base with the operands' bits in it, as the text has it (optext Line `fitsRow`)
@@ -210,7 +210,7 @@ abbrev pub In : Row → ℕ → Type 0
 In r op = r .base + fieldOf (r .first) op + fieldOf (r .second) op ≡ op
 
 -- an op code executed under a name: the format that the plate has for it, and the step's work
-abbrev pub Executed : Outside → State → ℕ → Named → Type 0
+abbrev Executed : Outside → State → ℕ → Named → Type 0
 Executed out s op n = (formatOf (highByte op) ≡ plateOf (n .format)) × (execute out s op ≡ n .does out s op)
 
 -- the same name, and every word of the row is executed under it

@@ -14,12 +14,12 @@ use Rattle.machine.specs.declared.Finished.{Finished}
 use Rattle.machine.specs.declared.Finished.the-variants as Finished
 use Rattle.wordbytes.specs.Words.{byteAt, wordAt}
 use Rattle.machine.specs.Numbers.{place, none}
-use Rattle.machine.specs.Run.{noted, noBlanks}
+use Rattle.machine.specs.Run.{blankNoted, noBlanks}
 use Rattle.machine_c.specs.Layout.{tallyBytes}
 
 -- a step's turn as a run: its state, with its cause tallied at place 0
-abbrev pub ranOnce : Turn → Ran
-ranOnce t = record { state = t .state; tally = noted noBlanks 0 (blankAt (t .cause)) }
+abbrev ranOnce : Turn → Ran
+ranOnce t = record { state = t .state; tally = blankNoted noBlanks 0 (blankAt (t .cause)) }
 
 -- a step's answer as a run's; the same refusal
 abbrev pub asRun : Stepped → Finished

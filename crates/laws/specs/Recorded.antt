@@ -9,6 +9,7 @@ use mathlib.Core.Path.{_≡_}
 use lib.ListN.{length, replicate}
 use Rattle.state.specs.declared.State.{State}
 use Rattle.state.specs.declared.Settings.{Settings}
+use Rattle.wordbytes.specs.Words.{wordAt}
 use Rattle.refusal.specs.Page.{left, nothing, told}
 use Rattle.machine.specs.declared.Tally.{Tally}
 use Rattle.plugs.specs.declared.Channel.{Channel}
@@ -18,10 +19,10 @@ use Rattle.plugs.specs.declared.Plug.{Plug}
 use Rattle.plugs.specs.Report.{readingsOf, blanksOf, reportOf, columnOf, readingCount, Spans}
 use Rattle.plugs.specs.Sum.{SumIs}
 use Rattle.recorder.specs.declared.Recorder.{Recorder}
-use Rattle.recorder.specs.declared.Answer.the-variants as Answer
+use Rattle.recorder.specs.declared.ScanEnd.the-variants as ScanEnd
 use Rattle.recorder.specs.declared.Reported.{Reported}
 use Rattle.recorder.specs.declared.Reported.the-variants as Reported
-use Rattle.recorder.specs.Scan.{newRecorder, answerPage, plugPage, reportedPage, scanOf, reportPage}
+use Rattle.recorder.specs.Scan.{newRecorder, answerPage, plugPage, reportedPage, scanOf, reportPage, mostScans}
 use Rattle.recorder_c.specs.Layout.{channelsFrom, reportBytes}
 use Rattle.recorder_c.specs.Calls.{scanCall, reportCall}
 
@@ -38,12 +39,12 @@ pub data Recorded : Recorder → List (List Channel) → Type 0 where
   -- a scan that was done: the recorder that it answers
   done : {r : Recorder} {scans : List (List Channel)} → Recorded r scans
       → (s : State) (channels : List Channel) (m map : List ℕ) (settings : Settings) (lines : List ℕ) (t : Tally) (r′ : Recorder) (m′ : List ℕ) → length channels ≡ 16
-      → left (answerPage (Answer.Done t)) (r′, m′) ≡ scanOf (inState s r) channels m map settings lines
+      → left (answerPage (ScanEnd.Done t)) (r′, m′) ≡ scanOf (inState s r) channels m map settings lines
       → Recorded r′ (scans ++ (channels ∷ []))
   -- one that was refused
   turnedAway : {r : Recorder} {scans : List (List Channel)} → Recorded r scans
       → (s : State) (channels : List Channel) (m map : List ℕ) (settings : Settings) (lines : List ℕ) (why : ℕ) (r′ : Recorder) (m′ : List ℕ)
-      → left (answerPage (Answer.Refused why)) (r′, m′) ≡ scanOf (inState s r) channels m map settings lines
+      → left (answerPage (ScanEnd.Refused why)) (r′, m′) ≡ scanOf (inState s r) channels m map settings lines
       → Recorded r′ scans
 
 -- ---- the report of a channel, by what it was in each scan
@@ -70,7 +71,7 @@ ScansReported = (r : Recorder) (scans : List (List Channel)) (k : ℕ) (q : Repo
 
 -- "Over up to 4,096 such scans": the scans counted are those that were not refused, and there are no more
 abbrev pub ScansCounted : Type 0
-ScansCounted = (r : Recorder) (scans : List (List Channel)) → Recorded r scans → (r .scans ≡ length scans) × (length scans ≤ 4096)
+ScansCounted = (r : Recorder) (scans : List (List Channel)) → Recorded r scans → (r .scans ≡ length scans) × (length scans ≤ mostScans)
 
 -- ---- the same for C
 
@@ -92,3 +93,7 @@ abbrev pub Wd16ScansReported : Type 0
 Wd16ScansReported = (d : List ℕ) (scans : List (List Channel)) (k : ℕ) (b : List ℕ) (number : ℕ) (b′ : List ℕ) → LentRecorder d scans → k < 16 → length b ≡ 12
     → told number b′ ≡ reportCall d (k ∷ []) b
     → (number ≡ 0) × (b′ ≡ reportBytes (plugPage (reportOf (columnOf k scans)))) × ReadsColumn (reportOf (columnOf k scans)) (columnOf k scans)
+
+-- "Over up to 4,096 such scans": the first word of the recorder's 194 bytes counts the scans that were not refused, and there are no more
+abbrev pub Wd16ScansCounted : Type 0
+Wd16ScansCounted = (d : List ℕ) (scans : List (List Channel)) → LentRecorder d scans → (length d ≡ 194) × (wordAt d 0 ≡ length scans) × (length scans ≤ 4096)

@@ -8,9 +8,11 @@ use mathlib.Core.Path.{_≡_}
 use lib.ListN.{length}
 use Rattle.wordbytes.specs.Words.{byteAt, wordAt}
 use Rattle.job.specs.Job.{whyJob}
-use Rattle.trace.specs.Trace.{rightTrace, traceBytes, toldIn}
-use Rattle.trace.specs.First.{AtStep, EndsAt}
-use Rattle.refusal.specs.Page.{told}
+use Rattle.trace.specs.declared.Verdict.{Verdict}
+use Rattle.trace.specs.declared.Checked.the-variants as Checked
+use Rattle.trace.specs.Trace.{rightTrace, traceBytes, toldIn, checkedPage, checkOf}
+use Rattle.trace.specs.First.{AtStep, EndsAt, Says}
+use Rattle.refusal.specs.Page.{left, told}
 use Rattle.trace_c.specs.Calls.{checkCall}
 
 -- ---- accepted exactly when it is the manual's trace: the answer is 0 and the verdict's first word is 0
@@ -38,3 +40,8 @@ pub data Tells (right given : List (List ℕ)) (verdict : List ℕ) : Type 0 whe
 -- demands Demand1.)
 abbrev pub Wd16Tells : Type 0
 Wd16Tells = (job t b b′ : List ℕ) → told 0 b′ ≡ checkCall job t b → Tells (rightTrace job) (toldIn t) b′
+
+-- ---- the same of a call of `check` that answers a verdict: from step 0 on it says which entries differ first, and where (trace First `Says`)
+abbrev pub CheckTells : Type 0
+CheckTells = (job t image map lines : List ℕ) (v : Verdict) (image′ map′ lines′ : List ℕ) → left (checkedPage (Checked.Done v)) (image′, map′, lines′) ≡ checkOf job t image map lines
+    → Says 0 (rightTrace job) (toldIn t) v

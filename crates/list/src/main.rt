@@ -1,63 +1,38 @@
 // Reads two addresses and a job on standard input, and prints the listing of the stretch of the job's image from the first to the
 // last; a refusal is printed as bench's. Where the answer could not be written standard error says so.
 use benchline::Printed;
-use libc::STDERR_FILENO;
+use job::READ_OF_JOB;
 use libc::STDIN_FILENO;
-use libc::STDOUT_FILENO;
+use listjob::STRETCH_ROOM;
+use printing::put_first;
+use printing::put_refused;
+use printing::say_unless;
+use refusal::MOST_LINE_WORDS;
 ghost use mathlib.Core.Path.{_≡_};
 ghost use lib.ListN.{length};
-
-// Prints the first bytes of a text; answers whether all were written.
-fn print(text: &[u8], n: usize) -> bool {
-    if n <= text.len() {
-        return io::write_all(STDOUT_FILENO, &text[..n]);
-    }
-    false
-}
-
-// Prints the first bytes of a text and ends the line.
-fn print_end(text: &[u8], n: usize) -> bool {
-    if print(text, n) {
-        return io::write_all(STDOUT_FILENO, b"\n");
-    }
-    false
-}
-
-fn print_refused(why: u8) -> bool {
-    let mut text = [0u8; 16];
-    match benchline::write_refused(&mut text, why) {
-        Printed::Line(n) => print_end(&text, n),
-        Printed::Refused(_) => false,
-    }
-}
+ghost use Rattle.listjob.specs.Stretch.{stretchRoom};
 
 // Room for the longest listing.
-fn whole_listing() -> [u8; 1146932]
-    ensures { λ r. ⌜ 1146932 ≡ length r ⌝ }
+fn whole_listing() -> [u8; STRETCH_ROOM]
+    ensures { λ r. ⌜ stretchRoom ≡ length r ⌝ }
 {
-    [0; 1146932]
+    [0; STRETCH_ROOM]
 }
 
 fn list_input(input: &[u8]) -> bool {
     let mut image = io::large_buffer();
     let mut map = [0u8; 256];
-    let mut lines = [0u16; 4096];
+    let mut lines = [0u16; MOST_LINE_WORDS];
     let mut text = whole_listing();
     match listjob::list_job(&mut text, input, &mut image, &mut map, &mut lines) {
-        Printed::Line(n) => print(&text, n),
-        Printed::Refused(why) => print_refused(why),
+        Printed::Line(n) => put_first(&text, n),
+        Printed::Refused(why) => put_refused(why),
     }
 }
 
-fn say_unless(written: bool) {
-    if !written {
-        io::write_all(STDERR_FILENO, b"list: the answer could not be written\n");
-    }
-}
-
-// The longest job has 25,096 bytes, and the addresses four; one byte more shows that there are bytes left over.
+// Two addresses have four bytes.
 fn main() {
-    let mut input = [0u8; 25101];
+    let mut input = [0u8; 4 + READ_OF_JOB];
     let got = io::read_full(STDIN_FILENO, &mut input);
-    say_unless(list_input(&input[..got]));
+    say_unless(list_input(&input[..got]), b"list");
 }

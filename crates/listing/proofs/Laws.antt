@@ -26,10 +26,10 @@ use Rattle.optext.specs.Rows.{rows, theRow}
 use Rattle.optext.specs.Line.{sepText, wordText, taken, textOf}
 use Rattle.optext.specs.Answer.{writtenPage, inFront, Writes, writeWordOf}
 use Rattle.optext.proofs.Laws.Calls.{line-written}
-use Rattle.listing.specs.declared.Found.{Found}
-use Rattle.listing.specs.declared.Found.the-variants.{Nothing, Cut, Whole}
+use Rattle.listing.specs.declared.CodeFound.{CodeFound}
+use Rattle.listing.specs.declared.CodeFound.the-variants.{Nothing, Cut, Whole}
 use Rattle.listing.specs.declared.Listed.{Listed}
-use Rattle.listing.specs.Listing.{allStand, foundAt, lineOf, movesOn, FoundFits, lineAt, nextAt}
+use Rattle.listing.specs.Listing.{allStand, foundAt, lineOf, movesOn, FoundFits, listingLine, nextAt}
 use Rattle.listing.specs.Calls.{lined, listedPage, badStretch, lineWhy, nextOf, lineIn, lineCall}
 use Rattle.listing.proofs.Laws.Joined.{taken-some, cond-none}
 
@@ -52,13 +52,13 @@ module _ (map image : List ℕ) (last a : ℕ) (f : Bool) (e : f ≡ fitted map 
     unfolding foundAt
     found-cut k = (rw (← e, not-false f h, ← own, ← g, k) refl, tt)
 
-pub fits-whole : (w : ℕ) (f : Found) (n : ℕ) → FoundFits w f → f ≡ Whole n → (n ≡ taken w) × (n ≤ 3)
-fits-whole w f n h e = subst (λ (z : Found). FoundFits w z) e h
+pub fits-whole : (w : ℕ) (f : CodeFound) (n : ℕ) → FoundFits w f → f ≡ Whole n → (n ≡ taken w) × (n ≤ 3)
+fits-whole w f n h e = subst (λ (z : CodeFound). FoundFits w z) e h
 
-pub fits-word : (w v : ℕ) (f : Found) → w ≡ v → FoundFits v f → FoundFits w f
+pub fits-word : (w v : ℕ) (f : CodeFound) → w ≡ v → FoundFits v f → FoundFits w f
 fits-word w v f e h = subst (λ (z : ℕ). FoundFits z f) (sym e) h
 
-pub moves-few : (w : ℕ) (f : Found) → FoundFits w f → movesOn f ≤ 3
+pub moves-few : (w : ℕ) (f : CodeFound) → FoundFits w f → movesOn f ≤ 3
 moves-few w Nothing h = omega arith
 moves-few w Cut h = omega arith
 moves-few w (Whole n) h = h .1
@@ -139,8 +139,8 @@ module _ (image map : List ℕ) (a last : ℕ) (b : List ℕ) where
   unfolding lineCall
   call-refused k e n = PageLaws.call-refused (lineWhy (length image) map a last (length b)) (lineIn image map a last b) b k e n
 
-  pub call-line : (w x y n m : ℕ) (e : List ℕ) (f : Found) (r : Listed) → lineWhy (length image) map a last (length b) ≡ 0 → f ≡ foundAt map image last a
+  pub call-line : (w x y n m : ℕ) (e : List ℕ) (f : CodeFound) (r : Listed) → lineWhy (length image) map a last (length b) ≡ 0 → f ≡ foundAt map image last a
       → w ≡ wordAt image a → x ≡ wordAt image (a + 2) → y ≡ wordAt image (a + 4) → Wrote (lineOf a (w ∷ x ∷ y ∷ []) f) b e n → m ≡ movesOn f
       → listedPage r ≡ answered (lined n (nextOf last (a + m * 2))) → left (listedPage r) e ≡ lineCall image map a last b
-  unfolding lineCall lineAt nextAt
+  unfolding lineCall listingLine nextAt
   call-line w x y n m e f r z g p q s v u t = rw (z, t, v .bytes, v .count, u, p, q, s, g) refl

@@ -11,7 +11,7 @@ use Rattle.refusal.specs.Page.{Page, refused, answered, Left, left, call, first
 use Rattle.refusal.specs.Refusal.{boardRefusal}
 use Rattle.listing.specs.declared.Listed.{Listed}
 use Rattle.listing.specs.declared.Listed.the-variants.{Line, Last, Refused}
-use Rattle.listing.specs.Listing.{lineAt, nextAt}
+use Rattle.listing.specs.Listing.{listingLine, nextAt}
 
 -- ---- the answer: the line's length, and the address of the next line or that it is the last
 
@@ -54,7 +54,7 @@ nextOf last a = cond (ltb last a) ends (goesOn a)
 -- the line at the front of the text, and the rest of it as it was
 abbrev pub lineIn : List ℕ → List ℕ → ℕ → ℕ → List ℕ → Left Lined (List ℕ)
 lineIn image map a last b =
-    let l = lineAt map image last a in
+    let l = listingLine map image last a in
     left (answered (lined (length l) (nextOf last (nextAt map image last a)))) (inFrontOf l b)
 
 unfoldable pub lineCall : List ℕ → List ℕ → ℕ → ℕ → List ℕ → Left Lined (List ℕ)

@@ -10,8 +10,8 @@ use Rattle.wordbytes.specs.Words.{wordAt}
 use Rattle.board.specs.Work.{fitted}
 use Rattle.benchline.specs.Line.{dashes, fields}
 use Rattle.optext.specs.Line.{wordText, taken, textOf}
-use Rattle.listing.specs.declared.Found.{Found}
-use Rattle.listing.specs.declared.Found.the-variants.{Nothing, Cut, Whole}
+use Rattle.listing.specs.declared.CodeFound.{CodeFound}
+use Rattle.listing.specs.declared.CodeFound.the-variants.{Nothing, Cut, Whole}
 
 -- ---- what stands at an address
 
@@ -28,7 +28,7 @@ abbrev pub wordsAt : List ℕ → ℕ → List ℕ
 wordsAt image a = wordAt image a ∷ wordAt image (a + 2) ∷ wordAt image (a + 4) ∷ []
 
 -- nothing fitted; an op code cut by an unfitted word or by the end of the stretch; or a whole op code, with the number of its words
-unfoldable pub foundAt : List ℕ → List ℕ → ℕ → ℕ → Found
+unfoldable pub foundAt : List ℕ → List ℕ → ℕ → ℕ → CodeFound
 foundAt map image last a =
     let n = taken (wordAt image a) in
     cond (fitted map a) (cond (allStand map last a n) (Whole n) Cut) Nothing
@@ -39,25 +39,25 @@ foundAt map image last a =
 abbrev pub line : ℕ → List ℕ → ℕ → List ℕ → List ℕ
 line a ws n text = fields (a ∷ ws) (n + 1) ++ text
 
-unfoldable pub lineOf : ℕ → List ℕ → Found → List ℕ
+unfoldable pub lineOf : ℕ → List ℕ → CodeFound → List ℕ
 lineOf a ws Nothing = line a ws 0 dashes
 lineOf a ws Cut = line a ws 1 (wordText (getD ws 0 0))
 lineOf a ws (Whole n) = line a ws n (textOf (take n ws))
 
-abbrev pub movesOn : Found → ℕ
+abbrev pub movesOn : CodeFound → ℕ
 movesOn Nothing = 1
 movesOn Cut = 1
 movesOn (Whole n) = n
 
 -- what is found with the first word w: a whole op code has the words that it takes, up to three
-abbrev pub FoundFits : ℕ → Found → Type 0
+abbrev pub FoundFits : ℕ → CodeFound → Type 0
 FoundFits w Nothing = Unit {0}
 FoundFits w Cut = Unit {0}
 FoundFits w (Whole n) = (n ≡ taken w) × (n ≤ 3)
 
 module _ (map image : List ℕ) (last : ℕ) where
-  unfoldable pub lineAt : ℕ → List ℕ
-  lineAt a = lineOf a (wordsAt image a) (foundAt map image last a)
+  unfoldable pub listingLine : ℕ → List ℕ
+  listingLine a = lineOf a (wordsAt image a) (foundAt map image last a)
 
   unfoldable pub nextAt : ℕ → ℕ
   nextAt a = a + movesOn (foundAt map image last a) * 2
@@ -65,8 +65,11 @@ module _ (map image : List ℕ) (last : ℕ) where
   -- ---- the stretch: at most n lines from an address on
   unfoldable pub linesFrom : ℕ → ℕ → List (List ℕ)
   linesFrom zero a = []
-  linesFrom (suc n) a = cond (leb a last) (lineAt a ∷ linesFrom n (nextAt a)) []
+  linesFrom (suc n) a = cond (leb a last) (listingLine a ∷ linesFrom n (nextAt a)) []
 
--- an image has 32,768 words, and no listing more lines
+-- an image has so many words, and no listing more lines
+abbrev pub imageWords : ℕ
+imageWords = 32768
+
 unfoldable pub listingOf : ℕ → ℕ → List ℕ → List ℕ → List (List ℕ)
-listingOf first last map image = linesFrom map image last 32768 first
+listingOf first last map image = linesFrom map image last imageWords first

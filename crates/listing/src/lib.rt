@@ -21,7 +21,7 @@ ghost use Rattle.refusal.specs.Page.{answered, left};
 ghost use Rattle.listing.specs.Calls as Call;
 
 // What stands at an address: nothing is fitted there; an op code that is cut; or a whole op code, with the number of its words.
-pub enum Found {
+pub enum CodeFound {
     Nothing,
     Cut,
     Whole(usize),
@@ -57,28 +57,28 @@ fn all_stand(map: &[u8], last: usize, a: usize, n: usize) -> bool
         & ((n < 3) | stands(map, last, a + 4))
 }
 
-fn found_at(map: &[u8], image: &[u8], last: usize, a: usize) -> Found
+fn found_at(map: &[u8], image: &[u8], last: usize, a: usize) -> CodeFound
     requires { ⌜ a < 65536 ⌝ }
     ensures { λ r. ⌜ (r ≡ Spec.foundAt (now (map .entry)) (now (image .entry)) last a) × Spec.FoundFits (wordAt (now (image .entry)) a) r ⌝ }
 {
     if !fitted(map, a) {
-        return Found::Nothing;
+        return CodeFound::Nothing;
     }
     let n = optext::taken(word_at(image, a));
     if all_stand(map, last, a, n) {
-        return Found::Whole(n);
+        return CodeFound::Whole(n);
     }
-    Found::Cut
+    CodeFound::Cut
 }
 
 // The words that a line moves on by.
-fn moves_on(found: Found) -> usize
+fn moves_on(found: CodeFound) -> usize
     ensures { λ r. ⌜ r ≡ Spec.movesOn found ⌝ }
 {
     match found {
-        Found::Nothing => 1,
-        Found::Cut => 1,
-        Found::Whole(n) => n,
+        CodeFound::Nothing => 1,
+        CodeFound::Cut => 1,
+        CodeFound::Whole(n) => n,
     }
 }
 
@@ -179,14 +179,14 @@ fn put_whole(text: &mut [u8], a: u16, w: u16, x: u16, y: u16, n: usize) -> usize
 }
 
 // The line of what stands at the address a, where w, x and y are the words there.
-fn put_line(text: &mut [u8], a: u16, w: u16, x: u16, y: u16, found: Found) -> usize
+fn put_line(text: &mut [u8], a: u16, w: u16, x: u16, y: u16, found: CodeFound) -> usize
     requires { ⌜ (52 ≤ length (now text)) × Spec.FoundFits w found ⌝ }
     ensures { λ n. ⌜ Wrote (Spec.lineOf a (w ∷ x ∷ y ∷ []) found) (now (text .entry)) (now (text .exit)) n ⌝ }
 {
     match found {
-        Found::Nothing => put_nothing(text, a, w, x, y),
-        Found::Cut => put_cut(text, a, w, x, y),
-        Found::Whole(n) => put_whole(text, a, w, x, y, n),
+        CodeFound::Nothing => put_nothing(text, a, w, x, y),
+        CodeFound::Cut => put_cut(text, a, w, x, y),
+        CodeFound::Whole(n) => put_whole(text, a, w, x, y, n),
     }
 }
 

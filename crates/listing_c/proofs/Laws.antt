@@ -14,10 +14,10 @@ use Rattle.benchline.proofs.Laws.Lengths.{fields-length}
 use Rattle.optext.specs.Line.{wordText, taken, textOf}
 use Rattle.optext.proofs.Laws.Longest.{text-le}
 use Rattle.optext.proofs.Laws.Meets.{taken-le}
-use Rattle.listing.specs.declared.Found.the-variants.{Nothing, Cut, Whole}
+use Rattle.listing.specs.declared.CodeFound.the-variants.{Nothing, Cut, Whole}
 use Rattle.listing.specs.declared.Listed.{Listed}
 use Rattle.listing.specs.declared.Listed.the-variants.{Line, Last, Refused}
-use Rattle.listing.specs.Listing.{allStand, wordsAt, foundAt, lineOf, lineAt, nextAt}
+use Rattle.listing.specs.Listing.{allStand, wordsAt, foundAt, lineOf, listingLine, nextAt}
 use Rattle.listing.specs.Calls.{Lined, lined, listedPage, lineWhy, nextOf, lineCall}
 use Rattle.listing.proofs.Laws.{word-length}
 use Rattle.answer.specs.Answer.{threeWords, placeWords, answerWhy}
@@ -32,8 +32,8 @@ line-short a ws n true true h = simp length-append (omega (arith, fields-length 
 line-short a ws n true false h = simp length-append (omega (arith, fields-length (a ∷ ws) 2, word-length (getD ws 0 0)))
 line-short a ws n false s h = simp length-append (omega (arith, fields-length (a ∷ ws) 1))
 
-line-few : (map image : List ℕ) (last a : ℕ) → length (lineAt map image last a) ≤ 44
-unfolding lineAt foundAt
+line-few : (map image : List ℕ) (last a : ℕ) → length (listingLine map image last a) ≤ 44
+unfolding listingLine foundAt
 line-few map image last a = line-short a (wordsAt image a) (taken (wordAt image a)) (fitted map a) (allStand map last a (taken (wordAt image a))) (taken-le (wordAt image a))
 
 abbrev countIn : Page Lined → ℕ
@@ -44,10 +44,10 @@ countIn (refusedAt why place) = 0
 -- what is answered tells a short line
 told-short : (image map : List ℕ) (a last : ℕ) (b e : List ℕ) (p : Page Lined) → left p e ≡ lineCall image map a last b → countIn p < 65536
 unfolding lineCall
-told-short image map a last b e p h = by (lineWhy (length image) map a last (length b)) (inFrontOf (lineAt map image last a) b) h
+told-short image map a last b e p h = by (lineWhy (length image) map a last (length b)) (inFrontOf (listingLine map image last a) b) h
   where
-    by : (why : ℕ) (t : List ℕ) → left p e ≡ call why (left (answered (lined (length (lineAt map image last a)) (nextOf last (nextAt map image last a)))) t) b → countIn p < 65536
-    by zero t d = let q : countIn p ≡ length (lineAt map image last a) = ap (λ z. countIn (z .page)) d in omega (arith, q, line-few map image last a)
+    by : (why : ℕ) (t : List ℕ) → left p e ≡ call why (left (answered (lined (length (listingLine map image last a)) (nextOf last (nextAt map image last a)))) t) b → countIn p < 65536
+    by zero t d = let q : countIn p ≡ length (listingLine map image last a) = ap (λ z. countIn (z .page)) d in omega (arith, q, line-few map image last a)
     by (suc why) t d = let q : countIn p ≡ 0 = ap (λ z. countIn (z .page)) d in omega (arith, q)
 
 pub line-told : (image map : List ℕ) (a last : ℕ) (b e : List ℕ) (r : Listed) (n x : ℕ) → r ≡ Line n x → left (listedPage r) e ≡ lineCall image map a last b → n < 65536

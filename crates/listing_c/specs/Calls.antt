@@ -7,7 +7,7 @@ use Rattle.answer.specs.Answer.{threeWords, answerWhy, answering}
 use Rattle.listing.specs.Calls.{Next, goesOn, ends, Lined, lineCall}
 
 -- the answer's words: the line's length; the address of the next line, 0 where there is none; 1 where this is the last, else 0
-abbrev pub nextWords : ℕ → Next → List ℕ
+abbrev nextWords : ℕ → Next → List ℕ
 nextWords n (goesOn a) = threeWords n a 0
 nextWords n ends = threeWords n 0 1
 

@@ -24,21 +24,21 @@ use Rattle.benchline.proofs.Laws.Lengths.{fields-length}
 use Rattle.optext.specs.Line.{wordText, taken, textOf}
 use Rattle.optext.proofs.Laws.Meets.{taken-le}
 use Rattle.optext.proofs.Laws.Longest.{text-le}
-use Rattle.listing.specs.declared.Found.{Found}
-use Rattle.listing.specs.declared.Found.the-variants.{Nothing, Cut, Whole}
+use Rattle.listing.specs.declared.CodeFound.{CodeFound}
+use Rattle.listing.specs.declared.CodeFound.the-variants.{Nothing, Cut, Whole}
 use Rattle.listing.specs.declared.Listed.{Listed}
 use Rattle.listing.specs.declared.Listed.the-variants.{Line, Last, Refused}
-use Rattle.listing.specs.Listing.{allStand, wordsAt, foundAt, line, lineOf, movesOn, lineAt, nextAt, listingOf}
+use Rattle.listing.specs.Listing.{allStand, wordsAt, foundAt, line, lineOf, movesOn, listingLine, nextAt, listingOf}
 use Rattle.listing.specs.Calls.{Next, goesOn, ends, lined, listedPage, badStretch, lineWhy, nextOf, lineIn, lineCall}
 use Rattle.listing.proofs.Laws.{word-length, room-there}
 use Rattle.listing.proofs.Laws as ListingLaws
-use Rattle.listing.proofs.Laws.Joined.{taken-some, cond-none, Good, good, next-further, goes-on, ends-past, listing-more, listing-end}
+use Rattle.listing.proofs.Laws.Joined.{taken-some, cond-none, GoodStretch, good, next-further, goes-on, ends-past, listing-more, listing-end}
 use Rattle.listjob.specs.Stretch.{firstAddress, lastAddress, jobIn, lineEnd, ended, listingOn, listingIn, stretchRoom, stretchWhy, listWhy, listedIn, listOf, LineFits, Lists, endOfLine, movedBy, nextPage, Goes, endedAt}
 use Rattle.listjob.proofs.Laws.Follow.{goes-within, next-good, other-taken}
 
 -- ---- how long a line is: 44 characters at most, and with its end 35 for each of its words
 
-few-of : (a : ℕ) (ws : List ℕ) (f : Found) → 1 ≤ movesOn f → movesOn f ≤ 3 → (length (lineOf a ws f) ≤ 44) × (length (lineOf a ws f) + 1 ≤ movesOn f * 35)
+few-of : (a : ℕ) (ws : List ℕ) (f : CodeFound) → 1 ≤ movesOn f → movesOn f ≤ 3 → (length (lineOf a ws f) ≤ 44) × (length (lineOf a ws f) + 1 ≤ movesOn f * 35)
 unfolding lineOf
 few-of a ws Nothing h k = let e = length-append (fields (a ∷ ws) 1) dashes ∙ refl in (omega (arith, e, fields-length (a ∷ ws) 1), omega (arith, e, fields-length (a ∷ ws) 1))
 few-of a ws Cut h k = let e = length-append (fields (a ∷ ws) 2) (wordText (getD ws 0 0)) in (omega (arith, e, fields-length (a ∷ ws) 2, word-length (getD ws 0 0)), omega (arith, e, fields-length (a ∷ ws) 2, word-length (getD ws 0 0)))
@@ -56,16 +56,16 @@ module _ (map image : List ℕ) (last a : ℕ) where
       by true false = (omega arith, omega arith)
       by false s = (omega arith, omega arith)
 
-  line-short : length (lineAt map image last a) ≤ 44
-  unfolding lineAt
+  line-short : length (listingLine map image last a) ≤ 44
+  unfolding listingLine
   line-short = few-of a (wordsAt image a) (foundAt map image last a) (moves-few .0) (moves-few .1) .0
 
   line-few : length (endedAt image map a last) * 2 + a * 35 ≤ nextAt map image last a * 35
-  unfolding lineAt nextAt
+  unfolding listingLine nextAt
   line-few =
       let m = moves-few in
       let f = few-of a (wordsAt image a) (foundAt map image last a) (m .0) (m .1) .1 in
-      omega (arith, f, length-append (lineAt map image last a) lineEnd)
+      omega (arith, f, length-append (listingLine map image last a) lineEnd)
 
 -- ---- a line and its end
 
@@ -75,7 +75,7 @@ module _ (image map : List ℕ) (a last : ℕ) (b : List ℕ) (z : lineWhy (leng
   line-is r e h = rw z at h
 
   abbrev l : List ℕ
-  l = lineAt map image last a
+  l = listingLine map image last a
 
   abbrev p : ℕ
   p = nextAt map image last a
@@ -108,7 +108,7 @@ module _ (image map : List ℕ) (a last : ℕ) (b : List ℕ) (z : lineWhy (leng
 -- ---- from a place of the text on
 
 pub ended-short : (image map : List ℕ) (a last : ℕ) → length (endedAt image map a last) ≤ 45
-ended-short image map a last = omega (arith, length-append (lineAt map image last a) lineEnd, line-short map image last a)
+ended-short image map a last = omega (arith, length-append (listingLine map image last a) lineEnd, line-short map image last a)
 
 pub part-taken : (image map : List ℕ) (a last at : ℕ) (text : List ℕ) → LineFits image map a last at text → lineWhy (length image) map a last (length (midOf at (length text - at) text)) ≡ 0
 part-taken image map a last at text f =
@@ -141,7 +141,7 @@ module _ (image map : List ℕ) (first last : ℕ) (start : List ℕ) where
   begun-none z = record { before = []; wrote = wrote-none start; whole = refl; none = z; low = omega arith; size = refl }
 
   module _ (k : last < 65536) (text : List ℕ) (a at : ℕ) (b : Begun text a at) where
-    stretch : Good a last
+    stretch : GoodStretch a last
     stretch = good (length image) map a last 52 (b .none)
 
     pub begun-fits : stretchRoom ≤ length start → LineFits image map a last at text
@@ -214,13 +214,13 @@ module _ (input : List ℕ) (text image map lines : ℕ) where
 -- ---- the call
 
 -- what is known where nothing is refused
-pub record Taken (input : List ℕ) (text image map lines : ℕ) : Type 0 where
+pub record ListingTaken (input : List ℕ) (text image map lines : ℕ) : Type 0 where
   pub there : stretchRoom ≤ text
   pub some : 4 ≤ length input
   pub read : whyRead image map lines (jobIn input) ≡ 0
   pub stretch : badStretch (firstAddress input) (lastAddress input) ≡ false
 
-pub taken-all : (input : List ℕ) (text image map lines : ℕ) → listWhy input text image map lines ≡ 0 → Taken input text image map lines
+pub taken-all : (input : List ℕ) (text image map lines : ℕ) → listWhy input text image map lines ≡ 0 → ListingTaken input text image map lines
 unfolding listWhy
 taken-all input text image map lines e =
     let a = first-both (printWhy stretchRoom text) _ e in
@@ -251,7 +251,7 @@ module _ (input text image map lines : List ℕ) where
   list-refused why e n = call-refused (listWhy input (length text) (length image) (length map) (length lines)) (listedIn input text) (text, image, map, lines) why e n
 
   module _ (z : listWhy input (length text) (length image) (length map) (length lines) ≡ 0) where
-    pub taken-is : Taken input (length text) (length image) (length map) (length lines)
+    pub taken-is : ListingTaken input (length text) (length image) (length map) (length lines)
     taken-is = taken-all input (length text) (length image) (length map) (length lines) z
 
     pub lists-is : (image′ map′ lines′ : List ℕ) (count first last : ℕ) → Filled (jobIn input) image′ map′ lines′ count → first ≡ firstAddress input → last ≡ lastAddress input → Lists image′ map′ first last text

@@ -6,6 +6,7 @@ use mathlib.Core.Path.{_≡_}
 use lib.ListN.{length}
 use Rattle.refusal.specs.Page.{answered, left}
 use Rattle.listing.specs.Calls.{goesOn, lined, lineRoom, lineWhy, lineCall, Lines}
+use Rattle.listing.specs.Listing.{imageWords}
 
 -- the next address is not refused, in any text that has room for a line
 abbrev pub NextTaken : Type 0
@@ -17,11 +18,11 @@ NextTaken = (image map : List ℕ) (a last n next : ℕ) (text text′ other : L
 pub record Ends (image map : List ℕ) (a last : ℕ) : Type 0 where
   pub lines : List (List ℕ)
   pub calls : Lines image map last a lines
-  pub few : length lines ≤ 32768
+  pub few : length lines ≤ imageWords
 
 abbrev pub FollowEnds : Type 0
 FollowEnds = (image map : List ℕ) (a last : ℕ) (text : List ℕ) → last < 65536 → lineWhy (length image) map a last (length text) ≡ 0 → Ends image map a last
 
 -- and so do any calls, one after the other
 abbrev pub LinesFew : Type 0
-LinesFew = (image map : List ℕ) (a last : ℕ) (lines : List (List ℕ)) → last < 65536 → Lines image map last a lines → length lines ≤ 32768
+LinesFew = (image map : List ℕ) (a last : ℕ) (lines : List (List ℕ)) → last < 65536 → Lines image map last a lines → length lines ≤ imageWords

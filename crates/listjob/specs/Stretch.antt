@@ -11,7 +11,7 @@ use Rattle.refusal.specs.Numbers.{jobEnds, noStretch}
 use Rattle.refusal.specs.Page.{Page, refused, answered, Left, left, call, first}
 use Rattle.job.specs.Job.{imageOf, mapOf, linesOf, whyRead}
 use Rattle.benchline.specs.Line.{printWhy}
-use Rattle.listing.specs.Listing.{lineAt, nextAt, listingOf}
+use Rattle.listing.specs.Listing.{listingLine, nextAt, listingOf}
 use Rattle.listing.specs.declared.Listed.{Listed}
 use Rattle.listing.specs.declared.Listed.the-variants.{Line, Last, Refused}
 use Rattle.listing.specs.Calls.{Next, goesOn, ends, badStretch, lineWhy, nextOf}
@@ -96,7 +96,7 @@ abbrev pub Goes : List ℕ → List ℕ → ℕ → ℕ → Listed → Type 0
 Goes image map a last r = nextPage r ≡ answered (nextOf last (nextAt map image last a))
 
 abbrev pub endedAt : List ℕ → List ℕ → ℕ → ℕ → List ℕ
-endedAt image map a last = lineAt map image last a ++ lineEnd
+endedAt image map a last = listingLine map image last a ++ lineEnd
 
 -- of a stretch: its first line is not refused, and there is room for the longest listing
 pub record Lists (image map : List ℕ) (a last : ℕ) (text : List ℕ) : Type 0 where

@@ -14,6 +14,9 @@ ghost use Rattle.benchline.specs.Line.{printedPage};
 ghost use Rattle.listing.specs.Calls.{lineWhy};
 ghost use Rattle.listjob.specs.Stretch as Spec;
 
+// Room for the longest listing.
+pub const STRETCH_ROOM: usize = 1146932;
+
 // The end of a line, and the same in its place of the text.
 fn put_end(out: &mut [u8]) -> usize
     requires { ⌜ 1 ≤ length (now out) ⌝ }
@@ -87,7 +90,7 @@ fn list_all(image: &[u8], map: &[u8], first: u16, last: u16, text: &mut [u8]) ->
 fn list_refusal(text: usize, input: &[u8], image: usize, map: usize, lines: usize) -> u8
     ensures { λ r. ⌜ r ≡ Spec.listWhy (now (input .entry)) text image map lines ⌝ }
 {
-    if text < 1146932 {
+    if text < STRETCH_ROOM {
         return TEXT_SHORT;
     }
     if input.len() < 4 {

@@ -5,7 +5,7 @@ use mathlib.Core.Bool.{true}
 use mathlib.Core.List.{List, [], _∷_, _++_}
 use mathlib.Core.Path.{_≡_, refl}
 use lib.ListN.{replicate}
-use Rattle.board.specs.Work.{fitted, writable, even, wordAt, withWord}
+use Rattle.board.specs.Work.{fitted, writable, even, imageWord, withWord}
 use Rattle.state.specs.declared.State.{State}
 use Rattle.state.specs.declared.Settings.{Settings}
 use Rattle.state.specs.Registers.{regOf, setReg}
@@ -31,7 +31,7 @@ fitted-setting : Settings
 fitted-setting = record { blocks = true; powerup = 3; halt = 3; register = 0 }
 
 ready : Ready board 0x0e0a 2 before image
-unfolding before image cleared withReg setReg reg regOf along fitted writable wordAt withWord even
+unfolding before image cleared withReg setReg reg regOf along fitted writable imageWord withWord even
 ready =
     record {
       running = refl;

@@ -11,12 +11,13 @@ use Rattle.step.specs.declared.Turn.{Turn}
 use Rattle.step.specs.Step.{stepOf, turnOf}
 use Rattle.machine.specs.declared.Ran.{Ran}
 use Rattle.machine.specs.Run.{runOf, ranOf}
+use Rattle.refusal.specs.Refusal.{mostLineWords}
 
 -- ---- a run: the map, the image and the line words have their lengths
 
 pub record GoodBoard (map image lines : List ℕ) : Type 0 where
   pub lent : Lent map image
-  pub few : length lines ≤ 4096
+  pub few : length lines ≤ mostLineWords
 
 pub record Runs (settings : Settings) (map lines : List ℕ) (s : State) (m : List ℕ) (r : Ran) (n : List ℕ) : Type 0 where
   pub same : ranOf r n ≡ runOf settings map lines s m

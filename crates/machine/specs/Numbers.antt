@@ -6,8 +6,8 @@ use Rattle.wordmath.specs.Number.{digit}
 use Rattle.state.specs.declared.State.{State}
 use Rattle.state.specs.State.{modeNumber}
 use Rattle.step.specs.declared.Turn.{Turn}
-use Rattle.step.specs.declared.Told.{Told}
-use Rattle.step.specs.declared.Told.the-variants as Told
+use Rattle.step.specs.declared.Reached.{Reached}
+use Rattle.step.specs.declared.Reached.the-variants as Reached
 use Rattle.step.specs.Step.{causeNumber, causeAddress}
 use Rattle.machine.specs.declared.Ran.{Ran}
 use Rattle.machine.specs.declared.First.{First}
@@ -40,9 +40,9 @@ pub data Address : Type 0 where
   address : ℕ → Address
   nowhere : Address
 
-abbrev pub toldOf : Told → Address
-toldOf (Told.At a) = address a
-toldOf Told.Nowhere = nowhere
+abbrev pub toldOf : Reached → Address
+toldOf (Reached.At a) = address a
+toldOf Reached.Nowhere = nowhere
 
 pub record TurnPage : Type 0 where
   pub state : StatePage
@@ -54,18 +54,18 @@ turnPage t = record { state = statePage (t .state); cause = causeNumber (t .caus
 
 -- ---- after a run: the state, the count of blanks, and the place of the first with the address that it told, or none
 
-pub data Place : Type 0 where
-  place : ℕ → ℕ → Place
-  none : Place
+pub data FirstPage : Type 0 where
+  place : ℕ → ℕ → FirstPage
+  none : FirstPage
 
-abbrev pub placePage : First → Place
-placePage (At p a) = place p a
-placePage Never = none
+abbrev pub firstPage : First → FirstPage
+firstPage (At p a) = place p a
+firstPage Never = none
 
 pub record RanPage : Type 0 where
   pub state : StatePage
   pub blanks : ℕ
-  pub first : Place
+  pub first : FirstPage
 
 abbrev pub ranPage : Ran → RanPage
-ranPage r = record { state = statePage (r .state); blanks = r .tally .blanks; first = placePage (r .tally .first) }
+ranPage r = record { state = statePage (r .state); blanks = r .tally .blanks; first = firstPage (r .tally .first) }

@@ -13,19 +13,19 @@ use Rattle.machine.specs.declared.First.{First}
 use Rattle.machine.specs.declared.First.the-variants.{At, Never}
 use Rattle.step.specs.declared.Cause.{Cause}
 use Rattle.step.specs.declared.Cause.the-variants as Cause
-use Rattle.step.specs.declared.Told.{Told}
-use Rattle.step.specs.declared.Told.the-variants as Told
+use Rattle.step.specs.declared.Reached.{Reached}
+use Rattle.step.specs.declared.Reached.the-variants as Reached
 use Rattle.step.specs.Step.{stepOf, blankAt}
 
 -- the place of the first blank and the address that it told: the earlier one stays
-abbrev pub firstOf : First → ℕ → ℕ → First
-firstOf (At p a) place address = At p a
-firstOf Never place address = At place address
+abbrev pub firstKept : First → ℕ → ℕ → First
+firstKept (At p a) place address = At p a
+firstKept Never place address = At place address
 
 -- the blanks counted, and the first of them, after the step at this place
-unfoldable pub noted : Tally → ℕ → Told → Tally
-noted t place Told.Nowhere = t
-noted t place (Told.At a) = record { blanks = t .blanks + 1; first = firstOf (t .first) place a }
+unfoldable pub blankNoted : Tally → ℕ → Reached → Tally
+blankNoted t place Reached.Nowhere = t
+blankNoted t place (Reached.At a) = record { blanks = t .blanks + 1; first = firstKept (t .first) place a }
 
 abbrev pub noBlanks : Tally
 noBlanks = record { blanks = 0; first = Never }
@@ -39,7 +39,7 @@ unfoldable pub restOfRun : Settings → List ℕ → ℕ → List ℕ → State 
 restOfRun settings map place [] s m t = end s m t
 restOfRun settings map place (line ∷ lines) s m t =
     let a = stepOf map (heard settings line) s m in
-    restOfRun settings map (place + 1) lines (a .state) (a .image) (noted t place (blankAt (a .cause)))
+    restOfRun settings map (place + 1) lines (a .state) (a .image) (blankNoted t place (blankAt (a .cause)))
 
 abbrev pub runOf : Settings → List ℕ → List ℕ → State → List ℕ → End
 runOf settings map lines s m = restOfRun settings map 0 lines s m noBlanks

@@ -9,14 +9,14 @@ use Rattle.state.specs.declared.Settings.{Settings}
 use Rattle.state.specs.State.{heard}
 use Rattle.step.specs.declared.Cause.{Cause}
 use Rattle.step.specs.declared.Cause.the-variants as Cause
-use Rattle.step.specs.declared.Told.{Told}
-use Rattle.step.specs.declared.Told.the-variants as Told
+use Rattle.step.specs.declared.Reached.{Reached}
+use Rattle.step.specs.declared.Reached.the-variants as Reached
 use Rattle.step.specs.Step.{After, after, stepOf, blankAt, isBlank}
 use Rattle.refusal.specs.Page.{answered, Left, left}
 use Rattle.machine.specs.declared.First.{First}
 use Rattle.machine.specs.declared.First.the-variants.{At, Never}
 use Rattle.machine.specs.declared.Tally.{Tally}
-use Rattle.machine.specs.Numbers.{Place, place, none, statePage, RanPage, placePage}
+use Rattle.machine.specs.Numbers.{FirstPage, place, none, statePage, RanPage, firstPage}
 
 -- the state, the image and the cause after each step
 unfoldable pub trailOf : Settings → List ℕ → List ℕ → State → List ℕ → List After
@@ -41,9 +41,9 @@ placeMoved n (At p a) = At (n + p) a
 placeMoved n Never = Never
 
 -- this step, where it is a blank, or else a later one
-abbrev pub here : Told → First → First
-here (Told.At a) later = At 0 a
-here Told.Nowhere later = placeMoved 1 later
+abbrev pub here : Reached → First → First
+here (Reached.At a) later = At 0 a
+here Reached.Nowhere later = placeMoved 1 later
 
 unfoldable pub firstBlankIn : List After → First
 firstBlankIn [] = Never
@@ -59,8 +59,8 @@ causeAt (a ∷ rs) zero = a .cause
 causeAt (a ∷ rs) (suc k) = causeAt rs k
 
 -- the least place with a blank: one that tells this address stands there, and none before it; or there is none at all
-pub data Least (rs : List After) : Place → Type 0 where
-  least : {p a : ℕ} → p < length rs → blankAt (causeAt rs p) ≡ Told.At a → ((k : ℕ) → k < p → isBlank (causeAt rs k) ≡ false) → Least rs (place p a)
+pub data Least (rs : List After) : FirstPage → Type 0 where
+  least : {p a : ℕ} → p < length rs → blankAt (causeAt rs p) ≡ Reached.At a → ((k : ℕ) → k < p → isBlank (causeAt rs k) ≡ false) → Least rs (place p a)
   nowhere : ((k : ℕ) → k < length rs → isBlank (causeAt rs k) ≡ false) → Least rs none
 
 -- what a run shows that went along a trail from b
@@ -68,4 +68,4 @@ abbrev pub runShown : Settings → List ℕ → List ℕ → State → List ℕ 
 runShown settings map lines s m =
     let rs = trailOf settings map lines s m in
     let b = lastAfter (after s m Cause.Nothing) rs in
-    left (answered (record { state = statePage (b .state); blanks = blanksIn rs; first = placePage (firstBlankIn rs) })) (b .image)
+    left (answered (record { state = statePage (b .state); blanks = blanksIn rs; first = firstPage (firstBlankIn rs) })) (b .image)

@@ -20,8 +20,8 @@ use Rattle.machine.specs.declared.Stop.{Stop}
 use Rattle.machine.specs.declared.Stopped.{Stopped}
 use Rattle.machine.specs.declared.Stopped.the-variants as Stopped
 use Rattle.machine.specs.declared.Until.{Until}
-use Rattle.machine.specs.Numbers.{TurnPage, turnPage, Place, placePage}
-use Rattle.machine.specs.Run.{End, end, noted, runOf, lastCause}
+use Rattle.machine.specs.Numbers.{TurnPage, turnPage, FirstPage, firstPage}
+use Rattle.machine.specs.Run.{End, end, blankNoted, runOf, lastCause}
 use Rattle.machine.specs.Entry.{runWhy}
 
 -- ---- where a run ends
@@ -63,11 +63,11 @@ stepsTo settings map u (line ∷ lines) s m =
 pub record StopPage : Type 0 where
   pub turn : TurnPage
   pub blanks : ℕ
-  pub first : Place
+  pub first : FirstPage
   pub steps : ℕ
 
 abbrev pub stopPage : Stop → StopPage
-stopPage r = record { turn = turnPage (r .turn); blanks = r .tally .blanks; first = placePage (r .tally .first); steps = r .steps }
+stopPage r = record { turn = turnPage (r .turn); blanks = r .tally .blanks; first = firstPage (r .tally .first); steps = r .steps }
 
 abbrev pub stoppedPage : Stopped → Page StopPage
 stoppedPage (Stopped.Done r) = answered (stopPage r)
@@ -92,7 +92,7 @@ runUntilPage settings image map lines u s = call (runWhy settings image map line
 
 pub record Strode (settings : Settings) (map lines : List ℕ) (b : Stage) (m : List ℕ) (r : Stage) (st : Store) : Type 0 where
   pub step : after (r .state) (st .image) (r .cause) ≡ stepOf map (heard settings (getD lines (b .at) 0)) (b .state) m
-  pub tally : r .tally ≡ noted (b .tally) (b .at) (blankAt (r .cause))
+  pub tally : r .tally ≡ blankNoted (b .tally) (b .at) (blankAt (r .cause))
   pub next : r .at ≡ b .at + 1
   pub few : r .tally .blanks ≤ r .at
   pub board : Board map st

@@ -5,7 +5,7 @@ use super::Stop;
 use super::Tally;
 use super::Until;
 use super::door;
-use super::runs::noted;
+use super::runs::blank_noted;
 use state::Mode;
 use state::Settings;
 use state::State;
@@ -17,6 +17,7 @@ ghost use Prim.Native.Nat.{_≤_, _<_};
 ghost use lib.ListN.{length};
 ghost use Rattle.board.specs.Exec.{beside, Board, Lent};
 ghost use Rattle.machine.specs.Until as Spec;
+ghost use Rattle.refusal.specs.Refusal.{mostLineWords};
 
 // Is a cause asked for?
 fn asks(until: Until, cause: Cause) -> bool
@@ -69,7 +70,7 @@ fn stride(
     settings: Settings,
     lines: &[u16],
 ) -> Stage
-    requires { ⌜ (Board (now map) (beside (now image) (now log))) × (length (now lines) ≤ 4096) × (stage .at < length (now lines)) × (stage .tally .blanks ≤ stage .at) ⌝ }
+    requires { ⌜ (Board (now map) (beside (now image) (now log))) × (length (now lines) ≤ mostLineWords) × (stage .at < length (now lines)) × (stage .tally .blanks ≤ stage .at) ⌝ }
     ensures { λ r. ⌜ Spec.Strode settings (now (map .entry)) (now (lines .entry)) stage (now (image .entry)) r (beside (now (image .exit)) (now (log .exit))) ⌝ }
 {
     let s = stage.state;
@@ -80,14 +81,14 @@ fn stride(
     let cause = turn.cause;
     Stage {
         state,
-        tally: noted(tally, at as u16, blank_at(cause)),
+        tally: blank_noted(tally, at as u16, blank_at(cause)),
         cause,
         at: at + 1,
     }
 }
 
 fn stop_at(stage: Stage) -> Stop
-    requires { ⌜ stage .at ≤ 4096 ⌝ }
+    requires { ⌜ stage .at ≤ mostLineWords ⌝ }
     ensures { λ r. ⌜ r ≡ Spec.stopAt stage ⌝ }
 {
     let state = stage.state;
@@ -109,7 +110,7 @@ pub(crate) fn until_on(
     lines: &[u16],
     until: Until,
 ) -> Stop
-    requires { ⌜ (Lent (now map) (now image)) × (length (now lines) ≤ 4096) ⌝ }
+    requires { ⌜ (Lent (now map) (now image)) × (length (now lines) ≤ mostLineWords) ⌝ }
     ensures { λ r. ⌜ Spec.Ended settings (now (map .entry)) (now (lines .entry)) until s (now (image .entry)) r (now (image .exit)) ⌝ }
 {
     let mut log = [0u16; 32];

@@ -9,7 +9,7 @@ use state::Went;
 use state::hear;
 use step::Cause;
 use step::Kind;
-use step::Told;
+use step::Reached;
 use step::blank_at;
 use step::calm;
 use step::error;
@@ -22,10 +22,11 @@ ghost use Prim.Native.Nat.{_≤_, _+_};
 ghost use lib.ListN.{length};
 ghost use Rattle.board.specs.Exec.{beside, Lent, Board};
 ghost use Rattle.machine.specs.Run as Spec;
+ghost use Rattle.refusal.specs.Refusal.{mostLineWords};
 
 // The earlier one stays.
-fn first_of(first: First, place: u16, address: u16) -> First
-    ensures { λ r. ⌜ r ≡ Spec.firstOf first place address ⌝ }
+fn first_kept(first: First, place: u16, address: u16) -> First
+    ensures { λ r. ⌜ r ≡ Spec.firstKept first place address ⌝ }
 {
     match first {
         First::At(_, _) => first,
@@ -34,19 +35,19 @@ fn first_of(first: First, place: u16, address: u16) -> First
 }
 
 // The tally after the step at this place, which may have been a blank.
-pub(crate) fn noted(t: Tally, place: u16, blank: Told) -> Tally
-    requires { ⌜ t .blanks ≤ 4096 ⌝ }
-    ensures { λ r. ⌜ (r ≡ Spec.noted t place blank) × (r .blanks ≤ t .blanks + 1) ⌝ }
+pub(crate) fn blank_noted(t: Tally, place: u16, blank: Reached) -> Tally
+    requires { ⌜ t .blanks ≤ mostLineWords ⌝ }
+    ensures { λ r. ⌜ (r ≡ Spec.blankNoted t place blank) × (r .blanks ≤ t .blanks + 1) ⌝ }
 {
     match blank {
-        Told::At(address) => {
+        Reached::At(address) => {
             let first = t.first;
             Tally {
                 blanks: t.blanks + 1,
-                first: first_of(first, place, address),
+                first: first_kept(first, place, address),
             }
         }
-        Told::Nowhere => t,
+        Reached::Nowhere => t,
     }
 }
 
@@ -60,7 +61,7 @@ pub(crate) fn run_from(
     settings: Settings,
     lines: &[u16],
 ) -> Last
-    requires { ⌜ (Board (now map) (beside (now image) (now log))) × (length (now lines) ≤ 4096) ⌝ }
+    requires { ⌜ (Board (now map) (beside (now image) (now log))) × (length (now lines) ≤ mostLineWords) ⌝ }
     ensures { λ r. ⌜ Spec.LoggedRun settings (now (map .entry)) (now (lines .entry)) s (now (image .entry)) r (beside (now (image .exit)) (now (log .exit))) ⌝ }
 {
     let mut state = s;
@@ -105,7 +106,7 @@ pub(crate) fn run_from(
             state = turn.state;
             cause = turn.cause;
         }
-        tally = noted(tally, i, blank_at(cause));
+        tally = blank_noted(tally, i, blank_at(cause));
         i += 1;
     }
     Last {
@@ -122,7 +123,7 @@ pub(crate) fn run_on(
     settings: Settings,
     lines: &[u16],
 ) -> Last
-    requires { ⌜ (Lent (now map) (now image)) × (length (now lines) ≤ 4096) ⌝ }
+    requires { ⌜ (Lent (now map) (now image)) × (length (now lines) ≤ mostLineWords) ⌝ }
     ensures { λ r. ⌜ Spec.Ended settings (now (map .entry)) (now (lines .entry)) s (now (image .entry)) r (now (image .exit)) ⌝ }
 {
     let mut log = [0u16; 32];

@@ -12,6 +12,7 @@ ghost use Rattle.board.specs.Exec.{Lent};
 ghost use Rattle.machine.specs.Trail as Trail;
 ghost use Rattle.machine.specs.Counted as Counted;
 ghost use Rattle.machine.specs.Same as Spec;
+ghost use Rattle.refusal.specs.Refusal.{mostLineWords};
 
 // A place moved on by n steps.
 fn moved(n: u16, first: First) -> First
@@ -49,7 +50,7 @@ fn joined(n: u16, t: Tally, u: Tally) -> Tally
 
 // A part of a run, after so many steps.
 fn part(ran: Ran, image: &mut [u8], map: &[u8], settings: Settings, lines: &[u16], done: u16) -> Ran
-    requires { ⌜ (Lent (now map) (now image)) × Spec.Tallied done (ran .tally) × (length (now lines) ≤ 4096) × (done + length (now lines) ≤ 65535) ⌝ }
+    requires { ⌜ (Lent (now map) (now image)) × Spec.Tallied done (ran .tally) × (length (now lines) ≤ mostLineWords) × (done + length (now lines) ≤ 65535) ⌝ }
     ensures { λ r. ⌜ Spec.Parted settings (now (map .entry)) (now (lines .entry)) done ran (now (image .entry)) r (now (image .exit)) ⌝ }
 {
     let state = ran.state;

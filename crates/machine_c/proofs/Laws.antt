@@ -12,7 +12,7 @@ use borrow.Author.Tests.{eqb-true, ne-eqb, not-false}
 use Rattle.state.specs.declared.State.{State}
 use Rattle.state.specs.declared.Settings.{Settings}
 use Rattle.step.specs.declared.Turn.{Turn}
-use Rattle.step.specs.declared.Told.{Told}
+use Rattle.step.specs.declared.Reached.{Reached}
 use Rattle.step.specs.Step.{causeNumber, causeAddress}
 use Rattle.machine.specs.declared.Ran.{Ran}
 use Rattle.machine.specs.declared.Powered.{Powered}
@@ -24,7 +24,7 @@ use Rattle.machine.specs.declared.Finished.the-variants as Finished
 use Rattle.refusal.specs.Numbers.{noState}
 use Rattle.refusal.specs.Page.{left, told}
 use Rattle.refusal.proofs.Laws.Refusal.{neither}
-use Rattle.machine.specs.Numbers.{statePage, nowhere, toldOf, placePage, Place}
+use Rattle.machine.specs.Numbers.{statePage, nowhere, toldOf, firstPage, FirstPage}
 use Rattle.machine.specs.Entry.{poweredPage, steppedPage, finishedPage, powerUpPage, stepPage, runPage}
 use lib.Dec.{eqb, ltb}
 use Rattle.machine.specs.declared.Stop.{Stop}
@@ -91,7 +91,7 @@ module _ (b image map w : List ℕ) (line : ℕ) where
   unfolding stepCall
   went-bad e = rw e
 
-  pub went-done : (b′ m : List ℕ) (s : State) (g : Settings) (t : Turn) (r : Stepped) (k : ℕ) (at : Told) → refusedStep b w ≡ false → s ≡ stateFrom b → g ≡ settingsFrom w
+  pub went-done : (b′ m : List ℕ) (s : State) (g : Settings) (t : Turn) (r : Stepped) (k : ℕ) (at : Reached) → refusedStep b w ≡ false → s ≡ stateFrom b → g ≡ settingsFrom w
       → left (steppedPage r) m ≡ stepPage g image map line s → r ≡ Stepped.Done t → k ≡ causeNumber (t .cause) → at ≡ causeAddress (t .cause)
       → b′ ≡ laid (stateBytes (statePage (t .state)) k (toldOf at)) b → told 0 (b′, m) ≡ stepCall b image map w line
   unfolding stepCall
@@ -112,11 +112,11 @@ module _ (b t image map w lines : List ℕ) where
 
   pub ended-done : (b′ t′ m : List ℕ) (s : State) (g : Settings) (ran : Ran) (r : Finished) → refusedRun b t w ≡ false → s ≡ stateFrom b → g ≡ settingsFrom w
       → left (finishedPage r) m ≡ runPage g image map lines s → r ≡ Finished.Done ran
-      → b′ ≡ laid (stateBytes (statePage (ran .state)) 0 nowhere) b → t′ ≡ laid (tallyBytes (ran .tally .blanks) (placePage (ran .tally .first))) t
+      → b′ ≡ laid (stateBytes (statePage (ran .state)) 0 nowhere) b → t′ ≡ laid (tallyBytes (ran .tally .blanks) (firstPage (ran .tally .first))) t
       → told 0 (b′, t′, m) ≡ runCall b t image map w lines
   unfolding runCall
   ended-done b′ t′ m s g ran r e f j p h d q =
-      rw (e, ← f, ← j, ← p, h, d, laid-state b (ran .state) 0 nowhere (run-length b t w e), q, laid-tally t (ran .tally .blanks) (placePage (ran .tally .first)) (tally-length b t w e))
+      rw (e, ← f, ← j, ← p, h, d, laid-state b (ran .state) 0 nowhere (run-length b t w e), q, laid-tally t (ran .tally .blanks) (firstPage (ran .tally .first)) (tally-length b t w e))
 
   pub ended-refused : (m : List ℕ) (s : State) (g : Settings) (why : ℕ) (r : Finished) → refusedRun b t w ≡ false → s ≡ stateFrom b → g ≡ settingsFrom w
       → left (finishedPage r) m ≡ runPage g image map lines s → r ≡ Finished.Refused why → told why (b, t, m) ≡ runCall b t image map w lines
@@ -132,11 +132,11 @@ module _ (b t image map w : List ℕ) (line n : ℕ) where
 
   pub same-done : (b′ t′ m : List ℕ) (s : State) (g : Settings) (ran : Ran) (r : Finished) → refusedRun b t w ≡ false → s ≡ stateFrom b → g ≡ settingsFrom w
       → left (finishedPage r) m ≡ runSamePage g image map line n s → r ≡ Finished.Done ran
-      → b′ ≡ laid (stateBytes (statePage (ran .state)) 0 nowhere) b → t′ ≡ laid (tallyBytes (ran .tally .blanks) (placePage (ran .tally .first))) t
+      → b′ ≡ laid (stateBytes (statePage (ran .state)) 0 nowhere) b → t′ ≡ laid (tallyBytes (ran .tally .blanks) (firstPage (ran .tally .first))) t
       → told 0 (b′, t′, m) ≡ runSameCall b t image map w line n
   unfolding runSameCall
   same-done b′ t′ m s g ran r e f j p h d q =
-      rw (e, ← f, ← j, ← p, h, d, laid-state b (ran .state) 0 nowhere (run-length b t w e), q, laid-tally t (ran .tally .blanks) (placePage (ran .tally .first)) (tally-length b t w e))
+      rw (e, ← f, ← j, ← p, h, d, laid-state b (ran .state) 0 nowhere (run-length b t w e), q, laid-tally t (ran .tally .blanks) (firstPage (ran .tally .first)) (tally-length b t w e))
 
   pub same-refused : (m : List ℕ) (s : State) (g : Settings) (why : ℕ) (r : Finished) → refusedRun b t w ≡ false → s ≡ stateFrom b → g ≡ settingsFrom w
       → left (finishedPage r) m ≡ runSamePage g image map line n s → r ≡ Finished.Refused why → told why (b, t, m) ≡ runSameCall b t image map w line n
@@ -145,7 +145,7 @@ module _ (b t image map w : List ℕ) (line n : ℕ) where
 
 -- ---- until something happens
 
-laid-stop : (t : List ℕ) (blanks : ℕ) (first : Place) (steps : ℕ) → length t ≡ 8 → laid (stopBytes blanks first steps) t ≡ stopBytes blanks first steps
+laid-stop : (t : List ℕ) (blanks : ℕ) (first : FirstPage) (steps : ℕ) → length t ≡ 8 → laid (stopBytes blanks first steps) t ≡ stopBytes blanks first steps
 unfolding stopBytes
 laid-stop t blanks first steps e = laid-all _ t e
 
@@ -165,9 +165,9 @@ module _ (b t image map w lines : List ℕ) (asked : ℕ) where
   unfolding runUntilCall
   until-bad e = rw e
 
-  pub until-done : (b′ t′ m : List ℕ) (s : State) (g : Settings) (u : Until) (stop : Stop) (r : Stopped) (k : ℕ) (at : Told) → refusedUntil b t w asked ≡ false → s ≡ stateFrom b → g ≡ settingsFrom w
+  pub until-done : (b′ t′ m : List ℕ) (s : State) (g : Settings) (u : Until) (stop : Stop) (r : Stopped) (k : ℕ) (at : Reached) → refusedUntil b t w asked ≡ false → s ≡ stateFrom b → g ≡ settingsFrom w
       → u ≡ untilFrom asked → left (stoppedPage r) m ≡ runUntilPage g image map lines u s → r ≡ Stopped.Done stop → k ≡ causeNumber (stop .turn .cause) → at ≡ causeAddress (stop .turn .cause)
-      → b′ ≡ laid (stateBytes (statePage (stop .turn .state)) k (toldOf at)) b → t′ ≡ laid (stopBytes (stop .tally .blanks) (placePage (stop .tally .first)) (stop .steps)) t
+      → b′ ≡ laid (stateBytes (statePage (stop .turn .state)) k (toldOf at)) b → t′ ≡ laid (stopBytes (stop .tally .blanks) (firstPage (stop .tally .first)) (stop .steps)) t
       → told 0 (b′, t′, m) ≡ runUntilCall b t image map w lines asked
   unfolding runUntilCall
   until-done b′ t′ m s g u stop r k at e f j i p h c a d q =
@@ -181,7 +181,7 @@ module _ (b t image map w lines : List ℕ) (asked : ℕ) where
         d,
         laid-state b (stop .turn .state) k (toldOf at) (until-state b t w asked e),
         q,
-        laid-stop t (stop .tally .blanks) (placePage (stop .tally .first)) (stop .steps) (until-tally b t w asked e),
+        laid-stop t (stop .tally .blanks) (firstPage (stop .tally .first)) (stop .steps) (until-tally b t w asked e),
         c,
         a,
       )

@@ -7,7 +7,7 @@ use lib.Dec.{eqb, ltb}
 use Rattle.wordbytes.specs.Words.{byteAt, wordAt, bytesIn}
 use Rattle.state.specs.declared.State.{State}
 use Rattle.state.specs.declared.Settings.{Settings}
-use Rattle.machine.specs.Numbers.{StatePage, Address, address, nowhere, Place, place, none}
+use Rattle.machine.specs.Numbers.{StatePage, Address, address, nowhere, FirstPage, place, none}
 use Rattle.machine.specs.Back.{stateOf}
 
 -- ---- 24 bytes: R0 to R5, SP and PC; 16 the indicators; 17 I2; 18 the mode; 19 the cause; 20 the mark of a late IEN;
@@ -47,15 +47,15 @@ refusedState b = notState b || stateRefused b
 
 -- ---- 6 bytes: the blanks; the place of the first, FFFF where there is none; the address that it told, 0 where there is none
 
-abbrev pub placeNumber : Place → ℕ
+abbrev pub placeNumber : FirstPage → ℕ
 placeNumber (place p a) = p
 placeNumber none = 65535
 
-abbrev pub placeTold : Place → ℕ
+abbrev pub placeTold : FirstPage → ℕ
 placeTold (place p a) = a
 placeTold none = 0
 
-unfoldable pub tallyBytes : ℕ → Place → List ℕ
+unfoldable pub tallyBytes : ℕ → FirstPage → List ℕ
 tallyBytes blanks first = bytesIn (blanks ∷ placeNumber first ∷ placeTold first ∷ [])
 
 abbrev pub notTally : List ℕ → Bool

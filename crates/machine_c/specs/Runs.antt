@@ -8,7 +8,7 @@ use Rattle.wordbytes.specs.Words.{bytesIn}
 use Rattle.refusal.specs.Numbers.{noState}
 use Rattle.refusal.specs.Page.{call, Told, reading}
 use Rattle.machine.specs.declared.Until.{Until}
-use Rattle.machine.specs.Numbers.{Place}
+use Rattle.machine.specs.Numbers.{FirstPage}
 use Rattle.machine.specs.Same.{runSamePage}
 use Rattle.machine.specs.Until.{StopPage, runUntilPage}
 use Rattle.machine_c.specs.Layout.{stateBytes, placeNumber, placeTold, stateFrom, settingsFrom, refusedStep, refusedRun}
@@ -26,7 +26,7 @@ unfoldable pub untilFrom : ℕ → Until
 untilFrom asked = record { interrupt = eqb (asked % 2) 1; blank = eqb (asked / 2 % 2) 1; lock = eqb (asked / 4 % 2) 1; switch = eqb (asked / 8 % 2) 1 }
 
 -- 8 bytes: a tally's 6, and the number of steps
-unfoldable pub stopBytes : ℕ → Place → ℕ → List ℕ
+unfoldable pub stopBytes : ℕ → FirstPage → ℕ → List ℕ
 stopBytes blanks first steps = bytesIn (blanks ∷ placeNumber first ∷ placeTold first ∷ steps ∷ [])
 
 -- refused as 21: what a step refuses, not 8 bytes, an unused bit of what is asked for

@@ -4,7 +4,7 @@ use machine::Tally;
 use state::Mode;
 use state::Settings;
 use state::State;
-use step::Told;
+use step::Reached;
 use wordbytes::byte_at;
 use wordbytes::high;
 use wordbytes::low;
@@ -146,27 +146,27 @@ pub fn state_from(b: &[u8]) -> State
 }
 
 // 1 where an address is told.
-fn tells(told: Told) -> u8
+fn tells(told: Reached) -> u8
     ensures { λ r. ⌜ r ≡ Spec.addressTold (Page.toldOf told) ⌝ }
 {
     match told {
-        Told::Nowhere => 0,
-        Told::At(_) => 1,
+        Reached::Nowhere => 0,
+        Reached::At(_) => 1,
     }
 }
 
 // The address that is told, 0 where there is none.
-fn word_told(told: Told) -> u16
+fn word_told(told: Reached) -> u16
     ensures { λ r. ⌜ r ≡ Spec.wordTold (Page.toldOf told) ⌝ }
 {
     match told {
-        Told::Nowhere => 0,
-        Told::At(address) => address,
+        Reached::Nowhere => 0,
+        Reached::At(address) => address,
     }
 }
 
 // The bytes of a state, of the cause that led to it and of the address that it tells.
-fn state_bytes(s: State, cause: u8, told: Told) -> [u8; 24]
+fn state_bytes(s: State, cause: u8, told: Reached) -> [u8; 24]
     ensures { λ r. ⌜ r ≡ Spec.stateBytes (Page.statePage s) cause (Page.toldOf told) ⌝ }
 {
     let mode = s.mode;
@@ -200,7 +200,7 @@ fn state_bytes(s: State, cause: u8, told: Told) -> [u8; 24]
 }
 
 // The same over a lent buffer of 24 bytes; another is left as lent.
-pub fn put_state(b: &mut [u8], s: State, cause: u8, told: Told)
+pub fn put_state(b: &mut [u8], s: State, cause: u8, told: Reached)
     ensures { λ _. ⌜ now (b .exit) ≡ Spec.laid (Spec.stateBytes (Page.statePage s) cause (Page.toldOf told)) (now (b .entry)) ⌝ }
 {
     if b.len() != 24 {
@@ -212,7 +212,7 @@ pub fn put_state(b: &mut [u8], s: State, cause: u8, told: Told)
 
 // The place of the first blank, FFFF where there is none.
 pub(crate) fn place_of(first: First) -> u16
-    ensures { λ r. ⌜ r ≡ Spec.placeNumber (Page.placePage first) ⌝ }
+    ensures { λ r. ⌜ r ≡ Spec.placeNumber (Page.firstPage first) ⌝ }
 {
     match first {
         First::At(place, _) => place,
@@ -222,7 +222,7 @@ pub(crate) fn place_of(first: First) -> u16
 
 // The address that the first blank told, 0 where there is none.
 pub(crate) fn place_told(first: First) -> u16
-    ensures { λ r. ⌜ r ≡ Spec.placeTold (Page.placePage first) ⌝ }
+    ensures { λ r. ⌜ r ≡ Spec.placeTold (Page.firstPage first) ⌝ }
 {
     match first {
         First::At(_, address) => address,
@@ -232,7 +232,7 @@ pub(crate) fn place_told(first: First) -> u16
 
 // The blanks, the place of the first and the address that it told.
 fn tally_bytes(t: Tally) -> [u8; 6]
-    ensures { λ r. ⌜ r ≡ Spec.tallyBytes (t .blanks) (Page.placePage (t .first)) ⌝ }
+    ensures { λ r. ⌜ r ≡ Spec.tallyBytes (t .blanks) (Page.firstPage (t .first)) ⌝ }
 {
     let first = t.first;
     let place = place_of(first);
@@ -249,7 +249,7 @@ fn tally_bytes(t: Tally) -> [u8; 6]
 
 // The same over a lent buffer of 6 bytes; another is left as lent.
 pub fn put_tally(b: &mut [u8], t: Tally)
-    ensures { λ _. ⌜ now (b .exit) ≡ Spec.laid (Spec.tallyBytes (t .blanks) (Page.placePage (t .first))) (now (b .entry)) ⌝ }
+    ensures { λ _. ⌜ now (b .exit) ≡ Spec.laid (Spec.tallyBytes (t .blanks) (Page.firstPage (t .first))) (now (b .entry)) ⌝ }
 {
     if b.len() != 6 {
         return;

@@ -10,7 +10,7 @@ use machine::Finished;
 use machine::Powered;
 use machine::Stepped;
 use refusal::number::NO_STATE;
-use step::Told;
+use step::Reached;
 ghost use mathlib.Core.Path.{_≡_};
 ghost use Rattle.refusal.specs.Page.{told};
 ghost use Rattle.machine_c.specs.Calls as Spec;
@@ -33,7 +33,7 @@ pub extern "C" fn wd16_power_up(
     }
     match machine::power_up(image, map, settings_from(settings)) {
         Powered::Up(s) => {
-            put_state(state, s, 0, Told::Nowhere);
+            put_state(state, s, 0, Reached::Nowhere);
             0
         }
         Powered::Refused(why) => why,
@@ -95,7 +95,7 @@ pub extern "C" fn wd16_run(
         Finished::Done(ran) => {
             let after = ran.state;
             let counted = ran.tally;
-            put_state(state, after, 0, Told::Nowhere);
+            put_state(state, after, 0, Reached::Nowhere);
             put_tally(tally, counted);
             0
         }

@@ -12,7 +12,7 @@ use machine::Stopped;
 use machine::Tally;
 use machine::Until;
 use refusal::number::NO_STATE;
-use step::Told;
+use step::Reached;
 use wordbytes::high;
 use wordbytes::low;
 ghost use mathlib.Core.Path.{_≡_};
@@ -48,7 +48,7 @@ pub extern "C" fn wd16_run_same(
         Finished::Done(ran) => {
             let after = ran.state;
             let counted = ran.tally;
-            put_state(state, after, 0, Told::Nowhere);
+            put_state(state, after, 0, Reached::Nowhere);
             put_tally(tally, counted);
             0
         }
@@ -77,7 +77,7 @@ fn refused_until(b: &[u8], t: &[u8], w: &[u8], asked: u8) -> bool
 
 // The blanks, the place of the first, the address that it told, and the steps.
 fn stop_bytes(t: Tally, steps: u16) -> [u8; 8]
-    ensures { λ r. ⌜ r ≡ Spec.stopBytes (t .blanks) (Page.placePage (t .first)) steps ⌝ }
+    ensures { λ r. ⌜ r ≡ Spec.stopBytes (t .blanks) (Page.firstPage (t .first)) steps ⌝ }
 {
     let first = t.first;
     let place = place_of(first);
@@ -96,7 +96,7 @@ fn stop_bytes(t: Tally, steps: u16) -> [u8; 8]
 
 // The same over a lent buffer of 8 bytes; another is left as lent.
 fn put_stop(b: &mut [u8], t: Tally, steps: u16)
-    ensures { λ _. ⌜ now (b .exit) ≡ Layout.laid (Spec.stopBytes (t .blanks) (Page.placePage (t .first)) steps) (now (b .entry)) ⌝ }
+    ensures { λ _. ⌜ now (b .exit) ≡ Layout.laid (Spec.stopBytes (t .blanks) (Page.firstPage (t .first)) steps) (now (b .entry)) ⌝ }
 {
     if b.len() != 8 {
         return;

@@ -43,9 +43,9 @@ abbrev pub unheld : Held → Went
 unheld (Held.At s p v) = Went.Blank 0
 unheld (Held.Blank a) = Went.Blank a
 
-abbrev pub nowhere : Found → Held
-nowhere (Found.At p) = Held.Blank 0
-nowhere (Found.Blank a) = Held.Blank a
+abbrev pub unlocated : Found → Held
+unlocated (Found.At p) = Held.Blank 0
+unlocated (Found.Blank a) = Held.Blank a
 
-abbrev pub absent : Place → Held
-absent p = Held.Blank (addressOf p)
+abbrev pub unreadable : Place → Held
+unreadable p = Held.Blank (addressOf p)

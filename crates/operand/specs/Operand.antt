@@ -83,18 +83,18 @@ moved s Reg = s
 moved s (Mem a which v) = withReg s which v
 
 -- a decoded operand: the state after decoding, its register, its place
-pub record Seen : Type 0 where
+pub record Decoded : Type 0 where
   pub state : State
   pub register : ℕ
   pub place : Place
 
-abbrev pub seen : State → ℕ → Place → Seen
-seen s k p = record { state = s; register = k; place = p }
+abbrev pub decodedTo : State → ℕ → Place → Decoded
+decodedTo s k p = record { state = s; register = k; place = p }
 
-unfoldable pub decode : Size → State → ℕ → ℕ → Work Seen
+unfoldable pub decode : Size → State → ℕ → ℕ → Work Decoded
 decode z s mode k = do
   p ← locate (incrementOf z k) k (reg s k) (s .regs .pc) mode
-  give (seen (moved s p) k p)
+  give (decodedTo (moved s p) k p)
 
 -- what of a register is the operand: all of it, or its lower byte
 abbrev pub partOf : Size → ℕ → ℕ
@@ -106,7 +106,7 @@ readOf z r Reg = give (partOf z r)
 readOf z r (Mem a which v) = readAt z a (λ v. give v)
 
 -- the operand read; the register is the one after decoding
-abbrev pub value : Size → Seen → Work ℕ
+abbrev pub value : Size → Decoded → Work ℕ
 value z o = readOf z (reg (o .state) (o .register)) (o .place)
 
 -- the register k with an operand in it

@@ -7,16 +7,17 @@ use super::locate;
 use super::moved;
 use super::read_byte;
 use super::read_word;
-use board::Byte;
 use board::Word;
+use board::widened;
 use opcodes::fields::destination_mode;
 use opcodes::fields::destination_register;
 use state::State;
 use state::Went;
 ghost use mathlib.Core.Path.{_≡_};
-ghost use Rattle.board.specs.Work.{word, byte};
-ghost use Rattle.board.specs.Exec.{beside, Lent, Board, Saw};
+ghost use Rattle.board.specs.Work.{sizeOf};
+ghost use Rattle.board.specs.Exec.{beside, Lent, Board, Saw, wordAs};
 ghost use Rattle.state.specs.Answer.{Works, wentAs};
+ghost use Rattle.operand.specs.Operand.{incrementOf, readOf};
 ghost use Rattle.operand.specs.Destination as Spec;
 ghost use Rattle.operand.specs.Destination.{heldAs};
 
@@ -29,8 +30,8 @@ pub fn unheld(held: Held) -> Went
     }
 }
 
-fn nowhere(found: Found) -> Held
-    ensures { λ r. ⌜ r ≡ Spec.nowhere found ⌝ }
+fn unlocated(found: Found) -> Held
+    ensures { λ r. ⌜ r ≡ Spec.unlocated found ⌝ }
 {
     match found {
         Found::At(_) => Held::Blank(0),
@@ -39,8 +40,8 @@ fn nowhere(found: Found) -> Held
 }
 
 // An operand that was not answered when it was read: nothing is fitted at its address.
-fn absent(place: Place) -> Held
-    ensures { λ r. ⌜ r ≡ Spec.absent place ⌝ }
+fn unreadable(place: Place) -> Held
+    ensures { λ r. ⌜ r ≡ Spec.unreadable place ⌝ }
 {
     match place {
         Place::Reg => Held::Blank(0),
@@ -48,38 +49,36 @@ fn absent(place: Place) -> Held
     }
 }
 
-// DST of a word op code, decoded and read.
-pub fn destination_word(s: State, image: &[u8], map: &[u8], op: u16) -> Held
-    requires { ⌜ Lent (now map) (now image) ⌝ }
-    ensures { λ r. ⌜ Saw (now (map .entry)) (Spec.destination word s op) (now (image .entry)) (heldAs r) ⌝ }
+fn step_of(bytes: bool, k: u16) -> u16
+    ensures { λ r. ⌜ r ≡ incrementOf (sizeOf bytes) k ⌝ }
 {
-    let k = destination_register(op);
-    let mode = destination_mode(op);
-    let found = locate(image, map, 2, k, s.reg(k), s.regs.pc, mode);
-    let Found::At(to) = found else {
-        return nowhere(found);
-    };
-    let t = moved(s, to);
-    let Word::Value(v) = read_word(image, map, to, t.reg(k)) else {
-        return absent(to);
-    };
-    Held::At(t, to, v)
+    if bytes { byte_step(k) } else { 2 }
 }
 
-// DST of a byte op code, decoded and read.
-pub fn destination_byte(s: State, image: &[u8], map: &[u8], op: u16) -> Held
+fn read(image: &[u8], map: &[u8], bytes: bool, place: Place, r: u16) -> Word
     requires { ⌜ Lent (now map) (now image) ⌝ }
-    ensures { λ r. ⌜ Saw (now (map .entry)) (Spec.destination byte s op) (now (image .entry)) (heldAs r) ⌝ }
+    ensures { λ w. ⌜ Saw (now (map .entry)) (readOf (sizeOf bytes) r place) (now (image .entry)) (wordAs w) ⌝ }
+{
+    if bytes {
+        return widened(read_byte(image, map, place, r));
+    }
+    read_word(image, map, place, r)
+}
+
+// DST of a byte op code or of a word one, decoded and read.
+pub fn destination(s: State, image: &[u8], map: &[u8], bytes: bool, op: u16) -> Held
+    requires { ⌜ Lent (now map) (now image) ⌝ }
+    ensures { λ r. ⌜ Saw (now (map .entry)) (Spec.destination (sizeOf bytes) s op) (now (image .entry)) (heldAs r) ⌝ }
 {
     let k = destination_register(op);
     let mode = destination_mode(op);
-    let found = locate(image, map, byte_step(k), k, s.reg(k), s.regs.pc, mode);
+    let found = locate(image, map, step_of(bytes, k), k, s.reg(k), s.regs.pc, mode);
     let Found::At(to) = found else {
-        return nowhere(found);
+        return unlocated(found);
     };
     let t = moved(s, to);
-    let Byte::Value(v) = read_byte(image, map, to, t.reg(k)) else {
-        return absent(to);
+    let Word::Value(v) = read(image, map, bytes, to, t.reg(k)) else {
+        return unreadable(to);
     };
-    Held::At(t, to, v as u16)
+    Held::At(t, to, v)
 }

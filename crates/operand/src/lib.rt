@@ -1,6 +1,6 @@
 // Operands: the eight addressing modes, and reading and writing what they point to.
 use board::Byte;
-use board::Kept;
+use board::Stored;
 use board::Word;
 use state::State;
 use state::Went;
@@ -9,7 +9,7 @@ use wordmath::address::minus;
 use wordmath::address::plus;
 ghost use mathlib.Core.Path.{_≡_};
 ghost use Prim.Native.Nat.{_%_, _<_};
-ghost use Rattle.board.specs.Work.{word, byte};
+ghost use Rattle.board.specs.Work.{word, byte, sizeOf};
 ghost use Rattle.board.specs.Exec.{beside, Lent, Board, Saw, wordAs, byteAs};
 ghost use Rattle.state.specs.Answer.{Works};
 ghost use Rattle.operand.specs.Operand as Spec;
@@ -175,46 +175,33 @@ pub fn read_byte(image: &[u8], map: &[u8], place: Place, r: u16) -> Byte
     }
 }
 
-pub fn write_word(
-    s: State,
-    image: &mut [u8],
-    map: &[u8],
-    log: &mut [u16; 32],
-    k: u16,
-    place: Place,
-    v: u16,
-) -> Went
-    requires { ⌜ Board (now map) (beside (now image) (now log)) ⌝ }
-    ensures { λ r. ⌜ Works (now (map .entry)) (Spec.writeTo word s k place v) (now (image .entry)) (now (log .entry)) r (now (image .exit)) (now (log .exit)) ⌝ }
+// The register with an operand in it; a byte leaves the upper byte.
+fn with_part(s: State, bytes: bool, k: u16, v: u16) -> State
+    ensures { λ r. ⌜ r ≡ Spec.withPart (sizeOf bytes) s k v ⌝ }
 {
-    match place {
-        Place::Reg => Went::Done(s.with_reg(k, v)),
-        Place::Mem(a, _, _) => {
-            let Kept::Done = board::store(image, map, log, a, v) else {
-                return Went::Blank(a);
-            };
-            Went::Done(s)
-        }
+    if bytes {
+        return s.with_reg(k, arith::on_bytes::with_low(s.reg(k), low(v)));
     }
+    s.with_reg(k, v)
 }
 
-// A byte in a register leaves the upper byte.
-pub fn write_byte(
+pub fn write(
     s: State,
     image: &mut [u8],
     map: &[u8],
     log: &mut [u16; 32],
+    bytes: bool,
     k: u16,
     place: Place,
     v: u16,
 ) -> Went
     requires { ⌜ Board (now map) (beside (now image) (now log)) ⌝ }
-    ensures { λ r. ⌜ Works (now (map .entry)) (Spec.writeTo byte s k place v) (now (image .entry)) (now (log .entry)) r (now (image .exit)) (now (log .exit)) ⌝ }
+    ensures { λ r. ⌜ Works (now (map .entry)) (Spec.writeTo (sizeOf bytes) s k place v) (now (image .entry)) (now (log .entry)) r (now (image .exit)) (now (log .exit)) ⌝ }
 {
     match place {
-        Place::Reg => Went::Done(s.with_reg(k, arith::on_bytes::with_low(s.reg(k), low(v)))),
+        Place::Reg => Went::Done(with_part(s, bytes, k, v)),
         Place::Mem(a, _, _) => {
-            let Kept::Done = board::store_byte(image, map, log, a, v) else {
+            let Stored::Done = board::write(image, map, log, bytes, a, v) else {
                 return Went::Blank(a);
             };
             Went::Done(s)

@@ -1,7 +1,7 @@
 -- The table of op codes: a row for each, with its mnemonic, its base op code and its operands, in the order of the manual's chapter 3.
 use mathlib.Core.Bool.{cond}
 use mathlib.Core.List.{List, [], _∷_, _++_}
-use Prim.Native.Nat.{ℕ, _-_}
+use Prim.Native.Nat.{ℕ, _+_, _-_}
 use Prim.Native.Char.{code}
 use Prim.Native.String.{String}
 use lib.Dec.{eqb}
@@ -17,8 +17,10 @@ pub record Row : Type 0 where
   pub first : Kind
   pub second : Kind
 
-abbrev pub row : String → ℕ → Kind → Kind → Row
-row n b f s = record { name = letters n; base = b; first = f; second = s }
+-- rows with the same operands, whose base op codes begin at b and are d apart
+abbrev pub run : ℕ → ℕ → Kind → Kind → List String → List Row
+run b d f s [] = []
+run b d f s (n ∷ ns) = record { name = letters n; base = b; first = f; second = s } ∷ run (b + d) d f s ns
 
 abbrev pub rowCount : ℕ
 rowCount = 112
@@ -30,132 +32,47 @@ wordRow = rowCount - 1
 unfoldable pub rows : List Row
 rows =
     -- Format 1: no operand; SAVS has its mask in the next word.
-    row "NOP" 0x0000 None None
-    ∷ row "RESET" 0x0001 None None
-    ∷ row "IEN" 0x0002 None None
-    ∷ row "IDS" 0x0003 None None
-    ∷ row "HALT" 0x0004 None None
-    ∷ row "XCT" 0x0005 None None
-    ∷ row "BPT" 0x0006 None None
-    ∷ row "WFI" 0x0007 None None
-    ∷ row "RSVC" 0x0008 None None
-    ∷ row "RRTT" 0x0009 None None
-    ∷ row "SAVE" 0x000A None None
-    ∷ row "SAVS" 0x000B Mask None
-    ∷ row "REST" 0x000C None None
-    ∷ row "RRTN" 0x000D None None
-    ∷ row "RSTS" 0x000E None None
-    ∷ row "RTT" 0x000F None None
+    run 0x0000 1 None None ("NOP" ∷ "RESET" ∷ "IEN" ∷ "IDS" ∷ "HALT" ∷ "XCT" ∷ "BPT" ∷ "WFI" ∷ "RSVC" ∷ "RRTT" ∷ "SAVE" ∷ [])
+    ++ run 0x000B 1 Mask None ("SAVS" ∷ [])
+    ++ run 0x000C 1 None None ("REST" ∷ "RRTN" ∷ "RSTS" ∷ "RTT" ∷ [])
     -- Format 2: REG.
-    ∷ row "IAK" 0x0010 Reg None
-    ∷ row "RTN" 0x0018 Reg None
-    ∷ row "MSKO" 0x0020 Reg None
-    ∷ row "PRTN" 0x0028 Reg None
+    ++ run 0x0010 0x8 Reg None ("IAK" ∷ "RTN" ∷ "MSKO" ∷ "PRTN" ∷ [])
     -- Format 3: ARG, one digit.
-    ∷ row "LCC" 0x0030 Arg4 None
+    ++ run 0x0030 0x10 Arg4 None ("LCC" ∷ [])
     -- Format 4: ARG, two digits.
-    ∷ row "SVCA" 0x0040 Arg6 None
-    ∷ row "SVCB" 0x0080 Arg6 None
-    ∷ row "SVCC" 0x00C0 Arg6 None
+    ++ run 0x0040 0x40 Arg6 None ("SVCA" ∷ "SVCB" ∷ "SVCC" ∷ [])
     -- Format 5: the displacement.
-    ∷ row "BR" 0x0100 Disp None
-    ∷ row "BNE" 0x0200 Disp None
-    ∷ row "BEQ" 0x0300 Disp None
-    ∷ row "BGE" 0x0400 Disp None
-    ∷ row "BLT" 0x0500 Disp None
-    ∷ row "BGT" 0x0600 Disp None
-    ∷ row "BLE" 0x0700 Disp None
-    ∷ row "BPL" 0x8000 Disp None
-    ∷ row "BMI" 0x8100 Disp None
-    ∷ row "BHI" 0x8200 Disp None
-    ∷ row "BLOS" 0x8300 Disp None
-    ∷ row "BVC" 0x8400 Disp None
-    ∷ row "BVS" 0x8500 Disp None
-    ∷ row "BCC" 0x8600 Disp None
-    ∷ row "BCS" 0x8700 Disp None
+    ++ run 0x0100 0x100 Disp None ("BR" ∷ "BNE" ∷ "BEQ" ∷ "BGE" ∷ "BLT" ∷ "BGT" ∷ "BLE" ∷ [])
+    ++ run 0x8000 0x100 Disp None ("BPL" ∷ "BMI" ∷ "BHI" ∷ "BLOS" ∷ "BVC" ∷ "BVS" ∷ "BCC" ∷ "BCS" ∷ [])
     -- Format 6: NUMBER,REG and REG,COUNT.
-    ∷ row "ADDI" 0x0800 Count High
-    ∷ row "SUBI" 0x0810 Count High
-    ∷ row "BICI" 0x0820 Count High
-    ∷ row "MOVI" 0x0830 Count High
-    ∷ row "SSRR" 0x8800 High Count
-    ∷ row "SSLR" 0x8810 High Count
-    ∷ row "SSRA" 0x8820 High Count
-    ∷ row "SSLA" 0x8830 High Count
-    ∷ row "SDRR" 0x8E00 High Count
-    ∷ row "SDLR" 0x8E10 High Count
-    ∷ row "SDRA" 0x8E20 High Count
-    ∷ row "SDLA" 0x8E30 High Count
+    ++ run 0x0800 0x10 Count High ("ADDI" ∷ "SUBI" ∷ "BICI" ∷ "MOVI" ∷ [])
+    ++ run 0x8800 0x10 High Count ("SSRR" ∷ "SSLR" ∷ "SSRA" ∷ "SSLA" ∷ [])
+    ++ run 0x8E00 0x10 High Count ("SDRR" ∷ "SDLR" ∷ "SDRA" ∷ "SDLA" ∷ [])
     -- Format 7: DST.
-    ∷ row "ROR" 0x0A00 Dst None
-    ∷ row "ROL" 0x0A40 Dst None
-    ∷ row "TST" 0x0A80 Dst None
-    ∷ row "ASL" 0x0AC0 Dst None
-    ∷ row "SET" 0x0B00 Dst None
-    ∷ row "CLR" 0x0B40 Dst None
-    ∷ row "ASR" 0x0B80 Dst None
-    ∷ row "SWAB" 0x0BC0 Dst None
-    ∷ row "COM" 0x0C00 Dst None
-    ∷ row "NEG" 0x0C40 Dst None
-    ∷ row "INC" 0x0C80 Dst None
-    ∷ row "DEC" 0x0CC0 Dst None
-    ∷ row "IW2" 0x0D00 Dst None
-    ∷ row "SXT" 0x0D40 Dst None
-    ∷ row "TCALL" 0x0D80 Dst None
-    ∷ row "TJMP" 0x0DC0 Dst None
-    ∷ row "RORB" 0x8A00 Dst None
-    ∷ row "ROLB" 0x8A40 Dst None
-    ∷ row "TSTB" 0x8A80 Dst None
-    ∷ row "ASLB" 0x8AC0 Dst None
-    ∷ row "SETB" 0x8B00 Dst None
-    ∷ row "CLRB" 0x8B40 Dst None
-    ∷ row "ASRB" 0x8B80 Dst None
-    ∷ row "SWAD" 0x8BC0 Dst None
-    ∷ row "COMB" 0x8C00 Dst None
-    ∷ row "NEGB" 0x8C40 Dst None
-    ∷ row "INCB" 0x8C80 Dst None
-    ∷ row "DECB" 0x8CC0 Dst None
-    ∷ row "LSTS" 0x8D00 Dst None
-    ∷ row "SSTS" 0x8D40 Dst None
-    ∷ row "ADC" 0x8D80 Dst None
-    ∷ row "SBC" 0x8DC0 Dst None
+    ++ run 0x0A00 0x40 Dst None ("ROR" ∷ "ROL" ∷ "TST" ∷ "ASL" ∷ [])
+    ++ run 0x0B00 0x40 Dst None ("SET" ∷ "CLR" ∷ "ASR" ∷ "SWAB" ∷ [])
+    ++ run 0x0C00 0x40 Dst None ("COM" ∷ "NEG" ∷ "INC" ∷ "DEC" ∷ [])
+    ++ run 0x0D00 0x40 Dst None ("IW2" ∷ "SXT" ∷ "TCALL" ∷ "TJMP" ∷ [])
+    ++ run 0x8A00 0x40 Dst None ("RORB" ∷ "ROLB" ∷ "TSTB" ∷ "ASLB" ∷ [])
+    ++ run 0x8B00 0x40 Dst None ("SETB" ∷ "CLRB" ∷ "ASRB" ∷ "SWAD" ∷ [])
+    ++ run 0x8C00 0x40 Dst None ("COMB" ∷ "NEGB" ∷ "INCB" ∷ "DECB" ∷ [])
+    ++ run 0x8D00 0x40 Dst None ("LSTS" ∷ "SSTS" ∷ "ADC" ∷ "SBC" ∷ [])
     -- Format 8: the source and the destination register of a block move.
-    ∷ row "MBWU" 0x0E00 Mid Reg
-    ∷ row "MBWD" 0x0E40 Mid Reg
-    ∷ row "MBBU" 0x0E80 Mid Reg
-    ∷ row "MBBD" 0x0EC0 Mid Reg
-    ∷ row "MBWA" 0x0F00 Mid Reg
-    ∷ row "MBBA" 0x0F40 Mid Reg
-    ∷ row "MABW" 0x0F80 Mid Reg
-    ∷ row "MABB" 0x0FC0 Mid Reg
+    ++ run 0x0E00 0x40 Mid Reg ("MBWU" ∷ "MBWD" ∷ "MBBU" ∷ "MBBD" ∷ [])
+    ++ run 0x0F00 0x40 Mid Reg ("MBWA" ∷ "MBBA" ∷ "MABW" ∷ "MABB" ∷ [])
     -- Format 9: REG,DST; JSR and LEA have no mode 0; SOB has an offset.
-    ∷ row "JSR" 0x7000 High Addr
-    ∷ row "LEA" 0x7200 High Addr
-    ∷ row "ASH" 0x7400 High Dst
-    ∷ row "SOB" 0x7600 High Arg6
-    ∷ row "XCH" 0x7800 High Dst
-    ∷ row "ASHC" 0x7A00 High Dst
-    ∷ row "MUL" 0x7C00 High Dst
-    ∷ row "DIV" 0x7E00 High Dst
+    ++ run 0x7000 0x200 High Addr ("JSR" ∷ "LEA" ∷ [])
+    ++ run 0x7400 0x200 High Dst ("ASH" ∷ [])
+    ++ run 0x7600 0x200 High Arg6 ("SOB" ∷ [])
+    ++ run 0x7800 0x200 High Dst ("XCH" ∷ "ASHC" ∷ "MUL" ∷ "DIV" ∷ [])
     -- Format 10: SRC,DST.
-    ∷ row "ADD" 0x1000 Src Dst
-    ∷ row "SUB" 0x2000 Src Dst
-    ∷ row "AND" 0x3000 Src Dst
-    ∷ row "BIC" 0x4000 Src Dst
-    ∷ row "BIS" 0x5000 Src Dst
-    ∷ row "XOR" 0x6000 Src Dst
-    ∷ row "CMP" 0x9000 Src Dst
-    ∷ row "BIT" 0xA000 Src Dst
-    ∷ row "MOV" 0xB000 Src Dst
-    ∷ row "CMPB" 0xC000 Src Dst
-    ∷ row "MOVB" 0xD000 Src Dst
-    ∷ row "BISB" 0xE000 Src Dst
+    ++ run 0x1000 0x1000 Src Dst ("ADD" ∷ "SUB" ∷ "AND" ∷ "BIC" ∷ "BIS" ∷ "XOR" ∷ [])
+    ++ run 0x9000 0x1000 Src Dst ("CMP" ∷ "BIT" ∷ "MOV" ∷ "CMPB" ∷ "MOVB" ∷ "BISB" ∷ [])
     -- Any other word.
-    ∷ row ".WORD" 0x0000 Word None
-    ∷ []
+    ++ run 0x0000 1 Word None (".WORD" ∷ [])
 
 abbrev pub noRow : Row
-noRow = row "" 0 None None
+noRow = record { name = []; base = 0; first = None; second = None }
 
 unfoldable pub theRow : ℕ → Row
 theRow k = getD rows k noRow
@@ -197,7 +114,7 @@ placeOf Word = place 1 65536
 
 -- the rows as the program has them, each in as many bytes
 abbrev pub rowWidth : ℕ
-rowWidth = 11
+rowWidth = 12
 
 abbrev pub letterOf : Kind → ℕ
 letterOf None = code "-"
@@ -233,7 +150,7 @@ kindAs c =
 abbrev pub rowBytes : Row → List ℕ
 rowBytes r =
     getD (r .name) 0 32 ∷ getD (r .name) 1 32 ∷ getD (r .name) 2 32 ∷ getD (r .name) 3 32 ∷ getD (r .name) 4 32
-    ∷ (hex4 (r .base) ++ (letterOf (r .first) ∷ letterOf (r .second) ∷ []))
+    ∷ (hex4 (r .base) ++ (letterOf (r .first) ∷ letterOf (r .second) ∷ 32 ∷ []))
 
 abbrev pub tableBytes : List Row → List ℕ
 tableBytes [] = []

@@ -23,7 +23,7 @@ use Rattle.optext.specs.declared.ReadBack.the-variants.{Words, WordsShort}
 use Rattle.optext.specs.Line.{taken}
 use Rattle.optext.specs.Answer.{writtenPage, writeOf, Writes, readPage}
 use Rattle.optext.specs.Words.{Accepts, RefusedText, Reads}
-use Rattle.optext.proofs.Laws.Theorems.{len-3}
+use Rattle.optext.proofs.Laws.Theorems.{words-of}
 use Rattle.optext.proofs.Laws.Calls.{lined}
 use Rattle.optext_c.specs.Calls.{lent, wordsIn, lentWhy, textWords, writeCall, wordsRead, ReadCall}
 
@@ -151,7 +151,7 @@ module _ (t b a : List ℕ) where
   pub read-done : (ws e b′ a′ : List ℕ) (r : ReadBack) (n : ℕ) → answerWhy a ≡ 0 → length b % 2 ≡ 0 → ws ≡ wordsIn b → Reads (readPage r) t ws e → r ≡ Words n → length e ≡ 3
       → b′ ≡ inFrontOf (bytesIn (take n (getD e 0 0 ∷ getD e 1 0 ∷ getD e 2 0 ∷ []))) b → a′ ≡ threeWords n 0 0 → ReadCall t b a (told 0 (b′, a′))
   read-done ws e b′ a′ r n h k q p d l u v =
-      read-with (readPage (Words n)) e (told 0 (b′, a′)) h k (subst (λ (z : List ℕ). Reads (readPage (Words n)) t z e) q (subst (λ (z : ReadBack). Reads (readPage z) t ws e) d p)) (rw (u, v, len-3 e l) refl)
+      read-with (readPage (Words n)) e (told 0 (b′, a′)) h k (subst (λ (z : List ℕ). Reads (readPage (Words n)) t z e) q (subst (λ (z : ReadBack). Reads (readPage z) t ws e) d p)) (rw (u, v, words-of 3 e l (omega arith)) refl)
 
   pub read-short : {A : Type 0} (ws e : List ℕ) (r : ReadBack) → Reads (readPage r) t ws e → r ≡ WordsShort → length ws ≡ 3 → A
   read-short ws e r p d l = absurd (no-room (subst (λ (z : ReadBack). Reads (readPage z) t ws e) d p))

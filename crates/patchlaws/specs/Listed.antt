@@ -8,13 +8,13 @@ use lib.ListN.{length, take, getD}
 use Rattle.wordbytes.specs.Words.{wordAt, byteAt}
 use Rattle.benchline.specs.Line.{dashes}
 use Rattle.optext.specs.Line.{wordText, textOf}
-use Rattle.listing.specs.declared.Found.{Found}
-use Rattle.listing.specs.declared.Found.the-variants.{Nothing, Cut, Whole}
-use Rattle.listing.specs.Listing.{stands, wordsAt, foundAt, line, nextAt, listingOf}
+use Rattle.listing.specs.declared.CodeFound.{CodeFound}
+use Rattle.listing.specs.declared.CodeFound.the-variants.{Nothing, Cut, Whole}
+use Rattle.listing.specs.Listing.{stands, wordsAt, foundAt, line, nextAt, listingOf, imageWords}
 use Rattle.assembler.specs.Section.{sectionEntry, sectionOf}
 use Rattle.patchlaws.specs.Pieces.{Piece, pieceLines}
 use mathlib.Core.Path.{_≡_}
-use Rattle.assembler.specs.Answer.{sectionWritten, asmOf}
+use Rattle.assembler.specs.Answer.{sectionWritten, asmOf, longestSection}
 use Rattle.patchlaws.specs.Padded.{sourceOf}
 
 -- ---- the pieces of a listing
@@ -23,7 +23,7 @@ use Rattle.patchlaws.specs.Padded.{sourceOf}
 abbrev pub piece : ℕ → List ℕ → List ℕ → Piece
 piece a ws t = record { at = a; words = ws; text = t }
 
-unfoldable pub shownBy : ℕ → List ℕ → Found → List Piece
+unfoldable pub shownBy : ℕ → List ℕ → CodeFound → List Piece
 shownBy a ws Nothing = []
 shownBy a ws Cut = piece a (take 1 ws) (wordText (getD ws 0 0)) ∷ []
 shownBy a ws (Whole n) = piece a (take n ws) (textOf (take n ws)) ∷ []
@@ -39,10 +39,10 @@ module _ (map image : List ℕ) (last : ℕ) where
   wordsFrom (suc n) a = cond (stands map last a) (sectionEntry a (wordAt image a) ∷ wordsFrom n (a + 2)) (wordsFrom n (a + 2))
 
 unfoldable pub piecesOf : ℕ → ℕ → List ℕ → List ℕ → List Piece
-piecesOf first last map image = piecesFrom map image last 32768 first
+piecesOf first last map image = piecesFrom map image last imageWords first
 
 unfoldable pub fittedWords : ℕ → ℕ → List ℕ → List ℕ → List ℕ
-fittedWords first last map image = wordsFrom map image last 32768 first
+fittedWords first last map image = wordsFrom map image last imageWords first
 
 -- ---- they are what the listing's lines show
 
@@ -60,6 +60,6 @@ module _ (first last : ℕ) (map image : List ℕ) where
     -- A LISTING'S TEXTS, EACH AFTER .ORG, ARE ASSEMBLED TO THE FITTED WORDS OF THE STRETCH: in an image of bytes, from an even address on, where the source has
     -- not over 1,024 lines and the output is long enough
     abbrev pub ListingAgain : Type 0
-    ListingAgain = (out : List ℕ) → length (piecesOf first last map image) ≤ 512 → 12290 ≤ length out
+    ListingAgain = (out : List ℕ) → length (piecesOf first last map image) ≤ 512 → longestSection ≤ length out
         → asmOf (sourceOf (pieceLines (piecesOf first last map image))) out
         ≡ sectionWritten (sectionOf (fittedWords first last map image)) out

@@ -9,7 +9,7 @@ use Rattle.patchline.specs.declared.oneline.How.the-variants.{Plain}
 use Rattle.patchline.specs.Line.{says, saidOf}
 use Rattle.assembler.specs.Section.{sectionEntry, sectionOf}
 use Rattle.patchlaws.specs.Again.{originLine}
-use Rattle.assembler.specs.Answer.{sectionWritten, asmOf}
+use Rattle.assembler.specs.Answer.{sectionWritten, asmOf, longestSection}
 use Rattle.patchlaws.specs.Padded.{sourceOf}
 
 -- ---- pieces: words from an address on, and the text that gives them
@@ -57,5 +57,5 @@ module _ (ps : List Piece) (r : Rise 0 ps) where
 
   -- THE SECTION OF THE PIECES IS THEIR WORDS
   abbrev pub PiecesAgain : Type 0
-  PiecesAgain = (out : List ℕ) → 12290 ≤ length out → length ps ≤ 512
+  PiecesAgain = (out : List ℕ) → longestSection ≤ length out → length ps ≤ 512
       → asmOf (sourceOf (pieceLines ps)) out ≡ sectionWritten (sectionOf (entriesOfPieces ps)) out

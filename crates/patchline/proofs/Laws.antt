@@ -2,7 +2,7 @@
 pub mod Joined
 pub mod Search
 use mathlib.Core.Path.{_≡_, refl, ap, sym, _∙_}
-use mathlib.Core.Bool.{Bool, true, false, cond, _&&_, true≢false}
+use mathlib.Core.Bool.{Bool, true, false, cond, _&&_, true≢false, and-false}
 use mathlib.Core.List.{List, [], _∷_, _++_}
 use mathlib.Core.Logic.{_⊎_, ⊎-elim}
 use Prim.Native.Nat.{ℕ, zero, suc, _+_, _-_, _≤_, _<_}
@@ -47,13 +47,9 @@ end-step t (suc i) b h e n =
     rw (z, eq-eqb (getD t i 0) 32 (sym (rw z at e) ∙ n)) refl
 
 -- tests joined
-and-no : (a : Bool) → (a && false) ≡ false
-and-no true = refl
-and-no false = refl
-
 pub gives-short : (u l : List ℕ) → length l ≤ length u → false ≡ gives u l
 unfolding gives
-gives-short u l h = rw (List·getD-eq-default l 0 h) (sym (and-no (sameText (take (length u) l) u)))
+gives-short u l h = rw (List·getD-eq-default l 0 h) (sym (and-false (sameText (take (length u) l) u)))
 
 -- a line's label
 module _ (l : List ℕ) (n : ℕ) (e : n ≡ pastOf 90 l) where

@@ -1,7 +1,7 @@
 -- A text over 33 characters is no op code's, whatever digits stand for its labels: an op code's text has 24 at most, a name gives
 -- way to two digits or more, and an alias to a name that is one shorter at most.
 use mathlib.Core.Path.{_≡_, refl, ap}
-use mathlib.Core.Bool.{Bool, true, false, cond}
+use mathlib.Core.Bool.{cond}
 use mathlib.Core.List.{List, [], _++_}
 use mathlib.Core.Logic.{⊎-elim}
 use Prim.Native.Nat.{ℕ, suc, _+_, _-_, _≤_, _<_}
@@ -9,12 +9,10 @@ use native.Mathlib.Omega.{arith}
 use lib.ListN.{length, drop, length-append, length-take, length-drop}
 use lib.Seq.{length-take-le}
 use Rattle.hexdigits.specs.Digits.{letters}
-use Rattle.optext.specs.Line.{opText}
-use Rattle.optext.specs.Guess.{guessOf}
-use Rattle.optext.specs.Words.{wordsOf}
-use Rattle.optext.proofs.Laws.Longest.{line-le}
-use Rattle.optext.specs.Read.{sameText, readFrom, wordsOfText}
+use Rattle.optext.specs.Read.{sameText, wordsOfText}
 use Rattle.optext.proofs.Laws.Read.{same-eq}
+use Rattle.optext.proofs.Laws.Longest.{text-le}
+use Rattle.optext.proofs.Laws.Reader.{read-refuses}
 use Rattle.optext.proofs.Laws.Choose.{lt-cases, bool-cases}
 use Rattle.patchline.proofs.Laws.Search.{first-ge}
 use Rattle.patchline.specs.Text.{slice, findFrom, isAt, isName}
@@ -23,15 +21,7 @@ use Rattle.patchline.proofs.Laws.{name-six, filled-label, filled-plain,
 
 -- no op code has a text over 24
 read-long : (s : List ℕ) → 24 < length s → wordsOfText s ≡ []
-unfolding wordsOfText readFrom
-read-long s h = go (sameText line s) refl
-  where
-    line : List ℕ
-    line = opText (guessOf s .w) (guessOf s .x) (guessOf s .y)
-
-    go : (b : Bool) → sameText line s ≡ b → cond b (wordsOf (guessOf s .w) (guessOf s .x) (guessOf s .y)) [] ≡ []
-    go true e = absurd (let z = ap length (same-eq line s e) in let k = line-le (guessOf s .w) (guessOf s .x) (guessOf s .y) in omega arith)
-    go false e = refl
+read-long s h = read-refuses s (λ i. let k = text-le (i .words) in let e = ap length (i .text) in omega arith)
 
 -- what stands for an alias, and for an operand
 alias-ge : (h : List ℕ) → length h ≤ length (aliasOf h) + 1

@@ -1,7 +1,7 @@
 -- The plate: formats by high byte.
 use Prim.Native.Nat.{ℕ}
 use mathlib.Core.Bool.{Bool, _&&_, cond}
-use lib.Dec.{eqb, leb, ltb}
+use lib.Dec.{eqb, leb}
 
 -- h is one of lo to hi
 abbrev within : ℕ → ℕ → ℕ → Bool
@@ -23,11 +23,3 @@ formatOf h =
     (cond (within 0x10 0x6f h) 10
     (cond (within 0x90 0xef h) 10
     11)))))))))))
-
--- ---- as the code finds it, by the halves of the high byte: the rows 00 to 0F and 80 to 8F, by the lower
-
-abbrev pub row0 : ℕ → ℕ
-row0 k = cond (eqb k 0) 1 (cond (ltb k 8) 5 (cond (ltb k 10) 6 (cond (ltb k 14) 7 8)))
-
-abbrev pub row8 : ℕ → ℕ
-row8 k = cond (ltb k 8) 5 (cond (ltb k 10) 6 (cond (ltb k 14) 7 6))

@@ -2,6 +2,7 @@
 ghost use mathlib.Core.Path.{_≡_};
 ghost use Prim.Native.Nat.{_/_};
 ghost use Rattle.plate.specs.Plate as Spec;
+ghost use Rattle.plate.specs.Inner as Inner;
 
 const PLATE: [u8; 256] = [
     1,
@@ -271,7 +272,7 @@ pub fn format(op: u16) -> u8
 
 // The row 00 to 0F, by the lower half of the high byte.
 fn row_0(k: u16) -> u8
-    ensures { λ r. ⌜ r ≡ Spec.row0 k ⌝ }
+    ensures { λ r. ⌜ r ≡ Inner.row0 k ⌝ }
 {
     if k == 0 {
         return 1;
@@ -290,7 +291,7 @@ fn row_0(k: u16) -> u8
 
 // The row 80 to 8F.
 fn row_8(k: u16) -> u8
-    ensures { λ r. ⌜ r ≡ Spec.row8 k ⌝ }
+    ensures { λ r. ⌜ r ≡ Inner.row8 k ⌝ }
 {
     if k < 8 {
         return 5;

@@ -8,7 +8,7 @@ use Rattle.refusal.specs.Numbers.{imageLength, mapLength, mapByte, setup
 use Rattle.refusal.specs.Page.{first}
 
 -- every element passes
-unfoldable pub allOf : (ℕ → Bool) → List ℕ → Bool
+unfoldable pub allOf : {A : Type 0} → (A → Bool) → List A → Bool
 allOf p [] = true
 allOf p (x ∷ xs) = cond (p x) (allOf p xs) false
 
@@ -27,15 +27,19 @@ boardRefusal size map =
     (first (cond (eqb (length map) 256) 0 mapLength)
     (cond (allOf flat map) 0 mapByte))
 
+-- the most line words of a run
+abbrev pub mostLineWords : ℕ
+mostLineWords = 4096
+
 unfoldable pub linesRefusal : List ℕ → ℕ
-linesRefusal lines = first (cond (leb (length lines) 4096) 0 linesLength) (cond (allOf plain lines) 0 lineBit)
+linesRefusal lines = first (cond (leb (length lines) mostLineWords) 0 linesLength) (cond (allOf plain lines) 0 lineBit)
 
 -- the jumpers of the power-up option, those of the halt option, the address register
-abbrev pub setUp : ℕ → ℕ → ℕ → Bool
-setUp p h r = ltb p 4 && ltb h 4 && ltb r 64
+abbrev pub jumpersFit : ℕ → ℕ → ℕ → Bool
+jumpersFit p h r = ltb p 4 && ltb h 4 && ltb r 64
 
 unfoldable pub powerRefusal : ℕ → List ℕ → ℕ → ℕ → ℕ → ℕ
-powerRefusal size map p h r = first (boardRefusal size map) (cond (setUp p h r) 0 setup)
+powerRefusal size map p h r = first (boardRefusal size map) (cond (jumpersFit p h r) 0 setup)
 
 unfoldable pub stepRefusal : ℕ → List ℕ → ℕ → ℕ → ℕ → ℕ → ℕ
 stepRefusal size map p h r line = first (powerRefusal size map p h r) (cond (plain line) 0 lineBit)

@@ -8,6 +8,9 @@ ghost use Rattle.refusal.specs.Refusal as Spec;
 
 pub mod number;
 
+// The most line words of a run.
+pub const MOST_LINE_WORDS: usize = 4096;
+
 // Bits 2, 4 to 6 and 12 to 15 of a line word are not used.
 pub fn plain(line: u16) -> bool
     ensures { λ r. ⌜ r ≡ Spec.plain line ⌝ }
@@ -61,7 +64,7 @@ fn all_flat(map: &[u8]) -> bool
 
 // Joined by |, the words are plain where each of them is: no test in the loop.
 fn all_plain(lines: &[u16]) -> bool
-    requires { ⌜ length (now lines) ≤ 4096 ⌝ }
+    requires { ⌜ length (now lines) ≤ Spec.mostLineWords ⌝ }
     ensures { λ r. ⌜ r ≡ Spec.allOf Spec.plain (now (lines .entry)) ⌝ }
 {
     let n = lines.len() as u16;
@@ -93,7 +96,7 @@ pub fn board_refusal(size: usize, map: &[u8]) -> u8
 fn lines_refusal(lines: &[u16]) -> u8
     ensures { λ r. ⌜ r ≡ Spec.linesRefusal (now (lines .entry)) ⌝ }
 {
-    if 4096 < lines.len() {
+    if MOST_LINE_WORDS < lines.len() {
         return number::LINES_LENGTH;
     }
     if !all_plain(lines) {
@@ -103,8 +106,8 @@ fn lines_refusal(lines: &[u16]) -> u8
 }
 
 // The jumpers of the power-up option, those of the halt option, the address register.
-fn set_up(p: u8, h: u8, r: u8) -> bool
-    ensures { λ b. ⌜ b ≡ Spec.setUp p h r ⌝ }
+fn jumpers_fit(p: u8, h: u8, r: u8) -> bool
+    ensures { λ b. ⌜ b ≡ Spec.jumpersFit p h r ⌝ }
 {
     (p < 4) & (h < 4) & (r < 64)
 }
@@ -117,7 +120,11 @@ pub fn power_refusal(size: usize, map: &[u8], p: u8, h: u8, r: u8) -> u8
     if why != 0 {
         return why;
     }
-    if set_up(p, h, r) { 0 } else { number::SETUP }
+    if jumpers_fit(p, h, r) {
+        0
+    } else {
+        number::SETUP
+    }
 }
 
 pub fn step_refusal(size: usize, map: &[u8], p: u8, h: u8, r: u8, line: u16) -> u8

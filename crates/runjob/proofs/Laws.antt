@@ -25,7 +25,7 @@ use Rattle.benchline.specs.Line.{printedPage, printOf}
 use Rattle.benchline.proofs.Laws.{line-length}
 use Rattle.benchline.proofs.Laws.Printed.{printed-fits}
 use Rattle.endline.specs.Report.{endOn, benchBoard, endText}
-use Rattle.runjob.specs.declared.Begun.{Begun}
+use Rattle.runjob.specs.declared.Started.{Started}
 use Rattle.runjob.specs.Bench.{upOf, Accepted, RunBegins, runIn, ranAt, jobRun, endLine, benchOf}
 
 -- ---- the beginning: the buffers of an accepted job have their lengths, and its line words are few
@@ -57,7 +57,7 @@ module _ (input image map lines : List ℕ) where
   unfolding jobRun
   job-refused why e n = call-refused (whyRead (length image) (length map) (length lines) input) (ranAt input (runIn input)) (image, map, lines) why e n
 
-  pub job-done : {b : Begun} {i m l : List ℕ} (ran : Ran) (n : List ℕ) → whyRead (length image) (length map) (length lines) input ≡ 0 → RunBegins input b i m l
+  pub job-done : {b : Started} {i m l : List ℕ} (ran : Ran) (n : List ℕ) → whyRead (length image) (length map) (length lines) input ≡ 0 → RunBegins input b i m l
       → ranOf ran n ≡ runOf benchBoard m (take (b .count) l) (b .state) i → left (answered (ranPage ran)) (n, m, l) ≡ jobRun input image map lines
   unfolding jobRun runIn lineWords
   job-done {b} {i} {m} {l} ran n none h e =

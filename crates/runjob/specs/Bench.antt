@@ -13,7 +13,7 @@ use Rattle.job.specs.Job.{linesAt, imageOf, mapOf, linesOf, lineWords, whyRead}
 use Rattle.hexdigits.specs.Over.{inFrontOf}
 use Rattle.benchline.specs.Line.{printWhy}
 use Rattle.endline.specs.Report.{benchBoard, endText}
-use Rattle.runjob.specs.declared.Begun.{Begun}
+use Rattle.runjob.specs.declared.Started.{Started}
 
 -- ---- a job's beginning: its board after power-up
 
@@ -25,7 +25,7 @@ pub record Accepted (input image map lines : List ℕ) : Type 0 where
   pub none : whyRead (length image) (length map) (length lines) input ≡ 0
 
 -- and what is promised: the state, the number of line words and the buffers; the board is good
-pub record RunBegins (input : List ℕ) (b : Begun) (image map lines : List ℕ) : Type 0 where
+pub record RunBegins (input : List ℕ) (b : Started) (image map lines : List ℕ) : Type 0 where
   pub powered : up (b .state) image ≡ upOf input
   pub mapIs : map ≡ mapOf input
   pub linesIs : lines ≡ linesOf input

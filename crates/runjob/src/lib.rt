@@ -17,19 +17,19 @@ ghost use Rattle.endline.specs.Report.{benchBoard};
 ghost use Rattle.runjob.specs.Bench as Spec;
 
 // Where a job begins: the state after power-up, and the number of its line words.
-pub struct Begun {
+pub struct Started {
     pub state: State,
     pub count: u16,
 }
 
 // Reads a job that is known not to be refused into the lent buffers, and powers up bench's board.
-pub fn begin(input: &[u8], image: &mut [u8], map: &mut [u8], lines: &mut [u16]) -> Begun
+pub fn begin(input: &[u8], image: &mut [u8], map: &mut [u8], lines: &mut [u16]) -> Started
     requires { ⌜ Spec.Accepted (now input) (now image) (now map) (now lines) ⌝ }
     ensures { λ r. ⌜ Spec.RunBegins (now (input .entry)) r (now (image .exit)) (now (map .exit)) (now (lines .exit)) ⌝ }
 {
     let count = job::fill(input, image, map, lines);
     let state = step::power(image, map, bench_board());
-    Begun { state, count }
+    Started { state, count }
 }
 
 // Runs over the first line words of the buffer, on bench's board.

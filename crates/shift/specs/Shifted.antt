@@ -5,7 +5,7 @@ use lib.Dec.{ltb, eqb}
 use Rattle.wordmath.specs.declared.Flags.{Flags}
 use Rattle.wordmath.specs.declared.Done.{Done}
 use Rattle.wordmath.specs.declared.Pair.{Pair}
-use Rattle.shift.specs.declared.Turn.{Turn}
+use Rattle.shift.specs.declared.BitsAndC.{BitsAndC}
 use Rattle.opcodes.specs.declared.Way.{Way}
 use Rattle.opcodes.specs.declared.Way.the-variants.{RightRotate, LeftRotate, RightArith, LeftArith}
 use Rattle.wordmath.specs.Number.{bit, differ}
@@ -19,7 +19,7 @@ nBit w RightArith = 7
 nBit w LeftArith = w - 1
 
 -- the register as it is left, N its bit k, V exclusive or of N and C
-abbrev pub leaves : ℕ → Turn → Done
+abbrev pub leaves : ℕ → BitsAndC → Done
 leaves k t = record { value = t .x; flags = record { n = bit k (t .x); z = eqb (t .x) 0; v = differ (bit k (t .x)) (t .c); c = t .c } }
 
 -- SSRR, SSLR, SSRA, SSLA
@@ -43,7 +43,7 @@ ashOf x k =
     (leaves 15 (turns 16 RightArith (256 - k) (record { x = x; c = true }))))
 
 -- the pair of registers as the double shifts leave it: N is bit k of the register r, and Z is set if r is 0
-abbrev pub leavesPair : ℕ → ℕ → Turn → Pair
+abbrev pub leavesPair : ℕ → ℕ → BitsAndC → Pair
 leavesPair k r t =
     record {
       low = t .x % 2 ^ 16;
@@ -65,7 +65,7 @@ doubleOf k n low high f =
     leavesPair (nBit 16 k) (looked k (t .x)) t
 
 -- the pair of registers as ASHC leaves it: N and Z from all 32 bits, V reset
-abbrev pub leavesLong : Turn → Pair
+abbrev pub leavesLong : BitsAndC → Pair
 leavesLong t =
     record {
       low = t .x % 2 ^ 16;

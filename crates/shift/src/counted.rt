@@ -1,7 +1,7 @@
 // Format 6: a register or a pair of registers by a count, 1 to 16.
 ghost use mathlib.Core.Path.{_≡_};
 ghost use Rattle.shift.specs.Shifted.{singleOf, doubleOf};
-use super::Turn;
+use super::BitsAndC;
 use super::shifted::leave;
 use super::shifted::leave_pair;
 use super::shifted::look;
@@ -21,7 +21,7 @@ pub fn single(way: Way, count: u16, x: u16, f: Flags) -> Done
         16,
         way,
         count,
-        Turn {
+        BitsAndC {
             x: x as u32,
             c: f.c,
         },
@@ -38,7 +38,7 @@ pub fn double(way: Way, count: u16, low: u16, high: u16, f: Flags) -> Pair
         32,
         way,
         count,
-        Turn {
+        BitsAndC {
             x: high as u32 * 0x1_0000 + low as u32,
             c: f.c,
         },

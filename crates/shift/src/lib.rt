@@ -6,7 +6,7 @@ pub mod signed;
 mod turning;
 
 // A number that is being shifted and the C flag beside it.
-pub(crate) struct Turn {
+pub(crate) struct BitsAndC {
     pub x: u32,
     pub c: bool,
 }

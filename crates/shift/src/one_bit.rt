@@ -1,7 +1,7 @@
 // Format 7: a word or a byte by one bit.
 ghost use mathlib.Core.Path.{_≡_};
 ghost use Rattle.shift.specs.Shifted.{oneBitOf};
-use super::Turn;
+use super::BitsAndC;
 use super::shifted::leave;
 use super::shifted::n_bit;
 use super::turning::turn;
@@ -17,7 +17,7 @@ pub fn one_bit16(way: Way, d: u16, f: Flags) -> Done
     let t = turn(
         16,
         way,
-        Turn {
+        BitsAndC {
             x: d as u32,
             c: f.c,
         },
@@ -34,7 +34,7 @@ pub fn one_bit8(way: Way, d: u8, f: Flags) -> Done
         turn(
             8,
             way,
-            Turn {
+            BitsAndC {
                 x: d as u32,
                 c: f.c,
             },

@@ -2,7 +2,7 @@
 ghost use mathlib.Core.Path.{_≡_};
 ghost use Prim.Native.Nat.{_<_, _^_};
 ghost use Rattle.shift.specs.Shifted.{nBit, leaves, leavesPair, looked, leavesLong};
-use super::Turn;
+use super::BitsAndC;
 use opcodes::Way;
 use wordmath::Done;
 use wordmath::Flags;
@@ -19,7 +19,7 @@ pub(crate) fn n_bit(way: Way) -> u16
     }
 }
 
-pub(crate) fn leave(k: u16, t: Turn) -> Done
+pub(crate) fn leave(k: u16, t: BitsAndC) -> Done
     requires { ⌜ (k < 16) × (t .x < 2 ^ 16) ⌝ }
     ensures { λ r. ⌜ r ≡ leaves k t ⌝ }
 {
@@ -48,7 +48,7 @@ pub(crate) fn look(way: Way, x: u32) -> u16
     }
 }
 
-pub(crate) fn leave_pair(k: u16, r: u16, t: Turn) -> Pair
+pub(crate) fn leave_pair(k: u16, r: u16, t: BitsAndC) -> Pair
     requires { ⌜ k < 16 ⌝ }
     ensures { λ p. ⌜ p ≡ leavesPair k r t ⌝ }
 {
@@ -65,7 +65,7 @@ pub(crate) fn leave_pair(k: u16, r: u16, t: Turn) -> Pair
     }
 }
 
-pub(crate) fn leave_long(t: Turn) -> Pair
+pub(crate) fn leave_long(t: BitsAndC) -> Pair
     ensures { λ r. ⌜ r ≡ leavesLong t ⌝ }
 {
     let x = t.x;

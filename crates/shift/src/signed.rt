@@ -1,7 +1,7 @@
 // Format 9: ASH and ASHC, and the indicators before.
 ghost use mathlib.Core.Path.{_≡_};
 ghost use Rattle.shift.specs.Shifted.{preset, ashOf, ashcOf};
-use super::Turn;
+use super::BitsAndC;
 use super::shifted::leave;
 use super::shifted::leave_long;
 use super::turning::shift;
@@ -32,7 +32,7 @@ pub fn ash(x: u16, k: u8) -> Done
             flags: preset(),
         };
     }
-    let start = Turn {
+    let start = BitsAndC {
         x: x as u32,
         c: true,
     };
@@ -54,7 +54,7 @@ pub fn ashc(low: u16, high: u16, k: u8) -> Pair
             flags: preset(),
         };
     }
-    let start = Turn {
+    let start = BitsAndC {
         x: high as u32 * 0x1_0000 + low as u32,
         c: true,
     };

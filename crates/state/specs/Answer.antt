@@ -3,8 +3,8 @@ use Prim.Native.Nat.{ℕ}
 use mathlib.Core.List.{List}
 use Rattle.board.specs.Work.{Work}
 use Rattle.board.specs.Exec.{Store, beside, Now, good, gone, Did}
-use Rattle.board.specs.declared.Kept.{Kept}
-use Rattle.board.specs.declared.Kept.the-variants as Kept
+use Rattle.board.specs.declared.Stored.{Stored}
+use Rattle.board.specs.declared.Stored.the-variants as Stored
 use Rattle.state.specs.declared.State.{State}
 use Rattle.state.specs.declared.Went.{Went}
 use Rattle.state.specs.declared.Went.the-variants.{Done, Blank}
@@ -29,9 +29,9 @@ tookAs (Took.Blank a) st = gone a st
 
 -- ---- a write that was not answered ends the work there
 
-abbrev pub unwritten : Kept → Went
-unwritten Kept.Done = Blank 0
-unwritten (Kept.Blank a) = Blank a
+abbrev pub unwritten : Stored → Went
+unwritten Stored.Done = Blank 0
+unwritten (Stored.Blank a) = Blank a
 
 -- ---- a word that was not popped or fetched ends the work there
 

@@ -4,7 +4,7 @@ use Prim.Native.Nat.{ℕ, _/_, _<_}
 use mathlib.Core.Bool.{Bool, true}
 use mathlib.Core.List.{List}
 use mathlib.Core.Path.{_≡_}
-use Rattle.board.specs.Work.{fitted, writable, wordAt}
+use Rattle.board.specs.Work.{fitted, writable, imageWord}
 use Rattle.state.specs.declared.State.{State}
 use Rattle.state.specs.declared.Outside.{Outside}
 use Rattle.state.specs.declared.Mode.the-variants.{Running}
@@ -30,7 +30,7 @@ pub record Ready (map : List ℕ) (op n : ℕ) (s : State) (m : List ℕ) : Type
   pub running : s .mode ≡ Running
   pub address : s .regs .pc < 65536
   pub here : fitted map (s .regs .pc) ≡ true
-  pub code : wordAt m (s .regs .pc) ≡ op
+  pub code : imageWord m (s .regs .pc) ≡ op
   pub reads : (k : ℕ) → k < n → fitted map (readsAt op s k) ≡ true
   pub writes : (k : ℕ) → k < n → writable map (writesAt op s k) ≡ true
   pub apart : (k : ℕ) → k < n → writesAt op s k / 2 ≡ s .regs .pc / 2 → ⊥

@@ -29,7 +29,7 @@ plainPs out bus s =
 -- ---- the step
 
 -- 1. I3: PC from 16; then 2 and 3, where I0 and I1 are heard
-abbrev pub plainAsked : Bool → Outside → Kind → Kind
+abbrev plainAsked : Bool → Outside → Kind → Kind
 plainAsked hearing out other = cond (out .i3) Restarts (cond hearing (raised out other) other)
 
 -- There is no mode 5.

@@ -3,7 +3,7 @@ use Prim.Native.Nat.{ℕ}
 use mathlib.Core.Bool.{true, false, _||_, cond}
 use mathlib.Core.List.{List}
 use mathlib.Core.Path.{_≡_}
-use Rattle.board.specs.Work.{fitted, wordAt}
+use Rattle.board.specs.Work.{fitted, imageWord}
 use Rattle.state.specs.declared.State.{State}
 use Rattle.state.specs.declared.Outside.{Outside}
 use Rattle.state.specs.declared.Mode.the-variants.{Running}
@@ -16,7 +16,7 @@ pub record Comes (op : ℕ) (map : List ℕ) (out : Outside) (s : State) (m : Li
   pub runs : s .mode ≡ Running
   pub kind : kindOf s out ≡ OpCode
   pub there : fitted map (s .regs .pc) ≡ true
-  pub code : wordAt m (s .regs .pc) ≡ op
+  pub code : imageWord m (s .regs .pc) ≡ op
 
 -- I0 or I1 asks, and I3 does not
 pub record Asks (out : Outside) : Type 0 where

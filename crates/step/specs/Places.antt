@@ -48,15 +48,15 @@ pickUpRegisters s = do
   pickUpFour s 4 5 6 7
 
 -- Saved with the PS formed now; then nothing is done until I3 is clear.
-unfoldable pub save : Outside → State → Work State
-save out s = do
+unfoldable pub savePlaces : Outside → State → Work State
+savePlaces out s = do
   keepRegisters s
   Work.store (savePlace 8) (psOf out false s)
   give (withMode s Saved)
 
 -- Picked up, PS as if popped, and running.
-unfoldable pub restore : State → Work State
-restore s = do
+unfoldable pub restorePlaces : State → Work State
+restorePlaces s = do
   s ← pickUpRegisters s
   ps ← load (savePlace 8)
   give (withMode (withStatus s ps) Running)

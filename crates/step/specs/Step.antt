@@ -1,31 +1,27 @@
 -- One step.
 use Prim.Native.Nat.{ℕ, _+_, _*_, _%_}
-use mathlib.Core.Bool.{Bool, true, false, not, _&&_, _||_, cond}
+use mathlib.Core.Bool.{Bool, true, false, not, _&&_, cond}
 use mathlib.Core.List.{List, [], _∷_}
-use mathlib.Core.Path.{_≡_}
 use lib.ListN.{getD}
 use Rattle.board.specs.Work.{Work, give, Came, value, blank, run, _>>=_, _>>_}
-use Rattle.board.specs.Exec.{Store, Lent, Board, undone}
 use Rattle.state.specs.declared.State.{State}
 use Rattle.state.specs.declared.Outside.{Outside}
 use Rattle.state.specs.declared.Settings.{Settings}
 use Rattle.state.specs.declared.Mode.{Mode}
-use Rattle.state.specs.declared.Went.{Went}
-use Rattle.state.specs.declared.Went.the-variants as Went
 use Rattle.state.specs.declared.Mode.the-variants.{Running, Waiting, PowerHalt, SwitchHalt, Locked, Saved}
 use Rattle.state.specs.State.{withPc, withMode, psOf, cleared, heard}
 use Rattle.wordmath.specs.Address.{plus, twice}
 use Rattle.state.specs.Stack.{fromLoc, tabled, trap, trapNow}
 use Rattle.step.specs.Xct.{opWork}
-use Rattle.step.specs.Places.{save, restore}
+use Rattle.step.specs.Places.{savePlaces, restorePlaces}
 use Rattle.step.specs.declared.Turn.{Turn}
 use Rattle.step.specs.declared.Kind.{Kind}
 use Rattle.step.specs.declared.Kind.the-variants.{OpCode, HaltEnd, Boots, Saves, LocksUp, Restarts, Restores, NonVectored, Vectored, Waits, Stuck}
 use Rattle.step.specs.declared.Cause.{Cause}
 use Rattle.step.specs.declared.Cause.the-variants as Cause
 use Rattle.step.specs.declared.Cause.the-variants.{OpCodeBlank, InterruptBlank, SaveBlank, LockedAt}
-use Rattle.step.specs.declared.Told.{Told}
-use Rattle.step.specs.declared.Told.the-variants.{Nowhere, At}
+use Rattle.step.specs.declared.Reached.{Reached}
+use Rattle.step.specs.declared.Reached.the-variants.{Nowhere, At}
 
 -- ---- the options that the jumpers select
 
@@ -88,10 +84,10 @@ unfoldable pub workOf : Kind → Outside → State → Work State
 workOf OpCode out s = opWork out s
 workOf HaltEnd out s = restart s
 workOf Boots out s = give (bootstrap (out .settings) s)
-workOf Saves out s = save out s
+workOf Saves out s = savePlaces out s
 workOf LocksUp out s = give (withMode s Locked)
 workOf Restarts out s = restart s
-workOf Restores out s = restore s
+workOf Restores out s = restorePlaces s
 workOf NonVectored out s = nonVectored out s
 workOf Vectored out s = vectored out s
 workOf Waits out s = give s
@@ -102,10 +98,10 @@ workOf Stuck out s = give s
 -- of a cause: 01's number; the address that a step tells, which is that of a blank or of a lock-up newly met; and that of a blank alone, after which the bus error's trap succeeded
 pub record CauseRow : Type 0 where
   pub number : ℕ
-  pub address : Told
-  pub blank : Told
+  pub address : Reached
+  pub blank : Reached
 
-abbrev pub causeRow : ℕ → Told → Told → CauseRow
+abbrev causeRow : ℕ → Reached → Reached → CauseRow
 causeRow n a b = record { number = n; address = a; blank = b }
 
 -- 7 is given to none
@@ -124,13 +120,13 @@ ofCause Cause.Locked = causeRow 8 Nowhere Nowhere  -- locked before, or by the o
 abbrev pub causeNumber : Cause → ℕ
 causeNumber cause = ofCause cause .number
 
-abbrev pub causeAddress : Cause → Told
+abbrev pub causeAddress : Cause → Reached
 causeAddress cause = ofCause cause .address
 
-abbrev pub blankAt : Cause → Told
+abbrev pub blankAt : Cause → Reached
 blankAt cause = ofCause cause .blank
 
-abbrev pub isTold : Told → Bool
+abbrev pub isTold : Reached → Bool
 isTold Nowhere = false
 isTold (At a) = true
 
@@ -143,7 +139,7 @@ pub record KindRow : Type 0 where
   pub error : ℕ → Cause
   pub code : Bool
 
-abbrev pub kindRow : Cause → (ℕ → Cause) → Bool → KindRow
+abbrev kindRow : Cause → (ℕ → Cause) → Bool → KindRow
 kindRow cause error code = record { cause = cause; error = error; code = code }
 
 -- a halt option is 1, and so is the end of a save; the end of a halt on power fail is 0; the lock-up option locks.
@@ -191,6 +187,10 @@ pub record After : Type 0 where
 abbrev pub after : State → List ℕ → Cause → After
 after s m k = record { state = s; image = m; cause = k }
 
+-- a step's answer, with the image
+abbrev pub turnOf : Turn → List ℕ → After
+turnOf r m = after (r .state) m (r .cause)
+
 -- what the work came to, or what is done where it was not answered at a
 abbrev pub orAt : Came State → Cause → (ℕ → After) → After
 orAt (value s m) cause other = after s m cause
@@ -223,36 +223,3 @@ orLocked (blank a) m = up (withMode cleared Locked) m
 
 unfoldable pub powerUpOf : Settings → List ℕ → List ℕ → Up
 powerUpOf settings map m = orLocked (run map (workOf (powerUpOption settings) (heard settings 0) cleared) m) m
-
--- ---- what a step on a board promises
-
-abbrev pub turnOf : Turn → List ℕ → After
-turnOf r m = after (r .state) m (r .cause)
-
-pub record Stepped (map : List ℕ) (a : After) (r : Turn) (st : Store) : Type 0 where
-  pub turn : turnOf r (st .image) ≡ a
-  pub board : Board map st
-
--- and a power-up
-pub record Powered (map : List ℕ) (u : Up) (s : State) (m : List ℕ) : Type 0 where
-  pub came : up s m ≡ u
-  pub lent : Lent map m
-
--- nothing is asked for: no I3, no I1, no I0
-abbrev pub calm : Outside → Bool
-calm out = not (out .i3 || out .i1 || out .i0)
-
-abbrev pub running : Mode → Bool
-running Running = true
-running Waiting = false
-running PowerHalt = false
-running SwitchHalt = false
-running Locked = false
-running Saved = false
-
--- what an op code's work on a board promises: what it comes to; where it was not answered, the log takes back what was done
-pub record Coded (map : List ℕ) (out : Outside) (s : State) (m : List ℕ) (r : Went) (st : Store) : Type 0 where
-  pub done : {t : State} → r ≡ Went.Done t → run map (opWork out s) m ≡ value t (st .image)
-  pub lost : {a : ℕ} → r ≡ Went.Blank a → run map (opWork out s) m ≡ blank a
-  pub back : {a : ℕ} → r ≡ Went.Blank a → undone st ≡ m
-  pub board : Board map st

@@ -1,6 +1,6 @@
 // One step, and power-up.
-use places::restore;
-use places::save;
+use places::restore_places;
+use places::save_places;
 use state::Mode;
 use state::Outside;
 use state::Settings;
@@ -13,6 +13,7 @@ ghost use mathlib.Core.Path.{_≡_};
 ghost use Rattle.board.specs.Exec.{beside, Lent, Board, Saw, undone};
 ghost use Rattle.state.specs.Answer.{Works, wentAs};
 ghost use Rattle.step.specs.Step as Spec;
+ghost use Rattle.step.specs.Inner as Inner;
 
 mod execute;
 pub mod logged;
@@ -56,7 +57,7 @@ pub enum Cause {
 }
 
 // An address that is told, or none.
-pub enum Told {
+pub enum Reached {
     Nowhere,
     At(u16),
 }
@@ -86,38 +87,38 @@ pub fn cause_number(cause: Cause) -> u8
 }
 
 // The address of a blank: the bus error's trap succeeded.
-pub fn blank_at(cause: Cause) -> Told
+pub fn blank_at(cause: Cause) -> Reached
     ensures { λ r. ⌜ r ≡ Spec.blankAt cause ⌝ }
 {
     match cause {
-        Cause::OpCode => Told::Nowhere,
-        Cause::Switch => Told::Nowhere,
-        Cause::NonVectored => Told::Nowhere,
-        Cause::Vectored => Told::Nowhere,
-        Cause::Nothing => Told::Nowhere,
-        Cause::OpCodeBlank(at) => Told::At(at),
-        Cause::InterruptBlank(at) => Told::At(at),
-        Cause::SaveBlank(at) => Told::At(at),
-        Cause::LockedAt(_) => Told::Nowhere,
-        Cause::Locked => Told::Nowhere,
+        Cause::OpCode => Reached::Nowhere,
+        Cause::Switch => Reached::Nowhere,
+        Cause::NonVectored => Reached::Nowhere,
+        Cause::Vectored => Reached::Nowhere,
+        Cause::Nothing => Reached::Nowhere,
+        Cause::OpCodeBlank(at) => Reached::At(at),
+        Cause::InterruptBlank(at) => Reached::At(at),
+        Cause::SaveBlank(at) => Reached::At(at),
+        Cause::LockedAt(_) => Reached::Nowhere,
+        Cause::Locked => Reached::Nowhere,
     }
 }
 
 // The address that a step tells: that of a blank, and that of a lock-up which is newly met.
-pub fn address_of(cause: Cause) -> Told
+pub fn address_of(cause: Cause) -> Reached
     ensures { λ r. ⌜ r ≡ Spec.causeAddress cause ⌝ }
 {
     match cause {
-        Cause::OpCode => Told::Nowhere,
-        Cause::Switch => Told::Nowhere,
-        Cause::NonVectored => Told::Nowhere,
-        Cause::Vectored => Told::Nowhere,
-        Cause::Nothing => Told::Nowhere,
-        Cause::OpCodeBlank(a) => Told::At(a),
-        Cause::InterruptBlank(a) => Told::At(a),
-        Cause::SaveBlank(a) => Told::At(a),
-        Cause::LockedAt(a) => Told::At(a),
-        Cause::Locked => Told::Nowhere,
+        Cause::OpCode => Reached::Nowhere,
+        Cause::Switch => Reached::Nowhere,
+        Cause::NonVectored => Reached::Nowhere,
+        Cause::Vectored => Reached::Nowhere,
+        Cause::Nothing => Reached::Nowhere,
+        Cause::OpCodeBlank(a) => Reached::At(a),
+        Cause::InterruptBlank(a) => Reached::At(a),
+        Cause::SaveBlank(a) => Reached::At(a),
+        Cause::LockedAt(a) => Reached::At(a),
+        Cause::Locked => Reached::Nowhere,
     }
 }
 
@@ -273,14 +274,14 @@ fn seldom(
             let t = s;
             let o = out;
             let m = map;
-            state::apart(save(t, image, m, log, o))
+            state::apart(save_places(t, image, m, log, o))
         }
         Kind::LocksUp => Went::Done(s.with_mode(Mode::Locked)),
         Kind::Restarts => restart(s, image, map),
         Kind::Restores => {
             let t = s;
             let m = map;
-            state::apart(restore(t, image, m))
+            state::apart(restore_places(t, image, m))
         }
         Kind::NonVectored => {
             let t = s;
@@ -320,13 +321,13 @@ pub fn is_code(k: Kind) -> bool
 
 // Nothing is asked for: no I3, no I1, no I0.
 pub fn calm(out: Outside) -> bool
-    ensures { λ r. ⌜ r ≡ Spec.calm out ⌝ }
+    ensures { λ r. ⌜ r ≡ Inner.calm out ⌝ }
 {
     !(out.i3 | out.i1 | out.i0)
 }
 
 fn running(mode: Mode) -> bool
-    ensures { λ r. ⌜ r ≡ Spec.running mode ⌝ }
+    ensures { λ r. ⌜ r ≡ Inner.running mode ⌝ }
 {
     match mode {
         Mode::Running => true,
@@ -340,7 +341,7 @@ fn running(mode: Mode) -> bool
 
 // Is the next step an op code? Where nothing is asked for and the processor runs it is.
 pub fn goes_on(s: State, out: Outside, quiet: bool) -> bool
-    requires { ⌜ quiet ≡ Spec.calm out ⌝ }
+    requires { ⌜ quiet ≡ Inner.calm out ⌝ }
     ensures { λ r. ⌜ r ≡ Spec.isCode (Spec.kindOf s out) ⌝ }
 {
     let mode = s.mode;
@@ -424,7 +425,7 @@ pub fn error(
     a: u16,
 ) -> Turn
     requires { ⌜ Board (now map) (beside (now image) (now log)) ⌝ }
-    ensures { λ r. ⌜ Spec.Stepped (now (map .entry)) (Spec.errorOf (now (map .entry)) k out s (undone (beside (now (image .entry)) (now (log .entry)))) a) r (beside (now (image .exit)) (now (log .exit))) ⌝ }
+    ensures { λ r. ⌜ Inner.DidStep (now (map .entry)) (Spec.errorOf (now (map .entry)) k out s (undone (beside (now (image .entry)) (now (log .entry)))) a) r (beside (now (image .exit)) (now (log .exit))) ⌝ }
 {
     logged::dropped(s, image, map, log, out, k, a)
 }
@@ -432,7 +433,7 @@ pub fn error(
 // The work of a step that is an op code, with a log that may hold an earlier step's entries.
 pub fn op_code(s: State, image: &mut [u8], map: &[u8], log: &mut [u16; 32], out: Outside) -> Went
     requires { ⌜ Board (now map) (beside (now image) (now log)) ⌝ }
-    ensures { λ r. ⌜ Spec.Coded (now (map .entry)) out s (now (image .entry)) r (beside (now (image .exit)) (now (log .exit))) ⌝ }
+    ensures { λ r. ⌜ Inner.Coded (now (map .entry)) out s (now (image .entry)) r (beside (now (image .exit)) (now (log .exit))) ⌝ }
 {
     board::clear(log);
     op_work(s, image, map, log, out)
@@ -448,7 +449,7 @@ pub fn other(
     k: Kind,
 ) -> Turn
     requires { ⌜ (Board (now map) (beside (now image) (now log))) × (k ≡ Spec.kindOf s out) × (Spec.isCode k ≡ false) ⌝ }
-    ensures { λ r. ⌜ Spec.Stepped (now (map .entry)) (Spec.stepOf (now (map .entry)) out s (now (image .entry))) r (beside (now (image .exit)) (now (log .exit))) ⌝ }
+    ensures { λ r. ⌜ Inner.DidStep (now (map .entry)) (Spec.stepOf (now (map .entry)) out s (now (image .entry))) r (beside (now (image .exit)) (now (log .exit))) ⌝ }
 {
     board::clear(log);
     match seldom(s, image, map, log, out, k) {
@@ -463,7 +464,7 @@ pub fn other(
 // The option's work on a cleared state and a quiet line; where it is not answered all of it is dropped, and the processor is locked.
 pub fn power(image: &mut [u8], map: &[u8], settings: Settings) -> State
     requires { ⌜ Lent (now map) (now image) ⌝ }
-    ensures { λ r. ⌜ Spec.Powered (now (map .entry)) (Spec.powerUpOf settings (now (map .entry)) (now (image .entry))) r (now (image .exit)) ⌝ }
+    ensures { λ r. ⌜ Inner.DidPowerUp (now (map .entry)) (Spec.powerUpOf settings (now (map .entry)) (now (image .entry))) r (now (image .exit)) ⌝ }
 {
     let mut log = [0u16; 32];
     let s = state::cleared();

@@ -1,5 +1,5 @@
 // The nine places: R0 to R5, SP, PC and PS as words at 0 to 10 (hex), saved by a halt option and picked up again.
-use board::Kept;
+use board::Stored;
 use board::Word;
 use state::Mode;
 use state::Outside;
@@ -8,14 +8,14 @@ use state::Went;
 use state::unwritten;
 use wordmath::address::plus;
 ghost use mathlib.Core.Path.{_≡_};
-ghost use Rattle.board.specs.Exec.{beside, Lent, Board, Saw, Did, keptAs};
+ghost use Rattle.board.specs.Exec.{beside, Lent, Board, Saw, Did, storedAs};
 ghost use Rattle.state.specs.Answer.{Works, wentAs};
 ghost use Rattle.step.specs.Places as Spec;
 
 // Register k is kept at its place.
-fn keep(s: State, image: &mut [u8], map: &[u8], log: &mut [u16; 32], k: u16) -> Kept
+fn keep(s: State, image: &mut [u8], map: &[u8], log: &mut [u16; 32], k: u16) -> Stored
     requires { ⌜ Board (now map) (beside (now image) (now log)) ⌝ }
-    ensures { λ r. ⌜ Did (now (map .entry)) (Spec.keep s k) (beside (now (image .entry)) (now (log .entry))) (keptAs r (beside (now (image .exit)) (now (log .exit)))) (beside (now (image .exit)) (now (log .exit))) ⌝ }
+    ensures { λ r. ⌜ Did (now (map .entry)) (Spec.keep s k) (beside (now (image .entry)) (now (log .entry))) (storedAs r (beside (now (image .exit)) (now (log .exit)))) (beside (now (image .exit)) (now (log .exit))) ⌝ }
 {
     board::store(image, map, log, plus(k, k), s.reg(k))
 }
@@ -42,32 +42,32 @@ fn keep_four(
     i: u16,
     j: u16,
     k: u16,
-) -> Kept
+) -> Stored
     requires { ⌜ Board (now map) (beside (now image) (now log)) ⌝ }
-    ensures { λ r. ⌜ Did (now (map .entry)) (Spec.keepFour s h i j k) (beside (now (image .entry)) (now (log .entry))) (keptAs r (beside (now (image .exit)) (now (log .exit)))) (beside (now (image .exit)) (now (log .exit))) ⌝ }
+    ensures { λ r. ⌜ Did (now (map .entry)) (Spec.keepFour s h i j k) (beside (now (image .entry)) (now (log .entry))) (storedAs r (beside (now (image .exit)) (now (log .exit)))) (beside (now (image .exit)) (now (log .exit))) ⌝ }
 {
     let kept1 = keep(s, image, map, log, h);
-    let Kept::Done = kept1 else {
+    let Stored::Done = kept1 else {
         return kept1;
     };
     let kept2 = keep(s, image, map, log, i);
-    let Kept::Done = kept2 else {
+    let Stored::Done = kept2 else {
         return kept2;
     };
     let kept3 = keep(s, image, map, log, j);
-    let Kept::Done = kept3 else {
+    let Stored::Done = kept3 else {
         return kept3;
     };
     keep(s, image, map, log, k)
 }
 
 // R0 to R5, SP, PC.
-fn keep_registers(s: State, image: &mut [u8], map: &[u8], log: &mut [u16; 32]) -> Kept
+fn keep_registers(s: State, image: &mut [u8], map: &[u8], log: &mut [u16; 32]) -> Stored
     requires { ⌜ Board (now map) (beside (now image) (now log)) ⌝ }
-    ensures { λ r. ⌜ Did (now (map .entry)) (Spec.keepRegisters s) (beside (now (image .entry)) (now (log .entry))) (keptAs r (beside (now (image .exit)) (now (log .exit)))) (beside (now (image .exit)) (now (log .exit))) ⌝ }
+    ensures { λ r. ⌜ Did (now (map .entry)) (Spec.keepRegisters s) (beside (now (image .entry)) (now (log .entry))) (storedAs r (beside (now (image .exit)) (now (log .exit)))) (beside (now (image .exit)) (now (log .exit))) ⌝ }
 {
     let kept = keep_four(s, image, map, log, 0, 1, 2, 3);
-    let Kept::Done = kept else {
+    let Stored::Done = kept else {
         return kept;
     };
     keep_four(s, image, map, log, 4, 5, 6, 7)
@@ -105,7 +105,7 @@ fn pick_up_registers(s: State, image: &[u8], map: &[u8]) -> Went
 }
 
 // Saved with the PS formed now; then nothing is done until I3 is clear.
-pub(crate) fn save(
+pub(crate) fn save_places(
     s: State,
     image: &mut [u8],
     map: &[u8],
@@ -113,22 +113,22 @@ pub(crate) fn save(
     out: Outside,
 ) -> Went
     requires { ⌜ Board (now map) (beside (now image) (now log)) ⌝ }
-    ensures { λ r. ⌜ Works (now (map .entry)) (Spec.save out s) (now (image .entry)) (now (log .entry)) r (now (image .exit)) (now (log .exit)) ⌝ }
+    ensures { λ r. ⌜ Works (now (map .entry)) (Spec.savePlaces out s) (now (image .entry)) (now (log .entry)) r (now (image .exit)) (now (log .exit)) ⌝ }
 {
     let registers = keep_registers(s, image, map, log);
-    let Kept::Done = registers else {
+    let Stored::Done = registers else {
         return unwritten(registers);
     };
-    let Kept::Done = board::store(image, map, log, 0x10, s.ps(out, false)) else {
+    let Stored::Done = board::store(image, map, log, 0x10, s.ps(out, false)) else {
         return Went::Blank(0x10);
     };
     Went::Done(s.with_mode(Mode::Saved))
 }
 
 // Picked up, PS as if popped, and running.
-pub(crate) fn restore(s: State, image: &[u8], map: &[u8]) -> Went
+pub(crate) fn restore_places(s: State, image: &[u8], map: &[u8]) -> Went
     requires { ⌜ Lent (now map) (now image) ⌝ }
-    ensures { λ r. ⌜ Saw (now (map .entry)) (Spec.restore s) (now (image .entry)) (wentAs r) ⌝ }
+    ensures { λ r. ⌜ Saw (now (map .entry)) (Spec.restorePlaces s) (now (image .entry)) (wentAs r) ⌝ }
 {
     let went = pick_up_registers(s, image, map);
     let Went::Done(t) = went else {

@@ -16,16 +16,16 @@ use Rattle.refusal.specs.Numbers.{textShort}
 use Rattle.refusal.specs.Page.{refused, answered, Left, left, call}
 use Rattle.refusal.specs.Refusal.{boardRefusal, powerRefusal, stepRefusal}
 use Rattle.refusal.proofs.Laws.Page.{first-some, first-both, apart, answered-one, call-refused, call-answered}
-use Rattle.refusal.proofs.Laws.Refusal.{Sound, step-sound}
+use Rattle.refusal.proofs.Laws.Refusal.{SoundBoard, step-sound}
 use Rattle.benchline.specs.Line.{fields, dashes}
 use Rattle.benchline.proofs.Laws.Lengths.{fields-length}
 use Rattle.optext.specs.Line.{taken, textOf, wordText}
 use Rattle.optext.proofs.Laws.Longest.{text-le}
 use Rattle.optext.proofs.Laws.Meets.{taken-le}
-use Rattle.listing.specs.declared.Found.the-variants.{Nothing, Cut, Whole}
+use Rattle.listing.specs.declared.CodeFound.the-variants.{Nothing, Cut, Whole}
 use Rattle.listing.specs.declared.Listed.{Listed}
 use Rattle.listing.specs.declared.Listed.the-variants as Listed
-use Rattle.listing.specs.Listing.{allStand, foundAt, lineAt, wordsAt}
+use Rattle.listing.specs.Listing.{allStand, foundAt, listingLine, wordsAt}
 use Rattle.listing.specs.Listing as Listing
 use Rattle.listing.specs.Calls.{Lined, listedPage, badStretch, lineWhy, lineIn, lineCall}
 use Rattle.listing.proofs.Laws.{word-length}
@@ -103,8 +103,8 @@ module _ (map m : List ℕ) (last a : ℕ) where
   found-length false q =
       rw (length-append (fields (a ∷ wordsAt m a) 1) dashes, fields-length (a ∷ wordsAt m a) 1) (omega arith)
 
-  line-length : length (lineAt map m last a) ≤ 52
-  unfolding lineAt foundAt
+  line-length : length (listingLine map m last a) ≤ 52
+  unfolding listingLine foundAt
   line-length = found-length (fitted map a) (allStand map last a (taken (wordAt m a)))
 
 no-stretch : (p : ℕ) → p < 65536 → badStretch (p / 2 * 2) 65534 ≡ false
@@ -113,7 +113,7 @@ no-stretch p h =
     let l : p / 2 * 2 ≤ 65534 = omega arith in
     rw (e, le-ltb 65534 (p / 2 * 2) l) refl
 
-code-here : (map m : List ℕ) (s : State) (c : Bool) → not c ≡ false → codeText map c s m ≡ lineAt map m 65534 (s .regs .pc / 2 * 2)
+code-here : (map m : List ℕ) (s : State) (c : Bool) → not c ≡ false → codeText map c s m ≡ listingLine map m 65534 (s .regs .pc / 2 * 2)
 unfolding codeText
 code-here map m s c y = rw (not-false c y) refl
 
@@ -130,7 +130,7 @@ module _ (map m b e : List ℕ) (s : State) (r : Listed) (c : Bool) (low : s .re
   pub code-wrote : (n : ℕ) (x : Lined) → listedPage r ≡ answered x → x .count ≡ n → Wrote (codeText map c s m) b e n × (n ≤ 52)
   code-wrote n x q d =
       let z = answered-one (sym q ∙ ap (λ (u : Left Lined (List ℕ)). u .page) called) in
-      let size : n ≡ length (lineAt map m 65534 (s .regs .pc / 2 * 2)) = sym d ∙ ap (λ (u : Lined). u .count) z in (
+      let size : n ≡ length (listingLine map m 65534 (s .regs .pc / 2 * 2)) = sym d ∙ ap (λ (u : Lined). u .count) z in (
         rw (code-here map m s c y) (record { bytes = ap (λ (u : Left Lined (List ℕ)). u .lent) called; count = size }),
         rw size (line-length map m 65534 (s .regs .pc / 2 * 2)),
       )
@@ -158,12 +158,12 @@ module _ (settings : Settings) (size : ℕ) (map : List ℕ) (line text k : ℕ)
   why-nothing z h = rw (← e, z, le-ltb text 278 h) refl
 
 -- what is known where nothing is refused
-pub record Ready (size : ℕ) (map : List ℕ) (text : ℕ) : Type 0 where
-  pub sound : Sound size map
+pub record ShowTaken (size : ℕ) (map : List ℕ) (text : ℕ) : Type 0 where
+  pub sound : SoundBoard size map
   pub board : boardRefusal size map ≡ 0
   pub room : 278 ≤ text
 
-pub ready : (settings : Settings) (size : ℕ) (map : List ℕ) (line text : ℕ) → showWhy settings size map line text ≡ 0 → Ready size map text
+pub ready : (settings : Settings) (size : ℕ) (map : List ℕ) (line text : ℕ) → showWhy settings size map line text ≡ 0 → ShowTaken size map text
 unfolding showWhy stepRefusal powerRefusal
 ready settings size map line text e =
     let both = first-both (stepRefusal size map (settings .powerup) (settings .halt) (settings .register) line) _ e in

@@ -14,15 +14,15 @@ use Rattle.state.specs.declared.Settings.{Settings}
 use Rattle.state.specs.State.{modeNumber, psOf, heard}
 use Rattle.step.specs.declared.Turn.{Turn}
 use Rattle.step.specs.declared.Cause.{Cause}
-use Rattle.step.specs.declared.Told.{Told}
-use Rattle.step.specs.declared.Told.the-variants.{Nowhere, At}
+use Rattle.step.specs.declared.Reached.{Reached}
+use Rattle.step.specs.declared.Reached.the-variants.{Nowhere, At}
 use Rattle.step.specs.Step.{After, kindOf, isCode, causeNumber, causeAddress, stepOf}
 use Rattle.step.specs.Written.{stepWrites}
 use Rattle.refusal.specs.Numbers.{textShort}
 use Rattle.refusal.specs.Page.{Page, refused, answered, Left, left, call, first}
 use Rattle.refusal.specs.Refusal.{stepRefusal}
 use Rattle.machine.specs.Numbers.{TurnPage, turnPage}
-use Rattle.listing.specs.Listing.{lineAt}
+use Rattle.listing.specs.Listing.{listingLine}
 use Rattle.stepline.specs.declared.Shown.{Shown}
 use Rattle.stepline.specs.declared.Shown.the-variants as Shown
 
@@ -54,12 +54,12 @@ columns values (suc n) = columns values n ++ column (getD values n 0)
 abbrev pub changed : ℕ → ℕ → ℕ
 changed before after = cond (eqb before after) none after
 
-abbrev pub causeWord : Told → ℕ
+abbrev pub causeWord : Reached → ℕ
 causeWord Nowhere = none
 causeWord (At a) = a
 
 -- the map's byte for the page of that address
-abbrev pub pageTold : List ℕ → Told → ℕ
+abbrev pub pageTold : List ℕ → Reached → ℕ
 pageTold map Nowhere = none
 pageTold map (At a) = byteAt map (a / 256)
 
@@ -107,7 +107,7 @@ tab = 9 ∷ []
 
 -- the op code at PC, where the step is one
 unfoldable pub codeText : List ℕ → Bool → State → List ℕ → List ℕ
-codeText map code s m = cond code (lineAt map m 65534 (s .regs .pc / 2 * 2)) []
+codeText map code s m = cond code (listingLine map m 65534 (s .regs .pc / 2 * 2)) []
 
 -- of a step from the state s and the image m that came to `a` and wrote at the addresses ws
 unfoldable pub stepLine : Settings → List ℕ → ℕ → ℕ → State → List ℕ → After → List ℕ → List ℕ
@@ -122,7 +122,7 @@ stepText settings map line number s m =
 -- ---- the call
 
 -- a listing's line has at most 52 characters, a tab one, the columns 75, and fifteen words at most are written
-abbrev pub stepRoom : ℕ
+abbrev stepRoom : ℕ
 stepRoom = 278
 
 -- 1, 2, 3, 35 or 5; 8, the text is under 278

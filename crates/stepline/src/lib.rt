@@ -6,7 +6,7 @@ use refusal::number::TEXT_SHORT;
 use state::Settings;
 use state::State;
 use step::Cause;
-use step::Told;
+use step::Reached;
 use step::Turn;
 use step::is_code;
 use step::kind_of;
@@ -100,22 +100,22 @@ fn changed(before: u16, after: u16) -> u32
     after as u32
 }
 
-fn told(address: Told) -> u32
+fn told(address: Reached) -> u32
     ensures { λ r. ⌜ r ≡ Spec.causeWord address ⌝ }
 {
     match address {
-        Told::Nowhere => NONE,
-        Told::At(a) => a as u32,
+        Reached::Nowhere => NONE,
+        Reached::At(a) => a as u32,
     }
 }
 
 // The map's byte for the page of that address.
-fn page_told(map: &[u8], address: Told) -> u32
+fn page_told(map: &[u8], address: Reached) -> u32
     ensures { λ r. ⌜ r ≡ Spec.pageTold (now (map .entry)) address ⌝ }
 {
     match address {
-        Told::Nowhere => NONE,
-        Told::At(a) => byte_at(map, (a / 256) as usize) as u32,
+        Reached::Nowhere => NONE,
+        Reached::At(a) => byte_at(map, (a / 256) as usize) as u32,
     }
 }
 

@@ -1,34 +1,19 @@
 // Reads a board and a job on standard input, powers up, and steps over the job's line words: a line for each step; a refused job is its
 // line alone. The board is its four settings as for C, a byte each. Where the answer could not be written standard error says so.
-use benchline::Printed;
-use job::Answer;
-use libc::STDERR_FILENO;
+use job::JobRead;
+use job::READ_OF_JOB;
 use libc::STDIN_FILENO;
-use libc::STDOUT_FILENO;
 use machine::Powered;
+use printing::put_line;
+use printing::put_refused;
+use printing::read_board;
+use printing::say_unless;
+use refusal::MOST_LINE_WORDS;
 use refusal::number::LINES_LENGTH;
 use state::Settings;
 use state::State;
 use stepline::Shown;
 use stepline::write_step;
-
-// Writes the first bytes of a text and ends the line; answers whether all was written.
-fn put_line(text: &[u8], n: usize) -> bool {
-    if n <= text.len() {
-        if io::write_all(STDOUT_FILENO, &text[..n]) {
-            return io::write_all(STDOUT_FILENO, b"\n");
-        }
-    }
-    false
-}
-
-fn put_refused(why: u8) -> bool {
-    let mut text = [0u8; 16];
-    match benchline::write_refused(&mut text, why) {
-        Printed::Line(n) => put_line(&text, n),
-        Printed::Refused(_) => false,
-    }
-}
 
 fn put_refusal(shown: Shown) -> bool {
     match shown {
@@ -76,34 +61,16 @@ fn step_first(image: &mut [u8], map: &[u8], board: Settings, lines: &[u16], coun
 fn step_job(input: &[u8], board: Settings) -> bool {
     let mut image = io::large_buffer();
     let mut map = [0u8; 256];
-    let mut lines = [0u16; 4096];
+    let mut lines = [0u16; MOST_LINE_WORDS];
     match job::read_job(input, &mut image, &mut map, &mut lines) {
-        Answer::Refused(why) => put_refused(why),
-        Answer::Lines(count) => step_first(&mut image, &map, board, &lines, count),
+        JobRead::Refused(why) => put_refused(why),
+        JobRead::Lines(count) => step_first(&mut image, &map, board, &lines, count),
     }
 }
 
-fn read_board() -> Settings {
-    let mut bytes = [0u8; 4];
-    io::read_full(STDIN_FILENO, &mut bytes);
-    Settings {
-        blocks: bytes[0] != 0,
-        powerup: bytes[1],
-        halt: bytes[2],
-        register: bytes[3],
-    }
-}
-
-fn say_unless(written: bool) {
-    if !written {
-        io::write_all(STDERR_FILENO, b"steps: the answer could not be written\n");
-    }
-}
-
-// The longest job has 25,096 bytes; one byte more shows that there are bytes left over.
 fn main() {
     let board = read_board();
-    let mut input = [0u8; 25097];
+    let mut input = [0u8; READ_OF_JOB];
     let got = io::read_full(STDIN_FILENO, &mut input);
-    say_unless(step_job(&input[..got], board));
+    say_unless(step_job(&input[..got], board), b"steps");
 }

@@ -4,7 +4,6 @@
 // whether all was written.
 ghost use Prim.Native.Nat.{_≤_, _<_};
 ghost use lib.ListN.{length};
-use hexdigits::put_hex4;
 use libc::STDERR_FILENO;
 use libc::STDIN_FILENO;
 use libc::STDOUT_FILENO;
@@ -12,21 +11,15 @@ use optext::ReadBack;
 use optext::Written;
 use optext::reading::after;
 use optext::reading::un_hex4;
-
-fn put(text: &[u8]) -> bool {
-    io::write_all(STDOUT_FILENO, text)
-}
+use printing::line_end;
+use printing::put;
+use printing::put_line;
+use printing::put_spaces;
+use printing::put_word;
+use printing::say_unless;
 
 fn put_end() -> bool {
     put(b"\n")
-}
-
-// Prints the first n bytes of a text and ends the line.
-fn put_line(text: &[u8], n: usize) -> bool {
-    if n <= text.len() {
-        return put(&text[..n]) && put_end();
-    }
-    false
 }
 
 // The byte at a place, or 0.
@@ -43,21 +36,6 @@ fn word(words: &[u16], i: usize) -> u16 {
         return words[i];
     }
     0
-}
-
-// Where the line that begins at a place ends.
-fn line_end(t: &[u8], from: usize) -> usize
-    requires { ⌜ from ≤ length (now t) ⌝ }
-    ensures { λ r. ⌜ (from ≤ r) × (r ≤ length (now (t .entry))) ⌝ }
-{
-    let mut i = from;
-    while i < t.len() {
-        if t[i] == b'\n' {
-            return i;
-        }
-        i += 1;
-    }
-    i
 }
 
 fn is_digit(c: u8) -> bool {
@@ -141,16 +119,10 @@ fn write_words(line: &[u8]) -> bool {
     put_first(line, &words, words_in(line))
 }
 
-fn put_word(w: u16) -> bool {
-    let mut digits = [0u8; 4];
-    put_hex4(&mut digits, w);
-    put(&digits)
-}
-
 // Prints the word at a place after a space, if it is one of the first n.
 fn put_next(words: &[u16], at: usize, n: usize) -> bool {
     if at < n {
-        return put_space() && put_word(word(words, at));
+        return put_spaces(1) && put_word(word(words, at));
     }
     true
 }
@@ -158,21 +130,6 @@ fn put_next(words: &[u16], at: usize, n: usize) -> bool {
 // Prints the first n of up to three words.
 fn put_words(words: &[u16], n: usize) -> bool {
     put_word(word(words, 0)) && put_next(words, 1, n) && put_next(words, 2, n) && put_end()
-}
-
-fn put_space() -> bool {
-    put(b" ")
-}
-
-fn put_spaces(n: usize) -> bool {
-    let mut i = 0;
-    while i < n {
-        if !put_space() {
-            return false;
-        }
-        i += 1;
-    }
-    true
 }
 
 // Prints the line, a mark under its column, and the reason.
@@ -235,12 +192,6 @@ fn more() -> bool {
     0 < io::read_full(STDIN_FILENO, &mut next)
 }
 
-fn say_unless(written: bool) {
-    if !written {
-        io::write_all(STDERR_FILENO, b"text: the answer could not be written\n");
-    }
-}
-
 fn say_long() {
     io::write_all(STDERR_FILENO, b"the input is longer than 65536 bytes\n");
 }
@@ -254,5 +205,5 @@ fn main() {
             return;
         }
     }
-    say_unless(answer_all(&input[..got]));
+    say_unless(answer_all(&input[..got]), b"text");
 }

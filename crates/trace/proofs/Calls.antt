@@ -16,16 +16,16 @@ use Rattle.machine.proofs.Laws.Counted.{trail-length}
 use Rattle.job.specs.Job.{linesAt, mapOf, linesOf, lineWords, whyRead}
 use Rattle.job.proofs.Laws.Sound.{lines-length}
 use Rattle.endline.specs.Report.{benchBoard}
-use Rattle.runjob.specs.declared.Begun.{Begun}
+use Rattle.runjob.specs.declared.Started.{Started}
 use Rattle.runjob.specs.Bench.{upOf, RunBegins}
 use Rattle.trace.specs.declared.Verdict.{Verdict}
-use Rattle.trace.specs.Trace.{entriesOf, stepsOf, rightTrace, imageAfter, joined, traceBytes, toldIn, whyTrace, compared, verdictOf, verdictPage, checkOf, longest, madeOf, makeOf}
+use Rattle.trace.specs.Trace.{entriesOf, stepsOf, rightTrace, imageAfter, joined, traceBytes, toldIn, whyTrace, compared, verdictOf, verdictPage, checkOf, longestTrace, madeOf, makeOf}
 use Rattle.trace.proofs.Laws.Bytes.{trace-length}
 use Rattle.trace.specs.Walk.{trail, imageOn}
 
 -- ---- from where a job begins
 
-module _ (input : List ℕ) {b : Begun} {i m l : List ℕ} (h : RunBegins input b i m l) where
+module _ (input : List ℕ) {b : Started} {i m l : List ℕ} (h : RunBegins input b i m l) where
   begun-trail : trail m (take (b .count) l) (b .state) i ≡ stepsOf input
   unfolding stepsOf lineWords
   begun-trail = rw (h .mapIs, h .linesIs, h .countIs) (ap (λ u. trail (mapOf input) (take (wordAt input (linesAt input)) (linesOf input)) (u .state) (u .image)) (h .powered))
@@ -50,7 +50,7 @@ module _ (input t image map lines : List ℕ) where
   check-cut zero j e n = absurd (n refl)
   check-cut (suc why) j e n = rw (j, ← e)
 
-  pub check-done : {b : Begun} {i m l : List ℕ} (n : List ℕ) (v : Verdict) → whyRead (length image) (length map) (length lines) input ≡ 0 → whyTrace t ≡ 0 → RunBegins input b i m l
+  pub check-done : {b : Started} {i m l : List ℕ} (n : List ℕ) (v : Verdict) → whyRead (length image) (length map) (length lines) input ≡ 0 → whyTrace t ≡ 0 → RunBegins input b i m l
       → (v ≡ compared 0 (entriesOf (trail m (take (b .count) l) (b .state) i)) (toldIn t)) × (n ≡ imageOn m (take (b .count) l) (b .state) i)
       → left (answered (verdictPage v)) (n, m, l) ≡ checkOf input t image map lines
   unfolding checkOf
@@ -80,7 +80,7 @@ module _ (input : List ℕ) (few : wordAt input (linesAt input) ≤ length (line
   unfolding traceBytes
   right-bytes = ap (λ n. bytesIn (n ∷ joined (rightTrace input))) (sym right-count)
 
-  in-front : (out : List ℕ) → longest ≤ length out → sets out 0 (bytesIn (wordAt input (linesAt input) ∷ joined (rightTrace input))) ≡ inFrontOf (traceBytes (rightTrace input)) out
+  in-front : (out : List ℕ) → longestTrace ≤ length out → sets out 0 (bytesIn (wordAt input (linesAt input) ∷ joined (rightTrace input))) ≡ inFrontOf (traceBytes (rightTrace input)) out
   unfolding inFrontOf
   in-front out l =
       let size = right-length in
@@ -94,15 +94,15 @@ module _ (input out image map lines : List ℕ) where
   make-job zero e n = absurd (n refl)
   make-job (suc why) e n = rw (← e)
 
-  pub make-short : whyRead (length image) (length map) (length lines) input ≡ 0 → length out < longest → left (refused outputShort) (out, image, map, lines) ≡ makeOf input out image map lines
+  pub make-short : whyRead (length image) (length map) (length lines) input ≡ 0 → length out < longestTrace → left (refused outputShort) (out, image, map, lines) ≡ makeOf input out image map lines
   unfolding makeOf
-  make-short j h = rw (j, lt-leb longest (length out) h)
+  make-short j h = rw (j, lt-leb longestTrace (length out) h)
 
-  make-answered : whyRead (length image) (length map) (length lines) input ≡ 0 → longest ≤ length out → madeOf input out ≡ makeOf input out image map lines
+  make-answered : whyRead (length image) (length map) (length lines) input ≡ 0 → longestTrace ≤ length out → madeOf input out ≡ makeOf input out image map lines
   unfolding makeOf
-  make-answered j h = rw (j, le-leb longest (length out) h)
+  make-answered j h = rw (j, le-leb longestTrace (length out) h)
 
-  pub make-done : {b : Begun} {i m l : List ℕ} (n out′ : List ℕ) → whyRead (length image) (length map) (length lines) input ≡ 0 → RunBegins input b i m l → longest ≤ length out
+  pub make-done : {b : Started} {i m l : List ℕ} (n out′ : List ℕ) → whyRead (length image) (length map) (length lines) input ≡ 0 → RunBegins input b i m l → longestTrace ≤ length out
       → (out′ ≡ sets out 0 (bytesIn (b .count ∷ joined (entriesOf (trail m (take (b .count) l) (b .state) i))))) × (n ≡ imageOn m (take (b .count) l) (b .state) i)
       → left (answered (2 + b .count * 20)) (out′, n, m, l) ≡ makeOf input out image map lines
   make-done {b} n out′ j h k e =

@@ -21,9 +21,10 @@ use Rattle.refusal.specs.Numbers.{traceCut}
 use Rattle.machine.specs.Trail.{trailOf, lastAfter}
 use Rattle.trace.specs.declared.Verdict.{Verdict}
 use Rattle.trace.specs.declared.Verdict.the-variants.{Accepted, Wrong, Missing, Extra}
-use Rattle.trace.specs.Trace.{entryOf, entriesOf, joined, wordsFrom, entriesFrom, toldIn, whyTrace, orElse, firstWrong, compared}
-use Rattle.trace.proofs.Laws.Bytes.{bytes-append, bytes-length, right-ten}
+use Rattle.trace.specs.Trace.{entryOf, entriesOf, joined, fieldsFrom, entriesFrom, toldIn, whyTrace, orElse, firstWrong, compared}
+use Rattle.trace.proofs.Laws.Bytes.{bytes-append, right-ten}
 use Rattle.trace.specs.Walk.{toldFrom, stepVerdict, stepped, trail, imageOn, upAfter}
+use Rattle.wordbytes.proofs.Laws.{bytes-length}
 
 -- ---- a trace that is cut, and one that is whole
 
@@ -42,8 +43,8 @@ module _ (t : List ℕ) where
 
 -- ---- the words of an entry that is told
 
-pub words-at : (t : List ℕ) (at n k : ℕ) → k < n → getD (wordsFrom t at n) k 0 ≡ wordAt t (at + k * 2)
-unfolding wordsFrom
+pub words-at : (t : List ℕ) (at n k : ℕ) → k < n → getD (fieldsFrom t at n) k 0 ≡ wordAt t (at + k * 2)
+unfolding fieldsFrom
 words-at t at zero k h = absurd (omega arith)
 words-at t at (suc n) zero h = let e : at + 0 * 2 ≡ at = omega arith in rw e
 words-at t at (suc n) (suc k) h = let e : at + 2 + k * 2 ≡ at + suc k * 2 = omega arith in words-at t (at + 2) n k (omega arith) ∙ rw e
@@ -96,11 +97,11 @@ pub told-missing : (t right : List ℕ) (step : ℕ) → wordAt t 0 ≤ step →
 unfolding toldFrom entriesFrom
 told-missing t right step h = let z : wordAt t 0 - step ≡ 0 = omega arith in rw z
 
-pub told-there : (t right : List ℕ) (step at : ℕ) → step < wordAt t 0 → at ≡ 2 + step * 20 → firstWrong step 0 right (wordsFrom t at 10) ≡ stepVerdict step right (toldFrom t step)
+pub told-there : (t right : List ℕ) (step at : ℕ) → step < wordAt t 0 → at ≡ 2 + step * 20 → firstWrong step 0 right (fieldsFrom t at 10) ≡ stepVerdict step right (toldFrom t step)
 unfolding toldFrom entriesFrom
 told-there t right step at h e = split (wordAt t 0 - step) (omega arith)
   where
-    split : (n : ℕ) → 0 < n → firstWrong step 0 right (wordsFrom t at 10) ≡ stepVerdict step right (entriesFrom t (2 + step * 20) n)
+    split : (n : ℕ) → 0 < n → firstWrong step 0 right (fieldsFrom t at 10) ≡ stepVerdict step right (entriesFrom t (2 + step * 20) n)
     split zero h = absurd (omega arith)
     split (suc n) h = rw e
 
@@ -163,7 +164,7 @@ module _ (map lines : List ℕ) (i : ℕ) (s : State) (m : List ℕ) where
 -- ---- the trace made
 
 -- one after the other
-pub sets-sets : (xs ys b : List ℕ) (at : ℕ) → sets (sets b at xs) (at + length xs) ys ≡ sets b at (xs ++ ys)
+sets-sets : (xs ys b : List ℕ) (at : ℕ) → sets (sets b at xs) (at + length xs) ys ≡ sets b at (xs ++ ys)
 sets-sets [] ys b at = let e : at + 0 ≡ at = omega arith in rw e
 sets-sets (x ∷ xs) ys b at = let e : at + suc (length xs) ≡ suc at + length xs = omega arith in rw e (sets-sets xs ys (set b at x) (suc at))
 

@@ -43,7 +43,7 @@ abbrev pub rightTrace : List ℕ → List (List ℕ)
 rightTrace input = entriesOf (stepsOf input)
 
 -- where they end
-abbrev pub startOf : List ℕ → After
+abbrev startOf : List ℕ → After
 startOf input = after (upOf input .state) (upOf input .image) Cause.Nothing
 
 unfoldable pub imageAfter : List ℕ → List ℕ
@@ -61,13 +61,13 @@ traceBytes es = bytesIn (length es ∷ joined es)
 -- ---- a trace that is lent
 
 -- n words from a place on; n entries of ten words
-unfoldable pub wordsFrom : List ℕ → ℕ → ℕ → List ℕ
-wordsFrom t at zero = []
-wordsFrom t at (suc n) = wordAt t at ∷ wordsFrom t (at + 2) n
+unfoldable pub fieldsFrom : List ℕ → ℕ → ℕ → List ℕ
+fieldsFrom t at zero = []
+fieldsFrom t at (suc n) = wordAt t at ∷ fieldsFrom t (at + 2) n
 
 unfoldable pub entriesFrom : List ℕ → ℕ → ℕ → List (List ℕ)
 entriesFrom t at zero = []
-entriesFrom t at (suc n) = wordsFrom t at 10 ∷ entriesFrom t (at + 20) n
+entriesFrom t at (suc n) = fieldsFrom t at 10 ∷ entriesFrom t (at + 20) n
 
 -- the entries that it gives, after its count
 unfoldable pub toldIn : List ℕ → List (List ℕ)
@@ -146,11 +146,11 @@ madePage (Made.Bytes n) = answered n
 madePage (Made.Refused why) = refused why
 
 -- 10: fewer bytes are lent than the longest trace has, of 4,096 entries
-abbrev pub longest : ℕ
-longest = 81922
+abbrev pub longestTrace : ℕ
+longestTrace = 81922
 
 abbrev pub whyMake : List ℕ → ℕ → ℕ → ℕ → ℕ → ℕ
-whyMake input out image map lines = first (whyRead image map lines input) (cond (leb longest out) 0 outputShort)
+whyMake input out image map lines = first (whyRead image map lines input) (cond (leb longestTrace out) 0 outputShort)
 
 -- the right trace goes to the front of the lent bytes, the rest of them stays; the number of its bytes is answered
 abbrev pub madeOf : List ℕ → List ℕ → Left ℕ (List ℕ × List ℕ × List ℕ × List ℕ)

@@ -41,8 +41,11 @@ pub enum Made {
     Refused(u8),
 }
 
-// The bytes of the longest trace, of 4,096 entries.
-const LONGEST: usize = 81922;
+// The bytes of the longest trace of a job, of 4,096 entries.
+pub const LONGEST_TRACE: usize = 81922;
+
+// What is read of a trace: the longest that can be counted has 1,310,702 bytes, and one byte more shows that there are bytes left over.
+pub const READ_OF_TRACE: usize = 1310703;
 
 // ---- the right trace
 
@@ -94,7 +97,7 @@ fn or_else(found: Verdict, later: Verdict) -> Verdict
 // The first wrong field of the entry at a place of the trace.
 fn entry_verdict(step: u16, entry: [u16; 10], trace: &[u8], at: usize) -> Verdict
     requires { ⌜ (at < 4294967296) × (length entry ≡ 10) ⌝ }
-    ensures { λ r. ⌜ r ≡ Spec.firstWrong step 0 entry (Spec.wordsFrom (now (trace .entry)) at 10) ⌝ }
+    ensures { λ r. ⌜ r ≡ Spec.firstWrong step 0 entry (Spec.fieldsFrom (now (trace .entry)) at 10) ⌝ }
 {
     let mut field: usize = 0;
     while field < 10 {
@@ -285,7 +288,7 @@ pub fn make(
     if why != 0 {
         return Made::Refused(why);
     }
-    if out.len() < LONGEST {
+    if out.len() < LONGEST_TRACE {
         return Made::Refused(number::OUTPUT_SHORT);
     }
     let begun = begin(input, image, map, lines);

@@ -1,4 +1,5 @@
 // The check of another shop's trace for C, over plain lent bytes. c/hitchbriar.h has their layout.
+use refusal::MOST_LINE_WORDS;
 use trace::Checked;
 use trace::Verdict;
 ghost use mathlib.Core.Path.{_≡_};
@@ -31,7 +32,7 @@ pub extern "C" fn wd16_check_trace(job: &[u8], trace: &[u8], verdict: &mut [u8])
     }
     let mut image = [0u8; 65536];
     let mut map = [0u8; 256];
-    let mut lines = [0u16; 4096];
+    let mut lines = [0u16; MOST_LINE_WORDS];
     match trace::check(job, trace, &mut image, &mut map, &mut lines) {
         Checked::Done(found) => {
             put_verdict(verdict, found);

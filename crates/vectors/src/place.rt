@@ -6,7 +6,7 @@ use wordbytes::byte_at;
 use wordbytes::high;
 use wordbytes::low;
 
-pub enum Place {
+pub enum Target {
     // A word of the image.
     Memory(u16),
     // R0 to R5, SP, PC: a word of the state.
@@ -19,35 +19,35 @@ pub enum Place {
 }
 
 // R0 to R5, SP, PC, I2.
-fn of_two_letters(first: u8, second: u8) -> Place {
+fn of_two_letters(first: u8, second: u8) -> Target {
     if (first == b'R') & (b'0' <= second) & (second <= b'5') {
-        return Place::Register(second as u16 % 8 * 2);
+        return Target::Register(second as u16 % 8 * 2);
     }
     if (first == b'S') & (second == b'P') {
-        return Place::Register(12);
+        return Target::Register(12);
     }
     if (first == b'P') & (second == b'C') {
-        return Place::Register(14);
+        return Target::Register(14);
     }
     if (first == b'I') & (second == b'2') {
-        return Place::Indicator(17);
+        return Target::Indicator(17);
     }
-    Place::Nowhere
+    Target::Nowhere
 }
 
 // The place of a name. An address is even, and has one digit, three or four.
-pub(crate) fn named(name: &[u8]) -> Place {
+pub(crate) fn named(name: &[u8]) -> Target {
     if name.len() == 2 {
         return of_two_letters(byte_at(name, 0), byte_at(name, 1));
     }
     if check::same(name, b"NZVC") {
-        return Place::Indicator(16);
+        return Target::Indicator(16);
     }
     let at = hex(name);
     if (at < NO_NUMBER) & (at % 2 == 0) {
-        return Place::Memory((at % 0x1_0000) as u16);
+        return Target::Memory((at % 0x1_0000) as u16);
     }
-    Place::Nowhere
+    Target::Nowhere
 }
 
 // Says which byte stands where another is wanted.

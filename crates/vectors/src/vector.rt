@@ -1,5 +1,5 @@
 // One vector: a board and a state are made as its line says, run, and looked at.
-use super::place::Place;
+use super::place::Target;
 use super::place::named;
 use super::place::small;
 use super::place::word;
@@ -17,12 +17,12 @@ struct Progress {
 
 // What a word asks for: a value goes into a place, or is wanted there.
 struct Deed {
-    place: Place,
+    place: Target,
     value: u16,
 }
 
 // There is no place for what is no number.
-fn deed_at(place: Place, number: u32) -> Deed {
+fn deed_at(place: Target, number: u32) -> Deed {
     if number < NO_NUMBER {
         return Deed {
             place,
@@ -30,17 +30,17 @@ fn deed_at(place: Place, number: u32) -> Deed {
         };
     }
     Deed {
-        place: Place::Nowhere,
+        place: Target::Nowhere,
         value: 0,
     }
 }
 
 // The place of a word that has no '=': an op code word, after so many others, or a line word.
-fn next_place(column: u16, words: u16) -> Place {
+fn next_place(column: u16, words: u16) -> Target {
     match column {
-        0 => Place::Memory(0x0100 + words % 256 * 2),
-        2 => Place::Line,
-        _ => Place::Nowhere,
+        0 => Target::Memory(0x0100 + words % 256 * 2),
+        2 => Target::Line,
+        _ => Target::Nowhere,
     }
 }
 
@@ -63,11 +63,11 @@ fn step(state: &mut [u8], image: &mut [u8], line: u16) -> bool {
 fn done(state: &mut [u8], image: &mut [u8], deed: Deed, wanted: bool) -> bool {
     let place = deed.place;
     match place {
-        Place::Memory(at) => word(image, at, deed.value, wanted),
-        Place::Register(at) => word(state, at, deed.value, wanted),
-        Place::Indicator(at) => small(state, at, deed.value, wanted),
-        Place::Line => step(state, image, deed.value),
-        Place::Nowhere => false,
+        Target::Memory(at) => word(image, at, deed.value, wanted),
+        Target::Register(at) => word(state, at, deed.value, wanted),
+        Target::Indicator(at) => small(state, at, deed.value, wanted),
+        Target::Line => step(state, image, deed.value),
+        Target::Nowhere => false,
     }
 }
 

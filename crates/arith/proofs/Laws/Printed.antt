@@ -11,10 +11,10 @@ abbrev pub numbers : List ℕ
 numbers = 0 ∷ 1 ∷ 2 ∷ 3 ∷ 4 ∷ 5 ∷ 6 ∷ 7 ∷ 8 ∷ 9 ∷ 10 ∷ 11 ∷ 12 ∷ 13 ∷ 14 ∷ 15 ∷ []
 
 -- "IF x = 0", "IF x = 1"
-abbrev pub is0 : Bool → Bool
+abbrev is0 : Bool → Bool
 is0 x = not x
 
-abbrev pub is1 : Bool → Bool
+abbrev is1 : Bool → Bool
 is1 x = x
 
 -- the manual's OPERATION lines, in their order

@@ -2,6 +2,8 @@ use mathlib.Core.Path.{_≡_, refl, _∙_}
 use Prim.Native.Nat.{_-_, _≤_}
 use native.Mathlib.Omega.{arith}
 use lib.ListN.{length, length-take, length-drop}
+use borrow.Author.Needs.{needs}
+use Rattle.printing.proofs.Laws.Lines.{line-fits}
 use Rattle.assemble.proofs.pad.Statement.{statement}
 use Rattle.assemble.proofs.pad.Tie as tie
 
@@ -14,11 +16,8 @@ abbrev μ-loop : tie.MeasureT-loop
 loop-holds : tie.Need-loop-holds Inv-loop μ-loop
 loop-holds c = (omega arith, refl)
 
-line-end-requires : tie.Need-line-end-requires Inv-loop μ-loop
-line-end-requires c κs = omega arith
-
 before-cr-requires : tie.Need-before-cr-requires Inv-loop μ-loop
-before-cr-requires c κs = (omega arith, omega arith)
+before-cr-requires c κs = (omega arith, omega (arith, line-fits (c .before .before .before .before .before .before .args .input .now) (c .before .before .before .loop .at) (omega arith)))
 
 sub-if2 : tie.Need-sub-if2 Inv-loop μ-loop
 sub-if2 c = omega arith
@@ -36,7 +35,7 @@ part-put-line-start : tie.Need-part-put-line-start Inv-loop μ-loop
 part-put-line-start c = omega arith
 
 part-put-line-end : tie.Need-part-put-line-end Inv-loop μ-loop
-part-put-line-end c = omega arith
+part-put-line-end c = omega (arith, line-fits (c .before .before .before .before .before .before .before .before .before .args .input .now) (c .before .before .before .before .before .before .loop .at) (omega arith))
 
 put-line-requires : tie.Need-put-line-requires Inv-loop μ-loop
 put-line-requires c κs = (omega (arith, c .before .before .before .before .before .if1 .left), c .before .before .before .before .before .before .before .loop .inv .1 ∙ c .before .before .before .before .before .before .before .before .before .before .pre, simp (length-take, length-drop) (omega (arith, c .before .before .if2 .left)))
@@ -78,7 +77,7 @@ pad-spec =
     Inv-loop
     μ-loop
     loop-holds
-    line-end-requires
+    (λ c κs. search needs)
     before-cr-requires
     sub-if2
     same-length

@@ -16,23 +16,23 @@ use Rattle.assembler.specs.Labels.{labelsOf, labelFaults, mostLabels, la
 use Rattle.assembler.specs.Ends.{faultWhy, assembleWhy, labelsWhy, tellsLine, FaultLine}
 
 -- under the number `why`: done; refused alone; refused with a line. A refusal leaves the output as lent
-pub data Ends (s out : List ℕ) (why : ℕ) (x : Left ℕ (List ℕ)) : Type 0 where
-  done : why ≡ 0 → (n : ℕ) → x .page ≡ answered n → Ends s out why x
-  alone : (why ≡ 0 → ⊥) → tellsLine why ≡ false → x ≡ left (refused why) out → Ends s out why x
-  atLine : (line : ℕ) → FaultLine s why line → x ≡ left (refusedAt why line) out → Ends s out why x
+pub data AssemblyEnds (s out : List ℕ) (why : ℕ) (x : Left ℕ (List ℕ)) : Type 0 where
+  done : why ≡ 0 → (n : ℕ) → x .page ≡ answered n → AssemblyEnds s out why x
+  alone : (why ≡ 0 → ⊥) → tellsLine why ≡ false → x ≡ left (refused why) out → AssemblyEnds s out why x
+  atLine : (line : ℕ) → FaultLine s why line → x ≡ left (refusedAt why line) out → AssemblyEnds s out why x
 
 module _ (s out bytes : List ℕ) where
-  checked-ends : (fs : List Fault) → Ends s out (faultWhy fs s) (checked fs s (sectionWritten bytes out) out)
+  checked-ends : (fs : List Fault) → AssemblyEnds s out (faultWhy fs s) (checked fs s (sectionWritten bytes out) out)
   unfolding faultWhy checked
   checked-ends [] = done refl (length bytes) refl
   checked-ends (f ∷ fs) = by (ltb (lowest f s) (lineCount s)) (checked-ends fs)
     where
-      by : (has : Bool) → Ends s out (faultWhy fs s) (checked fs s (sectionWritten bytes out) out)
-          → Ends s out (cond has (faultNumber f) (faultWhy fs s)) (cond has (left (refusedAt (faultNumber f) (lowest f s)) out) (checked fs s (sectionWritten bytes out) out))
+      by : (has : Bool) → AssemblyEnds s out (faultWhy fs s) (checked fs s (sectionWritten bytes out) out)
+          → AssemblyEnds s out (cond has (faultNumber f) (faultWhy fs s)) (cond has (left (refusedAt (faultNumber f) (lowest f s)) out) (checked fs s (sectionWritten bytes out) out))
       by true h = atLine (lowest f s) (record { fault = f; numberIs = refl; lineIs = refl }) refl
       by false h = h
 
-  call-ends : (why later : ℕ) (right : Left ℕ (List ℕ)) → tellsLine why ≡ false → Ends s out later right → Ends s out (first why later) (call why right out)
+  call-ends : (why later : ℕ) (right : Left ℕ (List ℕ)) → tellsLine why ≡ false → AssemblyEnds s out later right → AssemblyEnds s out (first why later) (call why right out)
   call-ends zero later right t h = h
   call-ends (suc why) later right t h = alone (λ z. omega (arith, z)) t refl
 
@@ -47,14 +47,14 @@ module _ (s out bytes : List ℕ) where
       by false true true = refl
       by false true false = refl
 
-  source-ends : (room : ℕ) (fs : List Fault) → Ends s out (first (sourceWhy room s (length out)) (faultWhy fs s)) (call (sourceWhy room s (length out)) (checked fs s (sectionWritten bytes out) out) out)
+  source-ends : (room : ℕ) (fs : List Fault) → AssemblyEnds s out (first (sourceWhy room s (length out)) (faultWhy fs s)) (call (sourceWhy room s (length out)) (checked fs s (sectionWritten bytes out) out) out)
   source-ends room fs = call-ends (sourceWhy room s (length out)) (faultWhy fs s) (checked fs s (sectionWritten bytes out) out) (source-alone room (length out)) (checked-ends fs)
 
-pub assemble-ends : (s out : List ℕ) → Ends s out (assembleWhy s out) (asmOf s out)
+pub assemble-ends : (s out : List ℕ) → AssemblyEnds s out (assembleWhy s out) (asmOf s out)
 unfolding asmOf
 assemble-ends s out = source-ends s out (assembled s) longestSection faults
 
-pub labels-ends : (s out : List ℕ) → Ends s out (labelsWhy s out) (labelsPage s out)
+pub labels-ends : (s out : List ℕ) → AssemblyEnds s out (labelsWhy s out) (labelsPage s out)
 unfolding labelsPage
 labels-ends s out = source-ends s out (labelsOf s) mostLabels labelFaults
 

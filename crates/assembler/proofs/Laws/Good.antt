@@ -32,7 +32,7 @@ not-refused zero n right out e = (refl, e)
 not-refused (suc why) n right out e = absurd (apart (sym e))
 
 -- not too many lines, each in its place, and the section's length
-pub record Good (s : List ℕ) (n : ℕ) : Type 0 where
+pub record GoodSource (s : List ℕ) (n : ℕ) : Type 0 where
   pub few : lineCount s ≤ 1024
   pub in-place : (k : ℕ) → k < lineCount s → misplaced s k ≡ false
   pub size : n ≡ length (assembled s)
@@ -59,7 +59,7 @@ module _ (s out : List ℕ) (n : ℕ) where
       let a = not-refused (sourceWhy longestSection s (length out)) n _ out e in
       (source-sound longestSection s (length out) (a .0) .0, a .1)
 
-  pub good : asmOf s out .page ≡ answered n → Good s n
+  pub good : asmOf s out .page ≡ answered n → GoodSource s n
   unfolding faults
   good e =
       let a = lines e in

@@ -9,7 +9,7 @@ use lib.ListN.{getD, set, length, length-set}
 use lib.Seq.{getD-set-same, getD-set-other, set-out}
 use lib.Dec.{eqb}
 use borrow.Author.Tests.{ne-eqb}
-use Rattle.board.specs.Work.{Work, give, readAt, writeAt, Size, word, byte, Came, value, fitted, writable, even, wordAt, withWord, withByte, get, put, found, run, blank, Agree}
+use Rattle.board.specs.Work.{Work, give, readAt, writeAt, Size, word, byte, Came, value, fitted, writable, even, imageWord, withWord, withByte, get, put, found, run, blank, Agree}
 use Rattle.board.proofs.Laws.{size-put}
 
 -- both blank at the same address, or the same value over images that agree
@@ -33,8 +33,8 @@ fitted-odd : (map : List ℕ) (a : ℕ) → fitted map (even a + 1) ≡ fitted m
 unfolding fitted
 fitted-odd map a = ap (λ (p : ℕ). not (eqb (getD map p 0) 0)) (odd-page a)
 
-word-same : (map m n : List ℕ) (a : ℕ) → Agree map m n → fitted map a ≡ true → wordAt m a ≡ wordAt n a
-unfolding wordAt
+word-same : (map m n : List ℕ) (a : ℕ) → Agree map m n → fitted map a ≡ true → imageWord m a ≡ imageWord n a
+unfolding imageWord
 word-same map m n a g h =
     let lo : getD m (even a) 0 ≡ getD n (even a) 0 = g (even a) (fitted-even map a ∙ h) in
     let hi : getD m (even a + 1) 0 ≡ getD n (even a + 1) 0 = g (even a + 1) (fitted-odd map a ∙ h) in

@@ -7,7 +7,7 @@ use mathlib.Core.Path.{_≡_, refl}
 use lib.ListN.{getD}
 use lib.Dec.{ltb}
 use borrow.Author.Tests.{lt-ltb, ltb-true}
-use Rattle.board.specs.Work.{Work, give, readAt, writeAt, Size, fitted, writable, get, wordAt, Came, found, run, value, blank, _>>=_}
+use Rattle.board.specs.Work.{Work, give, readAt, writeAt, Size, fitted, writable, get, imageWord, Came, found, run, value, blank, _>>=_}
 use Rattle.board.specs.Exec.{Store, Now, logCount, logRoom, withNote, allowed, exec, Board, good, gone}
 use Rattle.board.proofs.Laws.{board-noted, count-note}
 
@@ -17,9 +17,9 @@ pub data Bounded {A : Type 0} : ℕ → Work A → Type 0 where
   writes : {n : ℕ} (z : Size) (a v : ℕ) {w : Work A} → 0 < n → Bounded (n - 1) w → Bounded n (writeAt z a v w)
 
 -- what shows of a store: the image
-abbrev pub shown : {A : Type 0} → Now A → Came A
-shown (good x st) = value x (st .image)
-shown (gone a st) = blank a
+abbrev pub shownOf : {A : Type 0} → Now A → Came A
+shownOf (good x st) = value x (st .image)
+shownOf (gone a st) = blank a
 
 pub bounded-more : {A : Type 0} {n k : ℕ} {w : Work A} → n ≤ k → Bounded n w → Bounded k w
 bounded-more l (gives x) = gives x
@@ -32,7 +32,7 @@ bounded-then l (gives x) g = bounded-more (omega arith) (g x)
 bounded-then l (reads z a h) g = reads z a (λ v. bounded-then l (h v) g)
 bounded-then {m = m} l (writes z a v p h) g = writes {n = m} z a v (omega arith) (bounded-then (omega arith) h g)
 
-shown-allowed : {A : Type 0} (b : Bool) (a : ℕ) (st : Store) (x : Now A) (y : Came A) → (b ≡ true → shown x ≡ y) → shown (allowed b a st x) ≡ found b a y
+shown-allowed : {A : Type 0} (b : Bool) (a : ℕ) (st : Store) (x : Now A) (y : Came A) → (b ≡ true → shownOf x ≡ y) → shownOf (allowed b a st x) ≡ found b a y
 shown-allowed true a st x y h = h refl
 shown-allowed false a st x y h = refl
 
@@ -41,13 +41,13 @@ unfolding logRoom
 has-room l q = lt-ltb (logCount l) 15 q
 
 -- THE SAME AS ON THE IMAGE ALONE
-pub exec-is-run : {A : Type 0} (map : List ℕ) {n : ℕ} {w : Work A} → Bounded n w → (st : Store) → Board map st → logCount (st .log) + n ≤ 15 → shown (exec map w st) ≡ run map w (st .image)
+pub exec-is-run : {A : Type 0} (map : List ℕ) {n : ℕ} {w : Work A} → Bounded n w → (st : Store) → Board map st → logCount (st .log) + n ≤ 15 → shownOf (exec map w st) ≡ run map w (st .image)
 unfolding exec run
 exec-is-run map (gives x) st b h = refl
 exec-is-run map (reads z a g) st b h = shown-allowed (fitted map a) a st _ _ (λ _. exec-is-run map (g (get z (st .image) a)) st b h)
 exec-is-run map (writes z a v p g) st b h =
     let e = has-room (st .log) (omega arith) in
-    shown-allowed (writable map a) a st _ _ (λ _. rw e (exec-is-run map g (withNote z a v st) (board-noted z a v st e b) (rw (count-note (st .log) a (wordAt (st .image) a) (b .whole)) (omega arith))))
+    shown-allowed (writable map a) a st _ _ (λ _. rw e (exec-is-run map g (withNote z a v st) (board-noted z a v st e b) (rw (count-note (st .log) a (imageWord (st .image) a) (b .whole)) (omega arith))))
 
 pub bounded-cond : {A : Type 0} {n : ℕ} (b : Bool) {x y : Work A} → Bounded n x → Bounded n y → Bounded n (cond b x y)
 bounded-cond true h k = h

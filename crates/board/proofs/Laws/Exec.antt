@@ -1,6 +1,6 @@
 -- The store that work leaves, answered or not.
 use Rattle.board.specs.Exec.{Store, Now, good, gone}
 
-abbrev pub stateOf : {A : Type 0} → Now A → Store
-stateOf (good x st) = st
-stateOf (gone a st) = st
+abbrev pub storeOf : {A : Type 0} → Now A → Store
+storeOf (good x st) = st
+storeOf (gone a st) = st

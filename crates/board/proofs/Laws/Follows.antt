@@ -6,7 +6,7 @@ use mathlib.Core.List.{List}
 use mathlib.Core.Path.{_≡_, refl, ap, _∙_}
 use lib.ListN.{set}
 use lib.Seq.{getD-set-other}
-use Rattle.board.specs.Work.{Work, give, readAt, writeAt, Size, word, byte, Came, value, blank, found, run, fitted, writable, even, wordAt, withWord, withByte, get, put, _>>=_}
+use Rattle.board.specs.Work.{Work, give, readAt, writeAt, Size, word, byte, Came, value, blank, found, run, fitted, writable, even, imageWord, withWord, withByte, get, put, _>>=_}
 
 abbrev follow : {A B : Type 0} → Came A → (A → List ℕ → Came B) → Came B
 follow (value x m) f = f x m
@@ -27,8 +27,8 @@ pub run-then : {A B : Type 0} (map : List ℕ) (w : Work A) (f : A → Work B) (
 run-then map w f m e = run-bind map w f m ∙ ap (λ c. follow c (λ x n. run map (f x) n)) e
 
 -- a write into another word leaves a word as it is
-pub put-apart : (z : Size) (m : List ℕ) (b v x : ℕ) → (b / 2 ≡ x / 2 → ⊥) → wordAt (put z m b v) x ≡ wordAt m x
-unfolding wordAt withWord withByte even
+pub put-apart : (z : Size) (m : List ℕ) (b v x : ℕ) → (b / 2 ≡ x / 2 → ⊥) → imageWord (put z m b v) x ≡ imageWord m x
+unfolding imageWord withWord withByte even
 put-apart word m b v x h =
     rw (
       getD-set-other (set m (b / 2 * 2) (v % 256)) (b / 2 * 2 + 1) (x / 2 * 2) (v / 256 % 256) 0 (λ e. omega arith),

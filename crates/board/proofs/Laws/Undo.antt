@@ -10,9 +10,9 @@ use mathlib.Core.Path.{_≡_, refl, sym, ap, _∙_}
 use lib.ListN.{getD, set, length, length-set}
 use lib.Seq.{getD-set-same, getD-set-other, set-getD, set-set, set-comm}
 use Rattle.wordbytes.proofs.Laws.{low-of}
-use Rattle.board.specs.Work.{Work, give, readAt, writeAt, Size, word, byte, fitted, writable, even, wordAt, withWord, withByte, get, put}
+use Rattle.board.specs.Work.{Work, give, readAt, writeAt, Size, word, byte, fitted, writable, even, imageWord, withWord, withByte, get, put}
 use Rattle.board.specs.Exec.{Store, beside, Now, logCount, logRoom, note, withNote, allowed, exec, Lent, Board, back, undone}
-use Rattle.board.proofs.Laws.Exec.{stateOf}
+use Rattle.board.proofs.Laws.Exec.{storeOf}
 use Rattle.board.proofs.Laws.{board-noted, count-note, room-few, size-put, bytes-put}
 
 -- ---- one word put back
@@ -28,8 +28,8 @@ unfolding even
 odd a d = omega arith
 
 -- the old word is put back over what was written
-put-back : (z : Size) (m : List ℕ) (a v : ℕ) → ((i : ℕ) → getD m i 0 < 256) → withWord (put z m a v) a (wordAt m a) ≡ m
-unfolding withWord withByte wordAt
+put-back : (z : Size) (m : List ℕ) (a v : ℕ) → ((i : ℕ) → getD m i 0 < 256) → withWord (put z m a v) a (imageWord m a) ≡ m
+unfolding withWord withByte imageWord
 put-back word m a v h =
     rw (low-of (getD m (even a) 0) (getD m (even a + 1) 0) (h (even a)), high-of (getD m (even a) 0) (getD m (even a + 1) 0) (h (even a)) (h (even a + 1)))
     (rw (
@@ -85,27 +85,27 @@ unfolding back
 back-one n l m k e = ap (λ z. back n l z) e
 
 noted-back : {map : List ℕ} (z : Size) (a v : ℕ) (st : Store) → logCount (st .log) < 15 → Board map st
-    → withWord (put z (st .image) a v) (getD (note (st .log) a (wordAt (st .image) a)) (logCount (st .log) * 2 + 1) 0) (getD (note (st .log) a (wordAt (st .image) a)) (logCount (st .log) * 2 + 2) 0) ≡ st .image
+    → withWord (put z (st .image) a v) (getD (note (st .log) a (imageWord (st .image) a)) (logCount (st .log) * 2 + 1) 0) (getD (note (st .log) a (imageWord (st .image) a)) (logCount (st .log) * 2 + 2) 0) ≡ st .image
 noted-back z a v st f b =
-    rw (note-address (st .log) a (wordAt (st .image) a) (b .whole) f, note-old (st .log) a (wordAt (st .image) a) (b .whole) f)
+    rw (note-address (st .log) a (imageWord (st .image) a) (b .whole) f, note-old (st .log) a (imageWord (st .image) a) (b .whole) f)
     (put-back z (st .image) a v (b .lent .bytes))
 
 noted-undone : {map : List ℕ} (z : Size) (a v : ℕ) (st : Store) → logRoom (st .log) ≡ true → Board map st → undone (withNote z a v st) ≡ undone st
 unfolding undone
 noted-undone z a v st e b =
     let l = st .log in
-    let k = note l a (wordAt (st .image) a) in
+    let k = note l a (imageWord (st .image) a) in
     let f = room-few l e in
-    ap (λ n. back n k (put z (st .image) a v)) (count-note l a (wordAt (st .image) a) (b .whole) ∙ add-one (logCount l))
+    ap (λ n. back n k (put z (st .image) a v)) (count-note l a (imageWord (st .image) a) (b .whole) ∙ add-one (logCount l))
     ∙ back-one (logCount l) k (put z (st .image) a v) (st .image) (noted-back z a v st f b)
-    ∙ back-same (logCount l) k l (st .image) (note-below l a (wordAt (st .image) a) (b .whole) f)
+    ∙ back-same (logCount l) k l (st .image) (note-below l a (imageWord (st .image) a) (b .whole) f)
 
-allowed-undone : {A : Type 0} (b : Bool) (a : ℕ) (st : Store) (x : Now A) → (b ≡ true → undone (stateOf x) ≡ undone st) → undone (stateOf (allowed b a st x)) ≡ undone st
+allowed-undone : {A : Type 0} (b : Bool) (a : ℕ) (st : Store) (x : Now A) → (b ≡ true → undone (storeOf x) ≡ undone st) → undone (storeOf (allowed b a st x)) ≡ undone st
 allowed-undone true a st x g = g refl
 allowed-undone false a st x g = refl
 
 -- THE UNDO: whatever work was done, taking the log back gives what it gave before
-pub undo : {A : Type 0} (map : List ℕ) (w : Work A) (st : Store) → Board map st → undone (stateOf (exec map w st)) ≡ undone st
+pub undo : {A : Type 0} (map : List ℕ) (w : Work A) (st : Store) → Board map st → undone (storeOf (exec map w st)) ≡ undone st
 unfolding exec
 undo map (give x) st b = refl
 undo map (readAt z a k) st b = allowed-undone (fitted map a) a st _ (λ _. undo map (k (get z (st .image) a)) st b)

@@ -1,13 +1,13 @@
 use mathlib.Core.Path.{sym, _∙_}
 use mathlib.Core.Path.{refl}
-use Rattle.board.specs.Work.{word}
+use Rattle.board.specs.Work.{word, writable}
 use Rattle.board.proofs.Laws.{got-written, got-lost, did, and-right, room-few}
 use borrow.Author.Needs.{needs}
 use Rattle.board.proofs.store.Statement.{statement}
 use Rattle.board.proofs.store.Tie as tie
 
 note-requires : tie.Need-note-requires
-note-requires c κs = (c .before .before .before .before .before .before .before .pre .lent .size, room-few (c .before .before .before .before .before .before .before .args .log .now) (and-right _ _ (sym (c .before .before .before .may-write .ensures) ∙ c .before .before .if1 .taken)))
+note-requires c κs = (c .before .before .before .before .before .before .before .pre .lent .size, room-few (c .before .before .before .before .before .before .before .args .log .now) (and-right (writable (c .before .before .before .before .before .before .before .args .map .now) (c .before .before .before .before .before .before .before .args .a)) _ (sym (c .before .before .before .may-write .ensures) ∙ c .before .before .if1 .taken)))
 
 returns : tie.Need-returns
 returns c = did refl (c .before .before .before .before .before .before .before .before .before .before .before .before .pre) (got-written word _ _ (sym (c .before .before .before .before .before .before .before .before .may-write .ensures) ∙ c .before .before .before .before .before .before .before .if1 .taken) (rw (c .before .before .put-word .ensures, c .before .before .before .before .note .ensures)))

@@ -17,11 +17,11 @@ use Rattle.step.specs.declared.Cause.the-variants.{LockedAt}
 use Rattle.step.specs.Step.{After, after, stepOf, kindOf, causeOf, errorCauseOf, causeNumber, causeAddress, isBlank}
 use Rattle.step.specs.Told.{workAnswered, isBlankStep}
 use Rattle.step.proofs.Laws.Causes.{no-blank}
-use Rattle.step.proofs.Laws.Told.{told-in-none, told-in-error, Done, done, step-done, Dropped, trapped, locked, step-dropped, step-counted}
+use Rattle.step.proofs.Laws.Told.{told-in-none, told-in-error, WorkDone, done, step-done, Dropped, trapped, locked, step-dropped, step-counted}
 use Rattle.step.proofs.Laws.Locks.{cause-8}
 use Rattle.refusal.specs.Page.{answered, left}
 use Rattle.refusal.proofs.Laws.Page.{answered-one}
-use Rattle.machine.specs.Numbers.{statePage, toldOf, TurnPage, placePage}
+use Rattle.machine.specs.Numbers.{statePage, toldOf, TurnPage, firstPage}
 use Rattle.machine.specs.Entry.{turned}
 use Rattle.machine.specs.Trail.{trailOf, blanksIn, firstBlankIn, causeAt}
 use Rattle.machine.proofs.Laws.Counted.{first-least, trail-length, trail-at}
@@ -72,7 +72,7 @@ module _ (map : List ℕ) (out : Outside) (s : State) (m : List ℕ) {p : TurnPa
       let x = after (withMode s Locked) m (LockedAt a) in
       record { at = a; firstReached = stops; told = told-is x e; ends = lockUp h (state-is x e) (image-is x e) (cause-is x e) }
 
-  done-page : {x : After} → Done map out s m x → left (answered p) m′ ≡ turned x → Fitted map out s m p m′
+  done-page : {x : After} → WorkDone map out s m x → left (answered p) m′ ≡ turned x → Fitted map out s m p m′
   done-page (done t n r) e =
       let c = causeOf (kindOf s out) in
       let x = after t n c in
@@ -100,7 +100,7 @@ cause-at (a ∷ rs) (suc k) d h = cause-at rs k d (omega arith)
 
 pub counted : (settings : Settings) (map lines : List ℕ) (s : State) (m : List ℕ)
     → (let rs = trailOf settings map lines s m in
-    Counted settings map lines s m (blanksIn rs) (placePage (firstBlankIn rs)))
+    Counted settings map lines s m (blanksIn rs) (firstPage (firstBlankIn rs)))
 counted settings map lines s m = record { number = refl; least = first-least (trailOf settings map lines s m); each = at }
   where
     at : (k : ℕ) → k < length lines → (let b = beforeAt settings map lines s m k in

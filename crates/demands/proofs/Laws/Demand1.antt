@@ -45,7 +45,7 @@ use Rattle.optext_c.specs.Calls as Textc
 use Rattle.assembler.specs.Answer.{asmOf}
 use Rattle.assembler.specs.Labels.{labelsPage}
 use Rattle.assembler.specs.Ends.{assembleWhy, labelsWhy, tellsLine, FaultLine}
-use Rattle.assembler.proofs.Laws.Ends.{Ends, assemble-ends, labels-ends}
+use Rattle.assembler.proofs.Laws.Ends.{AssemblyEnds, assemble-ends, labels-ends}
 use Rattle.assembler_c.specs.Call.{sizeWords, assembleCall, labelsCall}
 use Rattle.trace.specs.Trace.{whyTrace, verdictOf, verdictPage, whyCheck, buffersAfter, checkOf, whyMake, madeOf, makeOf}
 use Rattle.trace_c.specs.Calls.{verdictIn, checkCall}
@@ -252,7 +252,7 @@ answer-alone a = by (eqb (length a) 6)
     by false = refl
 
 -- a call over a source, with its answer
-source-kept : (s out a : List ℕ) (why : ℕ) (l : Left ℕ (List ℕ)) → Ends s out why l
+source-kept : (s out a : List ℕ) (why : ℕ) (l : Left ℕ (List ℕ)) → AssemblyEnds s out why l
     → KeepsCAt (first (answerWhy a) why) tellsLine (FaultLine s) (out, a) (λ line. (out, placeWords line)) (answering sizeWords a (call (answerWhy a) l out))
 source-kept s out a why l h =
     reading-keeps-at _ _ _ (λ n o. (o, sizeWords n)) (λ line o. (o, placeWords line)) (λ o. (o, a)) (first (answerWhy a) why) tellsLine (FaultLine s) out (call (answerWhy a) l out)

@@ -18,22 +18,19 @@ use Rattle.machine.specs.declared.Stop.{Stop}
 use Rattle.machine.specs.declared.Stopped.{Stopped}
 use Rattle.machine.specs.declared.Stopped.the-variants as Stopped
 use Rattle.machine.specs.declared.Until.{Until}
-use Rattle.machine.specs.Numbers.{placePage}
+use Rattle.machine.specs.Numbers.{firstPage}
 use Rattle.machine.specs.Run.{End, end, runOf, noBlanks, lastCause}
 use Rattle.machine.specs.Entry.{stepWhy, runWhy, runEnd}
 use Rattle.machine.specs.Same.{sameOf, runSamePage}
 use Rattle.machine.specs.Until.{ends, stepsTo, stopPage, stoppedPage, stopped, runFor, untilOf, runUntilPage}
 use Rattle.machine.proofs.Laws.Alike as Alike
-use Rattle.machine.proofs.Laws.Alike.{Ends, run-alike, imageOf, run-untouched}
-use Rattle.machine.proofs.Laws.Back.{firstOf, first-back, turn-one}
-use Rattle.machine.proofs.Laws.Blind.{SameLeft, call-same, call-untouched}
+use Rattle.machine.proofs.Laws.Alike.{EndsAlike, run-alike, imageAtEnd, run-untouched}
+use Rattle.machine.proofs.Laws.Back.{firstBack, first-back, turn-one}
+use Rattle.machine.proofs.Laws.Blind.{SameLeft, call-same, call-untouched, ended-same}
 
 -- ---- over one line word
 
-ended-same : {map : List ℕ} {x y : End} → Ends map x y → SameLeft map (runEnd x) (runEnd y)
-ended-same (Alike.ends g) = record { page = refl; agree = g }
-
-ended-kept : (map m : List ℕ) (x : End) → Untouched map m (imageOf x) → Untouched map m (runEnd x .lent)
+ended-kept : (map m : List ℕ) (x : End) → Untouched map m (imageAtEnd x) → Untouched map m (runEnd x .lent)
 ended-kept map m (end t n y) h = h
 
 module _ (settings : Settings) (map : List ℕ) (line k : ℕ) (s : State) where
@@ -49,10 +46,10 @@ module _ (settings : Settings) (map : List ℕ) (line k : ℕ) (s : State) where
 
 -- ---- until something happens
 
-stopped-same : {map : List ℕ} {x y : End} (c : Cause) (k : ℕ) → Ends map x y → SameLeft map (stopped x c k) (stopped y c k)
+stopped-same : {map : List ℕ} {x y : End} (c : Cause) (k : ℕ) → EndsAlike map x y → SameLeft map (stopped x c k) (stopped y c k)
 stopped-same c k (Alike.ends g) = record { page = refl; agree = g }
 
-stopped-kept : (map m : List ℕ) (x : End) (c : Cause) (k : ℕ) → Untouched map m (imageOf x) → Untouched map m (stopped x c k .lent)
+stopped-kept : (map m : List ℕ) (x : End) (c : Cause) (k : ℕ) → Untouched map m (imageAtEnd x) → Untouched map m (stopped x c k .lent)
 stopped-kept map m (end t n y) c k h = h
 
 -- as many steps, and the same last cause
@@ -97,8 +94,8 @@ module _ (settings : Settings) (map lines : List ℕ) (u : Until) (s : State) wh
 
 -- ---- one answer
 
-first-one : (f g : First) → placePage f ≡ placePage g → f ≡ g
-first-one f g e = sym (first-back f) ∙ ap firstOf e ∙ first-back g
+first-one : (f g : First) → firstPage f ≡ firstPage g → f ≡ g
+first-one f g e = sym (first-back f) ∙ ap firstBack e ∙ first-back g
 
 stop-one : (r q : Stop) → stopPage r ≡ stopPage q → r ≡ q
 stop-one r q e =

@@ -9,19 +9,21 @@ use Rattle.board.specs.Work.{Agree, Untouched, Blind}
 use Rattle.state.specs.declared.State.{State}
 use Rattle.state.specs.declared.Settings.{Settings}
 use Rattle.step.specs.declared.Cause.the-variants as Cause
+use Rattle.step.specs.Step.{after}
 use Rattle.wordbytes.specs.Words.{byteAt}
 use Rattle.state.specs.State.{cleared}
 use Rattle.refusal.specs.Numbers.{noState}
 use Rattle.refusal.specs.Page.{Page, refused, refusedAt, answered, Left, left, call, nothing, Told, told, tells, reading}
 use Rattle.refusal.proofs.Laws.Page.{answered-one, call-right}
+use Rattle.machine.specs.declared.Tally.{Tally}
 use Rattle.machine.specs.Run.{End, end, runOf}
-use Rattle.machine.specs.Trail.{trailOf, tallyIn}
+use Rattle.machine.specs.Trail.{trailOf, lastAfter, tallyIn}
 use Rattle.machine.proofs.Laws.Counted.{run-trail}
 use Rattle.machine_c.specs.Layout.{tallyBytes, stateFrom, settingsFrom}
 use Rattle.plugs.specs.declared.Channel.{Channel}
 use Rattle.plugs.specs.Plugs.{newPlug}
 use Rattle.recorder.specs.declared.Recorder.{Recorder}
-use Rattle.recorder.specs.Scan.{TallyPage, tallyPage, plugPage, scanWhy, scanMap, scanImage, scanEnd, scanRun, scanDone, scanOf, reportWhy, reportPage}
+use Rattle.recorder.specs.Scan.{TallyPage, tallyPage, plugPage, scanWhy, scanMap, scanImage, advanced, scanEnd, scanRun, scanDone, scanOf, reportWhy, reportPage}
 use Rattle.recorder.proofs.Laws.Blind.{SameScan, scan-same, scan-kept}
 use Rattle.recorder.proofs.Laws.Blind as Scan
 use Rattle.recorder_c.specs.Layout.{channelsFrom, recorderFrom, refusedScan, refusedReport}
@@ -30,7 +32,7 @@ use Rattle.recorder_c.specs.Calls.{ScanBuffers, scanIn, scanCall, reportIn, rep
 use Rattle.demands.specs.Demand1.{IsAnswer, isAnswer}
 use Rattle.demands.proofs.Laws.Demand1.{call-keeps, twice-keeps}
 use Rattle.demands.proofs.Laws.Blanks.{counted}
-use Rattle.demands.specs.Scans.{ScanAnswers, ReportAnswers, Wd16ScanAnswers, Wd16ReportAnswers, ScanBlind, Wd16ScanBlind, ScanCounted, Wd16ScanCounted}
+use Rattle.demands.specs.Scans.{ScanAnswers, ReportAnswers, Wd16ScanAnswers, Wd16ReportAnswers, ScanBlind, Wd16ScanBlind, ScanCounted, Wd16ScanCounted, ScanIs, Wd16ScanIs}
 
 -- ---- demand 1
 
@@ -153,3 +155,31 @@ wd16-scan-counted b t m map w lines cards readings d b′ t′ m′ d′ e =
       bytes = call-took (refusedScan b t w cards readings d) b t m d r cs (scanWhy r cs m map (settingsFrom w) lines) (scanRun r cs m map (settingsFrom w) lines) b′ t′ m′ d′ e ∙ ap (λ (z : TallyPage). tallyBytes (z .blanks) (z .first)) h;
       holds = counted (settingsFrom w) (scanMap cs map) lines (stateFrom b) (scanImage cs m);
     }
+
+-- ---- demand 2
+
+pub scan-is : ScanIs
+unfolding scanOf scanDone
+scan-is r cs m map settings lines x m′ p e d =
+    let done = call-right (scanWhy r cs m map settings lines) (scanEnd r cs (scanRun r cs m map settings lines)) (r, m) (ap (λ z. left z (x .recorder, m′)) (sym d) ∙ e) .1 in
+    let h = done ∙ ap (λ (y : End). scanEnd r cs y) (run-trail settings (scanMap cs map) lines (r .state) (scanImage cs m) Cause.Nothing) in
+    let page = answered-one (ap (λ z. z .page) h) in
+    (ap (λ z. z .lent .0 .state) h, ap (λ z. z .blanks) page, ap (λ z. z .first) page, ap (λ z. z .lent .1) h)
+
+-- what a call for C leaves that answers 0
+scan-took : (bad : Bool) (b t m d : List ℕ) (r : Recorder) (cs : List Channel) (why : ℕ) (y : End) (s : State) (n : List ℕ) (u : Tally) {c : ScanBuffers} → y ≡ end s n u
+    → told 0 c ≡ reading scanIn (λ l. (b, t, l .1, d)) (call (cond bad noState 0) (call why (scanEnd r cs y) (r, m)) (r, m)) → c ≡ scanIn (tallyPage u) (advanced r cs s, n)
+scan-took true b t m d r cs why y s n u h e = absurd (omega (arith, ap (λ z. z .number) e))
+scan-took false b t m d r cs zero y s n u h e = ap (λ z. z .lent) (e ∙ ap (λ (x : End). reading scanIn (λ l. (b, t, l .1, d)) (scanEnd r cs x)) h)
+scan-took false b t m d r cs (suc why) y s n u h e = absurd (omega (arith, ap (λ z. z .number) e))
+
+pub wd16-scan-is : Wd16ScanIs
+unfolding scanCall scanOf scanDone recorderFrom
+wd16-scan-is b t m map w lines cards readings d b′ t′ m′ d′ e =
+    let r = recorderFrom (stateFrom b) d in
+    let cs = channelsFrom cards readings in
+    let rs = trailOf (settingsFrom w) (scanMap cs map) lines (stateFrom b) (scanImage cs m) in
+    let y = lastAfter (after (stateFrom b) (scanImage cs m) Cause.Nothing) rs in
+    let h = scan-took (refusedScan b t w cards readings d) b t m d r cs (scanWhy r cs m map (settingsFrom w) lines) (scanRun r cs m map (settingsFrom w) lines) (y .state) (y .image) (tallyIn rs)
+    (run-trail (settingsFrom w) (scanMap cs map) lines (stateFrom b) (scanImage cs m) Cause.Nothing) e in
+    (ap (λ z. z .0) h, ap (λ z. z .1) h, ap (λ z. z .2) h)

@@ -20,8 +20,8 @@ use Rattle.step.proofs.Laws.Alike.{step-alike, step-untouched}
 use Rattle.refusal.specs.Page.{Left, left, call}
 use Rattle.machine.proofs.Laws.Blind.{SameLeft, blind}
 use Rattle.benchline.specs.Line.{fields}
-use Rattle.listing.specs.declared.Found.the-variants.{Nothing, Cut}
-use Rattle.listing.specs.Listing.{allStand, wordsAt, foundAt, lineAt, linesFrom, listingOf}
+use Rattle.listing.specs.declared.CodeFound.the-variants.{Nothing, Cut}
+use Rattle.listing.specs.Listing.{allStand, wordsAt, foundAt, listingLine, linesFrom, listingOf}
 use Rattle.listing.specs.Listing as Listing
 use Rattle.listing.proofs.Laws.Alike.{listing-alike}
 use Rattle.stepline.specs.declared.Shown.{Shown}
@@ -131,19 +131,19 @@ module _ (map m n : List ℕ) (g : Agree map m n) where
 
   -- the op code at an even address: the first line of a listing from there to the last, or a word past the last
   module _ (last a : ℕ) where
-    first-line : (k : ℕ) (i : List ℕ) → leb (a / 2 * 2) last ≡ true → lineAt map i last (a / 2 * 2) ≡ getD (linesFrom map i last (suc k) (a / 2 * 2)) 0 []
+    first-line : (k : ℕ) (i : List ℕ) → leb (a / 2 * 2) last ≡ true → listingLine map i last (a / 2 * 2) ≡ getD (linesFrom map i last (suc k) (a / 2 * 2)) 0 []
     unfolding linesFrom
     first-line k i e = rw e refl
 
-    within : leb (a / 2 * 2) last ≡ true → lineAt map m last (a / 2 * 2) ≡ lineAt map n last (a / 2 * 2)
+    within : leb (a / 2 * 2) last ≡ true → listingLine map m last (a / 2 * 2) ≡ listingLine map n last (a / 2 * 2)
     unfolding listingOf
     within e =
         first-line 32767 m e
         ∙ ap (λ (ls : List (List ℕ)). getD ls 0 []) (listing-alike map m n g last (a / 2 * 2) (omega arith))
         ∙ sym (first-line 32767 n e)
 
-    past : leb (a / 2 * 2) last ≡ false → lineAt map m last (a / 2 * 2) ≡ lineAt map n last (a / 2 * 2)
-    unfolding lineAt foundAt allStand Listing.lineOf fields
+    past : leb (a / 2 * 2) last ≡ false → listingLine map m last (a / 2 * 2) ≡ listingLine map n last (a / 2 * 2)
+    unfolding listingLine foundAt allStand Listing.lineOf fields
     past e = rw e (go (fitted map (a / 2 * 2)) (λ f. word-same a (sym (low-fitted a) ∙ f)))
       where
         go : (f : Bool) → (f ≡ true → wordAt m (a / 2 * 2) ≡ wordAt n (a / 2 * 2))
@@ -151,10 +151,10 @@ module _ (map m n : List ℕ) (g : Agree map m n) where
         go true h = rw (h refl) refl
         go false h = refl
 
-    line-same : lineAt map m last (a / 2 * 2) ≡ lineAt map n last (a / 2 * 2)
+    line-same : listingLine map m last (a / 2 * 2) ≡ listingLine map n last (a / 2 * 2)
     line-same = go (leb (a / 2 * 2) last) refl
       where
-        go : (b : Bool) → leb (a / 2 * 2) last ≡ b → lineAt map m last (a / 2 * 2) ≡ lineAt map n last (a / 2 * 2)
+        go : (b : Bool) → leb (a / 2 * 2) last ≡ b → listingLine map m last (a / 2 * 2) ≡ listingLine map n last (a / 2 * 2)
         go true e = within e
         go false e = past e
 

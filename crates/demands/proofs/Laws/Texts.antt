@@ -16,7 +16,7 @@ use Rattle.optext_c.specs.Calls.{oddLength, lentWhy}
 use Rattle.demands.specs.Terms.{numberAlone, placeToo, wordsWhy, isText, noText, OwnWhy, tellsColumn}
 use Rattle.demands.specs.Demand1.{isAnswer, KeptAt}
 
-why-tells : {t : List ℕ} {c : ℕ} (n : ℕ) → Why t c n → (n ≡ 0 → ⊥) × (tellsColumn n ≡ true)
+pub why-tells : {t : List ℕ} {c : ℕ} (n : ℕ) → Why t c n → (n ≡ 0 → ⊥) × (tellsColumn n ≡ true)
 why-tells n (early e p) = (λ z. omega (arith, e, z), rw e refl)
 why-tells n (after e p i) = (λ z. omega (arith, e, z), rw e refl)
 why-tells n (name e p i s) = (λ z. omega (arith, e, z), rw e refl)

@@ -2,7 +2,7 @@
 use mathlib.Core.Path.{refl}
 use Rattle.shift.specs.Shift.{turns}
 use Rattle.plate.specs.Plate.{formatOf}
-use Rattle.board.specs.Work.{run, fitted, writable, even, wordAt, withWord, withByte, _>>=_}
+use Rattle.board.specs.Work.{run, fitted, writable, even, imageWord, withWord, withByte, _>>=_}
 use Rattle.state.specs.Registers.{regOf, setReg}
 use Rattle.state.specs.State.{reg, withReg, withFlags, withI2, withMode, withMark, withStatus, cleared, psOf, withDone, withPair}
 use Rattle.state.specs.Stack.{push, pushReg, pop, popReg, popStatus, fetch, fromLoc, pushBoth, trap}
@@ -22,5 +22,5 @@ use Rattle.step.specs.Step.{kindIn, workOf, busError, errorOf, stepOf}
 use Rattle.examples.specs.Table.{table, Starred}
 
 pub starred : Starred
-unfolding table stepOf errorOf kindIn workOf busError opWork begun carry traced byFormat formatOf run fitted writable even wordAt withWord withByte _>>=_ regOf setReg reg withReg withFlags withI2 withMode withMark withStatus cleared psOf push pushReg pop popReg popStatus fetch fromLoc pushBoth trap deferred incrementDeferred decrementDeferred indexed indexedDeferred locate moved decode readOf writeTo branch withDone withPair immediate single double format6 operandOf modify test format7 ash sob div format9 settle moveByte settleByte onOperands format10 turns taken textOf opText rowOf theRow rows sepText modeText modeTakes plainText regText literalText upText downText offsetText regA regB registers hex4 hex2 hexOf digits isReserved
+unfolding table stepOf errorOf kindIn workOf busError opWork begun carry traced byFormat formatOf run fitted writable even imageWord withWord withByte _>>=_ regOf setReg reg withReg withFlags withI2 withMode withMark withStatus cleared psOf push pushReg pop popReg popStatus fetch fromLoc pushBoth trap deferred incrementDeferred decrementDeferred indexed indexedDeferred locate moved decode readOf writeTo branch withDone withPair immediate single double format6 operandOf modify test format7 ash sob div format9 settle moveByte settleByte onOperands format10 turns taken textOf opText rowOf theRow rows sepText modeText modeTakes plainText regText literalText upText downText offsetText regA regB registers hex4 hex2 hexOf digits isReserved
 starred = refl

@@ -6,10 +6,6 @@ use Rattle.state.specs.declared.Outside.{Outside}
 use Rattle.state.proofs.Laws.Bounds.{opened}
 use Rattle.format1.specs.Format1.{bpt, pushThree, popThree, save, savs, rest, rtt, rrtn, rrtt, rsts, rsvc, format1}
 
-pub bounded-save : (s : State) → Bounded 6 (save s)
-unfolding save pushThree opened
-bounded-save s = search bounds depth 20
-
 pub bounded-format1 : (out : Outside) (s : State) (op : ℕ) → Bounded 9 (format1 out s op)
 unfolding format1 bpt pushThree popThree save savs rest rtt rrtn rrtt rsts rsvc opened
 bounded-format1 out s op = search bounds depth 60

@@ -1,5 +1,5 @@
 use mathlib.Core.Path.{refl}
-use Rattle.board.proofs.Laws.{got-then, got-gone, did, unwritten-at, keptAs, means, passes}
+use Rattle.board.proofs.Laws.{got-then, got-gone, did, unwritten-at, storedAs, means, passes}
 use Rattle.state.proofs.Laws.Answer.{went-store, wentAs, tookAs, untaken}
 use Rattle.format1.specs.Format1.{rsts}
 use borrow.Author.Needs.{needs}
@@ -17,14 +17,14 @@ unfolding rsts
 returns-2 c =
     did refl (c .before .before .before .before .before .before .before .before .before .before .before .before .before .before .pre)
     (got-then _ (c .before .before .before .before .before .before .before .before .before .before .pop .ensures .got) (means tookAs (c .before .before .before .before .before .before .before .before .took .given .1))
-    (got-gone _ (c .before .before .before .before .store .ensures .got) (unwritten-at (c .before .before .before .before .store .ensures .got) (means keptAs (c .enum-told3 .given .1))) refl))
+    (got-gone _ (c .before .before .before .before .store .ensures .got) (unwritten-at (c .before .before .before .before .store .ensures .got) (means storedAs (c .enum-told3 .given .1))) refl))
 
 returns-3 : tie.Need-returns-3
 unfolding rsts
 returns-3 c =
     record {
       got = got-then _ (c .before .before .before .before .before .before .before .before .before .before .before .before .pop .ensures .got) (means tookAs (c .before .before .before .before .before .before .before .before .before .before .took .given .1))
-          (got-then _ (c .before .before .before .before .before .before .store .ensures .got) (means keptAs (c .before .before .enum-told2 .given .1))
+          (got-then _ (c .before .before .before .before .before .before .store .ensures .got) (means storedAs (c .before .before .enum-told2 .given .1))
           (c .rrtt .ensures .got));
       board = c .before .before .before .before .before .before .store .ensures .board;
     }

@@ -1,5 +1,5 @@
 use mathlib.Core.Path.{refl, sym, _∙_}
-use Rattle.board.proofs.Laws.{got-then, got-gone, got-give, did, unread-at, unwritten-at, wordAs, keptAs, means, passes}
+use Rattle.board.proofs.Laws.{got-then, got-gone, got-give, did, unread-at, unwritten-at, wordAs, storedAs, means, passes}
 use Rattle.state.proofs.Laws.Answer.{went-store, wentAs, tookAs, untaken}
 use Rattle.format1.specs.Format1.{savs}
 use borrow.Author.Needs.{needs}
@@ -47,7 +47,7 @@ returns-5 c =
     (got-then _ (c .before .before .before .before .before .before .before .before .before .before .before .before .before .before .before .before .before .before .before .before .before .before .before .before .before .save .ensures .got) (means wentAs (c .before .before .before .before .before .before .before .before .before .before .before .before .before .before .before .before .before .before .before .before .before .went .given .1))
     (got-then _ (c .before .before .before .before .before .before .before .before .before .before .before .before .before .before .before .before .before .before .load .ensures .got) (means wordAs (c .before .before .before .before .before .before .before .before .before .before .before .before .before .before .before .before .old .given .1))
     (got-then _ (c .before .before .before .before .before .before .before .before .before .before .before .before .push .ensures .got) (means wentAs (c .before .before .before .before .before .before .before .before .went2 .given .1))
-    (got-gone _ (c .before .before .before .before .store .ensures .got) (unwritten-at (c .before .before .before .before .store .ensures .got) (means keptAs (c .enum-told6 .given .1))) refl)))))
+    (got-gone _ (c .before .before .before .before .store .ensures .got) (unwritten-at (c .before .before .before .before .store .ensures .got) (means storedAs (c .enum-told6 .given .1))) refl)))))
 
 same-length-6 : tie.Need-same-length-6
 same-length-6 c = c .before .before .before .before .before .store .ensures .board .lent .size ∙ sym (c .before .before .before .before .before .before .before .before .before .before .before .before .before .before .before .before .before .before .before .before .before .before .before .before .before .before .before .before .before .before .before .before .before .before .before .before .pre .lent .size)
@@ -60,7 +60,7 @@ returns-6 c =
     (got-then _ (c .before .before .before .before .before .before .before .before .before .before .before .before .before .before .before .before .before .before .before .before .before .before .before .before .before .before .save .ensures .got) (means wentAs (c .before .before .before .before .before .before .before .before .before .before .before .before .before .before .before .before .before .before .before .before .before .before .went .given .1))
     (got-then _ (c .before .before .before .before .before .before .before .before .before .before .before .before .before .before .before .before .before .before .before .load .ensures .got) (means wordAs (c .before .before .before .before .before .before .before .before .before .before .before .before .before .before .before .before .before .old .given .1))
     (got-then _ (c .before .before .before .before .before .before .before .before .before .before .before .before .before .push .ensures .got) (means wentAs (c .before .before .before .before .before .before .before .before .before .went2 .given .1))
-    (got-then _ (c .before .before .before .before .before .store .ensures .got) (means keptAs (c .before .enum-told5 .given .1))
+    (got-then _ (c .before .before .before .before .before .store .ensures .got) (means storedAs (c .before .enum-told5 .given .1))
     (got-give (rw (c .ien .ensures))))))))
 
 pub savs-spec : {M : Type 1} → statement M

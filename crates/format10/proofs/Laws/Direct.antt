@@ -13,26 +13,25 @@ use Rattle.opcodes.specs.declared.ByteBinary.the-variants.{Movb}
 use Rattle.opcodes.specs.Codes.{binaryAt, byteBinaryAt}
 use Rattle.wordmath.specs.Address.{minus}
 use Rattle.board.specs.Work.{Work, give, Size, word, byte, fitted, writable, get, _>>=_, _>>_}
-use Rattle.board.specs.Exec.{Store, Now, good, gone, and, exec, Got}
+use Rattle.board.specs.Exec.{Store, Now, good, gone, exec, Got}
 use Rattle.board.proofs.Laws.{got-then, got-gone, got-as, got-give, got-read, got-unread, got-lost}
 use Rattle.board.proofs.Laws.Alike.{unfitted-unwritable}
 use Rattle.state.specs.declared.State.{State}
 use Rattle.operand.specs.declared.Place.{Place}
 use Rattle.operand.specs.declared.Place.the-variants.{Reg, Mem}
-use Rattle.operand.specs.Operand.{decode, seen, readOf, writeTo}
+use Rattle.operand.specs.Operand.{decode, decodedTo, readOf, writeTo}
 use Rattle.operand.proofs.Laws.Operand.{not-left}
 use Rattle.operand.specs.Destination.{Holding, holding, operandOf}
 use Rattle.format10.specs.Format10.{binaryNumber, binaryCode, byteCode, moveByte}
 
 -- a write to an operand in memory whose page isn't fitted
 unwritten : (map : List ℕ) (z : Size) (s : State) (k a which w v : ℕ) {st : Store} → fitted map a ≡ false → exec map (writeTo z s k (Mem a which w) v) st ≡ gone a st
-unfolding and
 unwritten map z s k a which w v e = sym (not-left z s k a which w v (got-lost z a (rw (unfitted-unwritable map a e))) refl .came)
 
 module _ {map : List ℕ} {st : Store} (z : Size) (s : State) (mode k : ℕ) (F : Holding → Work State) (W : Work State) (u : State) (v : ℕ) where
   -- the work after the operand is read is W, whatever was read; and where the operand is in memory W writes there
   pub placed : {t : State} (p : Place) {r : Now State}
-      → Got map (decode z s mode k) st (good (seen t k p) st)
+      → Got map (decode z s mode k) st (good (decodedTo t k p) st)
       → ((y : ℕ) → F (holding t p y) ≡ W)
       → ((a which w : ℕ) → p ≡ Mem a which w → W ≡ writeTo z u k (Mem a which w) v)
       → Got map W st r

@@ -16,7 +16,7 @@ returns-2 : tie.Need-returns-2
 unfolding moveByte
 returns-2 c =
     rw (c .before .before .before .before .before .enum-told2 .given .1)
-    (record { got = (rw (c .before .before .before .before .before .enum-told2 .given .1) at (c .before .before .write-byte .ensures)) .got; board = c .before .before .write-byte .ensures .board })
+    (record { got = (rw (c .before .before .before .before .before .enum-told2 .given .1) at (c .before .before .write .ensures)) .got; board = c .before .before .write .ensures .board })
 
 pub move-byte-spec : {M : Type 1} → statement M
 move-byte-spec =

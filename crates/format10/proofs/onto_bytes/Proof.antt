@@ -4,7 +4,8 @@ use Rattle.board.proofs.Laws.{got-then, got-gone, did, byteAs, means, passes}
 use Rattle.state.proofs.Laws.Answer.{went-store, wentAs}
 use Rattle.operand.proofs.Laws.Operand.{located, decoded, unfound}
 use Rattle.operand.proofs.Laws.Destination.{never-found, never-read, held}
-use Rattle.format10.specs.Format10.{onto, settleByte}
+use Rattle.format10.specs.Format10.{settleByte}
+use Rattle.format10.specs.Inner.{onto}
 use Rattle.format10.proofs.Laws.Direct.{placed, movb-code, byte-there}
 use borrow.Author.Needs.{needs}
 use Rattle.format10.proofs.onto_bytes.Statement.{statement}

@@ -5,7 +5,7 @@ use Rattle.state.proofs.Laws.Answer.{went-store, wentAs}
 use Rattle.operand.proofs.Laws.Operand.{located, decoded, unfound}
 use Rattle.operand.proofs.Laws.Destination.{never-found, never-read, held}
 use Rattle.opcodes.specs.declared.Binary.the-variants.{Mov}
-use Rattle.format10.specs.Format10.{onto}
+use Rattle.format10.specs.Inner.{onto}
 use Rattle.format10.proofs.Laws.Format10.{settle-yes}
 use Rattle.format10.proofs.Laws.Direct.{placed, mov-code, word-there}
 use borrow.Author.Needs.{needs}
@@ -18,8 +18,8 @@ returns c =
     rw (← c .before .before .before .before .before .before .before .before .destination-register .ensures, ← c .before .before .before .before .before .before .before .destination-mode .ensures)
     (did (went-store (c .unfound .result)) (c .before .before .before .before .before .before .before .before .before .before .before .pre) (got-gone _ (never-found word _ _ _ refl (c .before .before .before .before .reg .ensures) (c .before .before .before .locate .ensures) (c .before .enum-told .given .1)) refl (passes wentAs unfound (c .unfound .ensures) (c .before .enum-told .given .1))))
 
-write-word-requires : tie.Need-write-word-requires
-write-word-requires c κs = c .before .before .before .before .before .before .before .before .before .before .before .before .before .before .before .before .before .pre
+write-requires : tie.Need-write-requires
+write-requires c κs = c .before .before .before .before .before .before .before .before .before .before .before .before .before .before .before .before .before .pre
 
 returns-2 : tie.Need-returns-2
 unfolding onto
@@ -27,8 +27,8 @@ returns-2 c =
     rw (← c .before .before .before .before .before .before .before .before .before .before .before .before .before .before .before .before .before .destination-register .ensures, ← c .before .before .before .before .before .before .before .before .before .before .before .before .before .before .before .before .destination-mode .ensures)
     (rw (mov-code _ (sym (c .before .before .before .before .before .before .before .before .before .before .before .before .before .before .before .high-digit .ensures) ∙ c .before .before .before .before .before .before .before .if1 .taken))
     (record {
-      got = placed word _ _ _ _ _ _ _ _ (decoded word _ _ _ (located word _ _ _ (c .before .before .before .before .before .before .before .before .before .before .before .before .locate .result) refl (c .before .before .before .before .before .before .before .before .before .before .before .before .before .reg .ensures) (c .before .before .before .before .before .before .before .before .before .before .before .before .locate .ensures)) (c .before .before .before .before .before .before .before .before .before .before .found .given .1) (c .before .before .before .before .before .before .before .before .moved .ensures)) (λ y. settle-yes Mov _ _ _ _ refl) (λ a which w e. word-there _ _ _ a which w _ e) ((rw (c .before .before .before .before .before .with-flags .ensures, c .before .before .before .before .before .before .mov16 .ensures) at (c .before .before .write-word .ensures)) .got);
-      board = c .before .before .write-word .ensures .board;
+      got = placed word _ _ _ _ _ _ _ _ (decoded word _ _ _ (located word _ _ _ (c .before .before .before .before .before .before .before .before .before .before .before .before .locate .result) refl (c .before .before .before .before .before .before .before .before .before .before .before .before .before .reg .ensures) (c .before .before .before .before .before .before .before .before .before .before .before .before .locate .ensures)) (c .before .before .before .before .before .before .before .before .before .before .found .given .1) (c .before .before .before .before .before .before .before .before .moved .ensures)) (λ y. settle-yes Mov _ _ _ _ refl) (λ a which w e. word-there _ _ _ a which w _ e) ((rw (c .before .before .before .before .before .with-flags .ensures, c .before .before .before .before .before .before .mov16 .ensures) at (c .before .before .write .ensures)) .got);
+      board = c .before .before .write .ensures .board;
     }))
 
 returns-3 : tie.Need-returns-3
@@ -67,7 +67,7 @@ onto-words-spec =
     (λ c κs. search needs)
     (λ c κs. search needs)
     (λ c κs. search needs)
-    write-word-requires
+    write-requires
     (λ c. search needs)
     returns-2
     (λ c κs. search needs)

@@ -8,7 +8,7 @@ use Rattle.format10.proofs.settle.Tie as tie
 returns : tie.Need-returns
 returns c =
     rw (settle-yes (c .before .before .before .before .before .before .before .before .before .args .b) (c .before .before .before .before .before .before .before .before .before .args .s) (c .before .before .before .before .before .before .before .before .before .args .k) (c .before .before .before .before .before .before .before .before .before .args .place) (c .before .before .before .before .before .before .before .before .before .args .v) (sym (c .before .before .before .before .before .before .stores .ensures) ∙ c .before .before .before .before .before .if1 .taken))
-    (c .before .before .write-word .ensures)
+    (c .before .before .write .ensures)
 
 returns-2 : tie.Need-returns-2
 returns-2 c =

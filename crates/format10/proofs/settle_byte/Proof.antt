@@ -22,7 +22,7 @@ returns-3 : tie.Need-returns-3
 unfolding settleByte
 returns-3 c =
     rw (c .before .before .before .before .before .enum-told3 .given .1)
-    (record { got = c .before .before .write-byte .ensures .got; board = c .before .before .write-byte .ensures .board })
+    (record { got = c .before .before .write .ensures .got; board = c .before .before .write .ensures .board })
 
 pub settle-byte-spec : {M : Type 1} → statement M
 settle-byte-spec =

@@ -9,13 +9,13 @@ use Rattle.format7.proofs.lsts.Tie as tie
 returns : tie.Need-returns
 unfolding lsts
 returns c =
-    record { got = got-gone _ (c .before .before .before .destination-word .ensures .got) (means heldAs (c .before .enum-told .given .1)) (passes wentAs unheld (c .unheld .ensures) (c .before .enum-told .given .1)) }
+    record { got = got-gone _ (c .before .before .before .destination .ensures .got) (means heldAs (c .before .enum-told .given .1)) (passes wentAs unheld (c .unheld .ensures) (c .before .enum-told .given .1)) }
 
 returns-2 : tie.Need-returns-2
 unfolding lsts
 returns-2 c =
     record {
-      got = got-then _ (c .before .before .before .before .destination-word .ensures .got) (means heldAs (c .before .before .held .given .1))
+      got = got-then _ (c .before .before .before .before .destination .ensures .got) (means heldAs (c .before .before .held .given .1))
           (got-give (rw (c .with-status .ensures)));
     }
 

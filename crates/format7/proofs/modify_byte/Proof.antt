@@ -23,8 +23,8 @@ returns-2 c =
     (did (went-store (c .unanswered .result)) (c .before .before .before .before .before .before .before .before .before .before .before .before .before .before .before .before .before .before .pre)
     (got-gone _ (never-read byte _ _ _ (c .before .before .before .before .before .before .before .before .before .before .before .before .byte-step .ensures) (c .before .before .before .before .before .before .before .before .before .before .before .reg .ensures) (c .before .before .before .before .before .before .before .before .before .before .locate .ensures) (c .before .before .before .before .before .before .before .before .found .given .1) (c .before .before .before .before .before .before .moved .ensures) (c .before .before .before .before .reg2 .ensures) (c .before .before .before .read-byte .ensures) (means byteAs (c .before .enum-told2 .given .1))) refl (means wentAs (c .unanswered .ensures))))
 
-stored-byte-requires : tie.Need-stored-byte-requires
-stored-byte-requires c κs = c .before .before .before .before .before .before .before .before .before .before .before .before .before .before .before .before .before .before .before .before .before .before .pre
+stored-requires : tie.Need-stored-requires
+stored-requires c κs = c .before .before .before .before .before .before .before .before .before .before .before .before .before .before .before .before .before .before .before .before .before .before .pre
 
 returns-3 : tie.Need-returns-3
 unfolding modifyAt
@@ -32,8 +32,8 @@ returns-3 c =
     rw (← c .before .before .before .before .before .before .before .before .before .before .before .before .before .before .before .before .before .before .before .before .before .before .destination-register .ensures, ← c .before .before .before .before .before .before .before .before .before .before .before .before .before .before .before .before .before .before .before .before .before .destination-mode .ensures)
     (record {
       got = got-then _ (held byte _ _ _ (c .before .before .before .before .before .before .before .before .before .before .before .before .before .before .before .before .before .before .before .byte-step .ensures) (c .before .before .before .before .before .before .before .before .before .before .before .before .before .before .before .before .before .before .reg .ensures) (c .before .before .before .before .before .before .before .before .before .before .before .before .before .before .before .before .before .locate .ensures) (c .before .before .before .before .before .before .before .before .before .before .before .before .before .before .before .found .given .1) (c .before .before .before .before .before .before .before .before .before .before .before .before .before .moved .ensures) (c .before .before .before .before .before .before .before .before .before .before .before .reg2 .ensures) (c .before .before .before .before .before .before .before .before .before .before .read-byte .ensures) (means byteAs (c .before .before .before .before .before .before .before .before .d .given .1))) refl
-          ((rw (c .before .before .before .before .before .with-flags .ensures, c .before .before .before .before .before .before .byte-result .ensures) at (c .before .before .stored-byte .ensures)) .got);
-      board = c .before .before .stored-byte .ensures .board;
+          ((rw (c .before .before .before .before .before .with-flags .ensures, c .before .before .before .before .before .before .byte-result .ensures) at (c .before .before .stored .ensures)) .got);
+      board = c .before .before .stored .ensures .board;
     })
 
 pub modify-byte-spec : {M : Type 1} → statement M
@@ -60,6 +60,6 @@ modify-byte-spec =
     returns-2
     (λ c κs. search needs)
     (λ c κs. search needs)
-    stored-byte-requires
+    stored-requires
     (λ c. search needs)
     returns-3)

@@ -11,8 +11,8 @@ use Rattle.state.specs.declared.State.{State}
 use Rattle.state.specs.State.{reg, withReg, withPc}
 use Rattle.state.proofs.Laws.State.{withRegs, reg-with, same-state}
 use Rattle.state.specs.Registers.{setReg}
-use Rattle.format8.specs.declared.Row.{Row}
-use Rattle.format8.specs.Format8.{onward, counted}
+use Rattle.format8.specs.declared.BlockMove.{BlockMove}
+use Rattle.format8.specs.Format8.{onward, registersMoved}
 use Rattle.format8.specs.Page.{Plain, sourceBy, destinationBy, stateMoved}
 
 reg-onward : (s : State) (k n x : ℕ) → k ≤ 7 → x ≤ 7 → reg (onward s k n) x ≡ cond (eqb k x) (plus (reg s x) n) (reg s x)
@@ -32,10 +32,10 @@ bump u w a b v = cond w (plus (cond u (plus v a) v) b) (cond u (plus v a) v)
 reg-both : (s : State) (i j a b x : ℕ) → i ≤ 7 → j ≤ 7 → x ≤ 7 → reg (onward (onward s i a) j b) x ≡ bump (eqb i x) (eqb j x) a b (reg s x)
 reg-both s i j a b x h k l = reg-onward (onward s i a) j b x k l ∙ rw (reg-onward s i a x h l)
 
-module _ (r : Row) (i j : ℕ) (i≤ : i ≤ 7) (j≤ : j ≤ 7) where
+module _ (r : BlockMove) (i j : ℕ) (i≤ : i ≤ 7) (j≤ : j ≤ 7) where
   reg-counted : (s : State) (x : ℕ) → x ≤ 7
-      → reg (counted r s i j) x ≡ cond (eqb 0 x) (plus (bump (eqb i x) (eqb j x) (r .source) (r .destination) (reg s x)) 65535) (bump (eqb i x) (eqb j x) (r .source) (r .destination) (reg s x))
-  unfolding counted
+      → reg (registersMoved r s i j) x ≡ cond (eqb 0 x) (plus (bump (eqb i x) (eqb j x) (r .source) (r .destination) (reg s x)) 65535) (bump (eqb i x) (eqb j x) (r .source) (r .destination) (reg s x))
+  unfolding registersMoved
   reg-counted s x l = reg-onward (onward (onward s i (r .source)) j (r .destination)) 0 65535 x (omega arith) l ∙ rw (reg-both s i j (r .source) (r .destination) x i≤ j≤ l)
 
   reg-after : (n : ℕ) (s : State) (x : ℕ) → x ≤ 7
@@ -86,23 +86,23 @@ stride-destination true d e v = plus-plus v d e
 stride-destination false d e v = refl
 
 -- the state past the op code
-abbrev pub past : State → State
-past s = withPc s (plus (s .regs .pc) 2)
+abbrev pub pastCode : State → State
+pastCode s = withPc s (plus (s .regs .pc) 2)
 
 -- the state after an element that is not the last
-abbrev pub onceMore : Row → ℕ → ℕ → State → State
-onceMore r i j s = withPc (counted r (past s) i j) (s .regs .pc)
+abbrev pub onceMore : BlockMove → ℕ → ℕ → State → State
+onceMore r i j s = withPc (registersMoved r (pastCode s) i j) (s .regs .pc)
 
 -- s is the state at the op code
-module _ (r : Row) {i j : ℕ} (p : Plain i j) (s : State) where
-  reg-past : (x : ℕ) → x ≤ 7 → reg (past s) x ≡ cond (eqb 7 x) (plus (s .regs .pc) 2) (reg s x)
+module _ (r : BlockMove) {i j : ℕ} (p : Plain i j) (s : State) where
+  reg-past : (x : ℕ) → x ≤ 7 → reg (pastCode s) x ≡ cond (eqb 7 x) (plus (s .regs .pc) 2) (reg s x)
   reg-past x l = reg-with s 7 (plus (s .regs .pc) 2) x (omega arith) l
 
-  reg-element : (x : ℕ) → x ≤ 7 → reg (counted r (past s) i j) x ≡ elementOn (eqb 7 x) (eqb 0 x) (eqb i x) (eqb j x) (r .source) (r .destination) (plus (s .regs .pc) 2) (reg s x)
-  reg-element x l = reg-counted r i j (omega arith) (omega arith) (past s) x l ∙ rw (reg-past x l)
+  reg-element : (x : ℕ) → x ≤ 7 → reg (registersMoved r (pastCode s) i j) x ≡ elementOn (eqb 7 x) (eqb 0 x) (eqb i x) (eqb j x) (r .source) (r .destination) (plus (s .regs .pc) 2) (reg s x)
+  reg-element x l = reg-counted r i j (omega arith) (omega arith) (pastCode s) x l ∙ rw (reg-past x l)
 
   reg-once : (x : ℕ) → x ≤ 7 → reg (onceMore r i j s) x ≡ cond (eqb 7 x) (s .regs .pc) (elementOn (eqb 7 x) (eqb 0 x) (eqb i x) (eqb j x) (r .source) (r .destination) (plus (s .regs .pc) 2) (reg s x))
-  reg-once x l = reg-with (counted r (past s) i j) 7 (s .regs .pc) x (omega arith) l ∙ rw (reg-element x l)
+  reg-once x l = reg-with (registersMoved r (pastCode s) i j) 7 (s .regs .pc) x (omega arith) l ∙ rw (reg-element x l)
 
   pub once-pc : onceMore r i j s .regs .pc ≡ s .regs .pc
   unfolding withReg setReg
@@ -111,13 +111,13 @@ module _ (r : Row) {i j : ℕ} (p : Plain i j) (s : State) where
   pub once-count : reg (onceMore r i j s) 0 ≡ plus (reg s 0) 65535
   once-count = reg-once 0 (omega arith) ∙ rw (ne-eqb i 0 (λ e. omega arith), ne-eqb j 0 (λ e. omega arith))
 
-  pub counted-count : reg (counted r (past s) i j) 0 ≡ plus (reg s 0) 65535
+  pub counted-count : reg (registersMoved r (pastCode s) i j) 0 ≡ plus (reg s 0) 65535
   counted-count = reg-element 0 (omega arith) ∙ rw (ne-eqb i 0 (λ e. omega arith), ne-eqb j 0 (λ e. omega arith))
 
-  pub past-source : reg (past s) i ≡ reg s i
+  pub past-source : reg (pastCode s) i ≡ reg s i
   past-source = reg-past i (omega arith) ∙ rw (ne-eqb 7 i (λ e. omega arith))
 
-  pub past-destination : reg (past s) j ≡ reg s j
+  pub past-destination : reg (pastCode s) j ≡ reg s j
   past-destination = reg-past j (omega arith) ∙ rw (ne-eqb 7 j (λ e. omega arith))
 
   pub once-source : reg (onceMore r i j s) i ≡ plus (reg s i) (sourceBy r i j)
@@ -131,7 +131,7 @@ module _ (r : Row) {i j : ℕ} (p : Plain i j) (s : State) where
       ∙ rw (ne-eqb 7 j (λ e. omega arith), ne-eqb 0 j (λ e. omega arith), eq-eqb j j refl) (stride-destination (eqb i j) (r .source) (r .destination) (reg s j))
 
   once-else : (k : ℕ) → withRegs (stateMoved r i j (suc k) (onceMore r i j s)) (stateMoved r i j (suc (suc k)) s .regs) ≡ stateMoved r i j (suc (suc k)) s
-  unfolding stateMoved counted onward withReg withRegs
+  unfolding stateMoved registersMoved onward withReg withRegs
   once-else k = refl
 
   -- what is left from there comes to what the whole comes to
@@ -144,13 +144,13 @@ module _ (r : Row) {i j : ℕ} (p : Plain i j) (s : State) where
       ∙ sym (reg-after r i j (omega arith) (omega arith) (suc (suc k)) s x l)))
       (once-else k)
 
-  last-else : withRegs (counted r (past s) i j) (stateMoved r i j 1 s .regs) ≡ stateMoved r i j 1 s
-  unfolding stateMoved counted onward withReg withRegs
+  last-else : withRegs (registersMoved r (pastCode s) i j) (stateMoved r i j 1 s .regs) ≡ stateMoved r i j 1 s
+  unfolding stateMoved registersMoved onward withReg withRegs
   last-else = refl
 
   -- the last element
-  pub last-after : plus (reg s 0) 65535 ≡ 0 → counted r (past s) i j ≡ stateMoved r i j 1 s
-  last-after z = same-state (counted r (past s) i j) (stateMoved r i j 1 s) (λ x l. reg-element x l ∙ at x (ℕ-discrete x 0) (ℕ-discrete x 7) ∙ sym (reg-after r i j (omega arith) (omega arith) 1 s x l)) last-else
+  pub last-after : plus (reg s 0) 65535 ≡ 0 → registersMoved r (pastCode s) i j ≡ stateMoved r i j 1 s
+  last-after z = same-state (registersMoved r (pastCode s) i j) (stateMoved r i j 1 s) (λ x l. reg-element x l ∙ at x (ℕ-discrete x 0) (ℕ-discrete x 7) ∙ sym (reg-after r i j (omega arith) (omega arith) 1 s x l)) last-else
     where
       at : (x : ℕ) → Dec (x ≡ 0) → Dec (x ≡ 7)
           → elementOn (eqb 7 x) (eqb 0 x) (eqb i x) (eqb j x) (r .source) (r .destination) (plus (s .regs .pc) 2) (reg s x)

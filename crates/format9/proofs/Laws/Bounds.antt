@@ -7,10 +7,10 @@ use Rattle.state.proofs.Laws.Bounds.{opened}
 use Rattle.operand.specs.declared.Place.{Place}
 use Rattle.operand.specs.declared.Place.the-variants.{Reg, Mem}
 use Rattle.operand.proofs.Laws.Bounds.{operand-bounds}
-use Rattle.format9.specs.Format9.{call, jsrTo, jsr, leaTo, lea, ash, xch, ashc, mul, div, format9}
+use Rattle.format9.specs.Format9.{jsrAt, jsrTo, jsr, leaTo, lea, ash, xch, ashc, mul, div, format9}
 
 bounded-jsrTo : (out : Outside) (s : State) (r : ℕ) (p : Place) → Bounded 2 (jsrTo out s r p)
-unfolding jsrTo call opened
+unfolding jsrTo jsrAt opened
 bounded-jsrTo out s r Reg = search bounds
 bounded-jsrTo out s r (Mem a which v) = search bounds
 

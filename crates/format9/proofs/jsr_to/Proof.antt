@@ -19,7 +19,7 @@ returns-2 : tie.Need-returns-2
 unfolding jsrTo
 returns-2 c =
     rw (c .before .before .before .before .before .before .place .given .1)
-    (record { got = c .before .before .call .ensures .got; board = c .before .before .call .ensures .board })
+    (record { got = c .before .before .jsr-at .ensures .got; board = c .before .before .jsr-at .ensures .board })
 
 pub jsr-to-spec : {M : Type 1} → statement M
 jsr-to-spec =

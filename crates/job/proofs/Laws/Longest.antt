@@ -20,9 +20,9 @@ use Rattle.job.specs.declared.Section.the-variants as section
 use Rattle.job.specs.Job.{sections, absent, entrySize, mostOf, overOf, keyAt, fitPage, cut, whyEntry, whyEntries, fitPages, whyCount, afterSection, whyLeft, whySections, whyJob, whyRead}
 
 -- the most bytes of these sections
-abbrev pub longest : List Section → ℕ
-longest [] = 0
-longest (s ∷ rest) = 2 + mostOf s * entrySize s + longest rest
+abbrev longestOf : List Section → ℕ
+longestOf [] = 0
+longestOf (s ∷ rest) = 2 + mostOf s * entrySize s + longestOf rest
 
 -- what follows a refusal doesn't count
 first-same : (why x y : ℕ) → (why ≡ 0 → x ≡ y) → first why x ≡ first why y
@@ -94,7 +94,7 @@ module _ (input : List ℕ) (n : ℕ) (l : n ≤ length input) where
   unfolding whyCount
   count-same s at h = rw (cut-same at 2 h, word-same at h) refl
 
-  sections-same : (rest : List Section) (at : ℕ) (map : List ℕ) → at + longest rest < n → whySections rest (take n input) at map ≡ whySections rest input at map
+  sections-same : (rest : List Section) (at : ℕ) (map : List ℕ) → at + longestOf rest < n → whySections rest (take n input) at map ≡ whySections rest input at map
   unfolding whySections
   sections-same [] at map h = rw (length-take-le n input l, ne-eqb at n (λ e. omega (arith, e)), ne-eqb at (length input) (λ e. omega (arith, e))) refl
   sections-same (s ∷ rest) at map h =
@@ -103,7 +103,7 @@ module _ (input : List ℕ) (n : ℕ) (l : n ≤ length input) where
       (first-same (whyCount s input at) _ _ (λ e. after (count-few s input at e) (λ a map k. sections-same rest a map k)))
     where
       after : wordAt input at * entrySize s ≤ mostOf s * entrySize s
-          → ((a : ℕ) (map : List ℕ) → a + longest rest < n → whySections rest (take n input) a map ≡ whySections rest input a map)
+          → ((a : ℕ) (map : List ℕ) → a + longestOf rest < n → whySections rest (take n input) a map ≡ whySections rest input a map)
           → first (whyEntries s (take n input) (wordAt (take n input) at) (at + 2) 0 map) (whySections rest (take n input) (afterSection s (take n input) at) (fitPages s (take n input) (wordAt (take n input) at) (at + 2) map))
           ≡ first (whyEntries s input (wordAt input at) (at + 2) 0 map) (whySections rest input (afterSection s input at) (fitPages s input (wordAt input at) (at + 2) map))
       after few same =
@@ -126,14 +126,14 @@ absent-end section.Words input at e = let z : _≡_ {A = ℕ} 0 1 = cc in absurd
 absent-end section.Lines input at e = let z : _≡_ {A = ℕ} 0 1 = cc in absurd (omega arith)
 absent-end section.ReadOnly input at e = eqb-true at (length input) e
 
-sections-long : (rest : List Section) (input : List ℕ) (at : ℕ) (map : List ℕ) → whySections rest input at map ≡ 0 → length input ≤ at + longest rest
+sections-long : (rest : List Section) (input : List ℕ) (at : ℕ) (map : List ℕ) → whySections rest input at map ≡ 0 → length input ≤ at + longestOf rest
 unfolding whySections
 sections-long [] input at map e = let h = eqb-true at (length input) (cond-none (eqb at (length input)) _ (λ z. omega (arith, z)) e) in omega (arith, h)
 sections-long (s ∷ rest) input at map e = by (λ a map k. sections-long rest input a map k) (absent s input at) refl e
   where
-    by : ((a : ℕ) (map : List ℕ) → whySections rest input a map ≡ 0 → length input ≤ a + longest rest) → (b : Bool) → absent s input at ≡ b
+    by : ((a : ℕ) (map : List ℕ) → whySections rest input a map ≡ 0 → length input ≤ a + longestOf rest) → (b : Bool) → absent s input at ≡ b
         → cond b 0 (first (whyCount s input at) (first (whyEntries s input (wordAt input at) (at + 2) 0 map) (whySections rest input (afterSection s input at) (fitPages s input (wordAt input at) (at + 2) map)))) ≡ 0
-        → length input ≤ at + longest (s ∷ rest)
+        → length input ≤ at + longestOf (s ∷ rest)
     by long true a e = let h = absent-end s input at a in omega (arith, h)
     by long false a e =
         let one = first-both (whyCount s input at) _ e in

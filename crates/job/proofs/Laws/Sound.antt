@@ -11,9 +11,10 @@ use borrow.Author.Tests.{eq-eqb, le-leb, leb-true}
 use Rattle.wordbytes.specs.Words.{byteAt, wordAt}
 use Rattle.refusal.specs.Numbers.{imageLength, mapLength, linesLength, manyLines, jobLineBit}
 use Rattle.refusal.proofs.Laws.Page.{first-both}
-use Rattle.refusal.specs.Refusal.{allOf, flat, plain, boardRefusal, setUp, powerRefusal, linesRefusal, runRefusal}
+use Rattle.refusal.specs.Refusal.{allOf, flat, plain, boardRefusal, jumpersFit, powerRefusal, linesRefusal, runRefusal}
 use Rattle.job.specs.declared.Section.the-variants as section
 use Rattle.job.specs.Job.{sections, entrySize, cut, whyEntry, whyEntries, whyCount, whySections, whyJob, wordsStored, listed, marked, readOnlyAt, wordsSection, linesAt, imageOf, mapOf, linesOf, lineWords, whyRead}
+use Rattle.refusal.proofs.Laws.Refusal.{all-take}
 
 -- ---- a test that every element passes
 
@@ -30,12 +31,6 @@ unfolding allOf
 all-set p [] k v h e = refl
 all-set p (x ∷ xs) zero v h e = all-cons p v xs h (all-head (p x) (allOf p xs) e .1)
 all-set p (x ∷ xs) (suc k) v h e = all-cons p x (set xs k v) (all-head (p x) (allOf p xs) e .0) (all-set p xs k v h (all-head (p x) (allOf p xs) e .1))
-
-all-take : (p : ℕ → Bool) (n : ℕ) (l : List ℕ) → allOf p l ≡ true → allOf p (take n l) ≡ true
-unfolding allOf
-all-take p zero l e = refl
-all-take p (suc n) [] e = refl
-all-take p (suc n) (x ∷ xs) e = all-cons p x (take n xs) (all-head (p x) (allOf p xs) e .0) (all-take p n xs (all-head (p x) (allOf p xs) e .1))
 
 all-same : (p : ℕ → Bool) (n v : ℕ) → p v ≡ true → allOf p (replicate n v) ≡ true
 unfolding allOf
@@ -123,7 +118,7 @@ module _ (input : List ℕ) where
       pages = marked 1 input (wordAt input 0) 2 (replicate 256 0)
 
   -- on a board that is set up right
-  pub job-taken : (p h r image map lines : ℕ) → setUp p h r ≡ true → whyRead image map lines input ≡ 0
+  pub job-taken : (p h r image map lines : ℕ) → jumpersFit p h r ≡ true → whyRead image map lines input ≡ 0
       → (wordAt input (linesAt input) ≤ length (linesOf input)) × (runRefusal (length (imageOf input)) (mapOf input) p h r (lineWords input) ≡ 0)
   unfolding whyRead powerRefusal runRefusal linesRefusal lineWords
   job-taken p h r image map lines right e =

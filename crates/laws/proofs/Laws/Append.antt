@@ -12,21 +12,18 @@ use Rattle.step.specs.declared.Cause.the-variants as Cause
 use Rattle.step.specs.Step.{after, stepOf, blankAt}
 use Rattle.machine.specs.declared.Ran.{Ran}
 use Rattle.machine.specs.declared.Tally.{Tally}
-use Rattle.machine.specs.Run.{End, end, restOfRun, runOf, ranOf, noted, noBlanks}
+use Rattle.machine.specs.Run.{End, end, restOfRun, runOf, ranOf, blankNoted, noBlanks}
 use Rattle.machine.specs.Trail.{trailOf, lastAfter}
 use Rattle.machine.specs.Counted.{tallyJoined}
 use Rattle.machine.proofs.Laws.Counted.{rest-trail, run-trail}
 use Rattle.laws.proofs.Laws.Taken.{ran-is}
+use Rattle.machine.proofs.Laws.Same.{behindSteps, restOn}
 
 -- ---- a run that goes on
 
--- an end, with the tally of n steps before it
-abbrev pub behind : ℕ → Tally → End → End
-behind n t (end s m u) = end s m (tallyJoined n t u)
-
 -- after n steps that ended so, the run over the lines that follow
 abbrev pub goOn : Settings → List ℕ → ℕ → List ℕ → End → End
-goOn settings map n lines (end s m t) = behind n t (runOf settings map lines s m)
+goOn settings map n lines (end s m t) = behindSteps n t (runOf settings map lines s m)
 
 -- ---- over two lists
 
@@ -40,11 +37,8 @@ trail-append settings map (x ∷ xs) ys s m c =
     let a = stepOf map (heard settings x) s m in
     ap (λ z. a ∷ z) (trail-append settings map xs ys (a .state) (a .image) (a .cause))
 
-abbrev restOn : Settings → List ℕ → ℕ → List ℕ → End → End
-restOn settings map n lines (end s m t) = restOfRun settings map n lines s m t
-
-rest-behind : (settings : Settings) (map : List ℕ) (n : ℕ) (lines : List ℕ) (s : State) (m : List ℕ) (t : Tally) → restOfRun settings map n lines s m t ≡ behind n t (runOf settings map lines s m)
-rest-behind settings map n lines s m t = rest-trail settings map n lines s m t Cause.Nothing ∙ ap (behind n t) (sym (run-trail settings map lines s m Cause.Nothing))
+rest-behind : (settings : Settings) (map : List ℕ) (n : ℕ) (lines : List ℕ) (s : State) (m : List ℕ) (t : Tally) → restOfRun settings map n lines s m t ≡ behindSteps n t (runOf settings map lines s m)
+rest-behind settings map n lines s m t = rest-trail settings map n lines s m t Cause.Nothing ∙ ap (behindSteps n t) (sym (run-trail settings map lines s m Cause.Nothing))
 
 rest-append : (settings : Settings) (map : List ℕ) (place : ℕ) (xs ys : List ℕ) (s : State) (m : List ℕ) (t : Tally)
     → restOfRun settings map place (xs ++ ys) s m t ≡ restOn settings map (place + length xs) ys (restOfRun settings map place xs s m t)
@@ -52,8 +46,8 @@ unfolding restOfRun
 rest-append settings map place [] ys s m t = ap (λ z. restOfRun settings map z ys s m t) (omega arith)
 rest-append settings map place (x ∷ xs) ys s m t =
     let a = stepOf map (heard settings x) s m in
-    rest-append settings map (place + 1) xs ys (a .state) (a .image) (noted t place (blankAt (a .cause)))
-    ∙ ap (λ z. restOn settings map z ys (restOfRun settings map (place + 1) xs (a .state) (a .image) (noted t place (blankAt (a .cause))))) (omega arith)
+    rest-append settings map (place + 1) xs ys (a .state) (a .image) (blankNoted t place (blankAt (a .cause)))
+    ∙ ap (λ z. restOn settings map z ys (restOfRun settings map (place + 1) xs (a .state) (a .image) (blankNoted t place (blankAt (a .cause))))) (omega arith)
 
 pub run-append : (settings : Settings) (map xs ys : List ℕ) (s : State) (m : List ℕ) → runOf settings map (xs ++ ys) s m ≡ goOn settings map (length xs) ys (runOf settings map xs s m)
 run-append settings map xs ys s m =
@@ -72,4 +66,4 @@ pub joined-ends : (settings : Settings) (map xs ys : List ℕ) (s : State) (m m�
     → ranOf a m₁ ≡ runOf settings map xs s m → ranOf b m₂ ≡ runOf settings map ys (a .state) m₁ → ranOf c m₃ ≡ runOf settings map (xs ++ ys) s m
     → (c ≡ followed (length xs) a b) × (m₃ ≡ m₂)
 joined-ends settings map xs ys s m m₁ m₂ m₃ a b c e f g =
-    ran-is (g ∙ run-append settings map xs ys s m ∙ ap (goOn settings map (length xs) ys) (sym e) ∙ ap (behind (length xs) (a .tally)) (sym f))
+    ran-is (g ∙ run-append settings map xs ys s m ∙ ap (goOn settings map (length xs) ys) (sym e) ∙ ap (behindSteps (length xs) (a .tally)) (sym f))

@@ -12,7 +12,7 @@ use Rattle.wordmath.specs.declared.Flags.{Flags}
 use Rattle.wordmath.specs.Address.{plus}
 use Rattle.arith.specs.Branch.{branchTaken}
 use Rattle.arith.proofs.Laws.Printed.{numbers, printed, as-printed}
-use Rattle.board.specs.Work.{value, wordAt, run}
+use Rattle.board.specs.Work.{value, imageWord, run}
 use Rattle.plate.specs.Plate.{formatOf}
 use Rattle.plate.proofs.Laws.Plate.{Five, from-01, from-80, five}
 use Rattle.opcodes.specs.Fields.{highByte}
@@ -83,10 +83,10 @@ branch-given map out s m t n op e h = given (rw e at h)
     given : {x y : State} {k l : List ℕ} → value x k ≡ value y l → (y ≡ x) × (l ≡ k)
     given {x} {y} {k} {l} h = let p : y ≡ x = cc in let q : l ≡ k = cc in (p, q)
 
-branch-work : (map : List ℕ) (out : Outside) (s : State) (m : List ℕ) (t : State) (n : List ℕ) → formatOf (highByte (wordAt m (s .regs .pc))) ≡ 5
-    → run map (opWork out s) m ≡ value t n → (t ≡ branched (wordAt m (s .regs .pc)) s) × (n ≡ m)
+branch-work : (map : List ℕ) (out : Outside) (s : State) (m : List ℕ) (t : State) (n : List ℕ) → formatOf (highByte (imageWord m (s .regs .pc))) ≡ 5
+    → run map (opWork out s) m ≡ value t n → (t ≡ branched (imageWord m (s .regs .pc)) s) × (n ≡ m)
 branch-work map out s m t n e h =
-    let op = wordAt m (s .regs .pc) in
+    let op = imageWord m (s .regs .pc) in
     let b = branch-given map out (begins s) m t n op e (plain-run map out s m t n (five-not-xct op e) h) in
     (b .0 ∙ branch-is op s e, b .1)
 

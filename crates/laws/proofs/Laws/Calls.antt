@@ -21,7 +21,7 @@ use Rattle.machine.specs.declared.Ran.{Ran}
 use Rattle.machine.specs.declared.First.{First}
 use Rattle.machine.specs.declared.First.the-variants.{At, Never}
 use Rattle.machine.specs.declared.Finished.the-variants as Finished
-use Rattle.machine.specs.Numbers.{statePage, Address, nowhere, placePage, Place, turnPage}
+use Rattle.machine.specs.Numbers.{statePage, Address, nowhere, firstPage, FirstPage, turnPage}
 use Rattle.machine.specs.Run.{End, end, runOf, ranOf}
 use Rattle.machine.specs.Trail.{trailOf, placeMoved, firstBlankIn, Least, least}
 use Rattle.machine.specs.Counted.{orFirst}
@@ -41,7 +41,7 @@ use Rattle.laws.specs.Halves.{firstPlace, firstTold}
 
 -- a tally's bytes
 abbrev pub bytesFor : Ran → List ℕ
-bytesFor a = tallyBytes (a .tally .blanks) (placePage (a .tally .first))
+bytesFor a = tallyBytes (a .tally .blanks) (firstPage (a .tally .first))
 
 -- ---- a call that isn't refused leaves the bytes of what the run answers
 
@@ -88,36 +88,36 @@ pub cause-byte : (s : State) (cause : ℕ) (at : Address) → byteAt (stateBytes
 unfolding stateBytes statePage
 cause-byte s cause at = refl
 
-pub blanks-word : (n : ℕ) (p : Place) → wordAt (tallyBytes n p) 0 ≡ n
+pub blanks-word : (n : ℕ) (p : FirstPage) → wordAt (tallyBytes n p) 0 ≡ n
 unfolding tallyBytes
 blanks-word n p = word-again n
 
-pub place-word : (n : ℕ) (p : Place) → wordAt (tallyBytes n p) 2 ≡ placeNumber p
+pub place-word : (n : ℕ) (p : FirstPage) → wordAt (tallyBytes n p) 2 ≡ placeNumber p
 unfolding tallyBytes
 place-word n p = word-again (placeNumber p)
 
-pub told-word : (n : ℕ) (p : Place) → wordAt (tallyBytes n p) 4 ≡ placeTold p
+pub told-word : (n : ℕ) (p : FirstPage) → wordAt (tallyBytes n p) 4 ≡ placeTold p
 unfolding tallyBytes
 told-word n p = word-again (placeTold p)
 
 -- ---- the first blank of two calls, by the words of their tallies
 
--- a place is below 4,096, so that FFFF is none
+-- a place is below FFFF, so that FFFF is none
 abbrev pub Within : First → Type 0
-Within f = (p a : ℕ) → f ≡ At p a → p < 4096
+Within f = (p a : ℕ) → f ≡ At p a → p < 65535
 
-pub place-after : (n : ℕ) (f g : First) → Within f → Within g → placeNumber (placePage (orFirst f (placeMoved n g))) ≡ firstPlace n (placeNumber (placePage f)) (placeNumber (placePage g))
+pub place-after : (n : ℕ) (f g : First) → Within f → Within g → placeNumber (firstPage (orFirst f (placeMoved n g))) ≡ firstPlace n (placeNumber (firstPage f)) (placeNumber (firstPage g))
 place-after n (At p a) g h k = let low = h p a refl in rw (ne-eqb p 65535 (λ z. omega arith))
 place-after n Never (At q b) h k = let low = k q b refl in rw (ne-eqb q 65535 (λ z. omega arith))
 place-after n Never Never h k = refl
 
-pub told-after : (n : ℕ) (f g : First) → Within f → placeTold (placePage (orFirst f (placeMoved n g))) ≡ firstTold (placeNumber (placePage f)) (placeTold (placePage f)) (placeTold (placePage g))
+pub told-after : (n : ℕ) (f g : First) → Within f → placeTold (firstPage (orFirst f (placeMoved n g))) ≡ firstTold (placeNumber (firstPage f)) (placeTold (firstPage f)) (placeTold (firstPage g))
 told-after n (At p a) g h = let low = h p a refl in rw (ne-eqb p 65535 (λ z. omega arith))
 told-after n Never (At q b) h = refl
 told-after n Never Never h = refl
 
 -- a run's first place is one of its steps'
-pub run-low : (settings : Settings) (map lines : List ℕ) (s : State) (m : List ℕ) (a : Ran) (n : List ℕ) → ranOf a n ≡ runOf settings map lines s m → length lines ≤ 4096 → Within (a .tally .first)
+pub run-low : (settings : Settings) (map lines : List ℕ) (s : State) (m : List ℕ) (a : Ran) (n : List ℕ) → ranOf a n ≡ runOf settings map lines s m → length lines ≤ 65535 → Within (a .tally .first)
 run-low settings map lines s m a n e l =
     let same : a .tally .first ≡ firstBlankIn (trailOf settings map lines s m) = ap firstOf (e ∙ run-trail settings map lines s m Cause.Nothing) in
     rw same (low (firstBlankIn (trailOf settings map lines s m)) (trailOf settings map lines s m) (trail-length settings map lines s m) (first-least (trailOf settings map lines s m)))
@@ -125,13 +125,13 @@ run-low settings map lines s m a n e l =
     firstOf : End → First
     firstOf (end t k y) = y .first
 
-    low : (f : First) (rs : List After) → length rs ≡ length lines → Least rs (placePage f) → Within f
+    low : (f : First) (rs : List After) → length rs ≡ length lines → Least rs (firstPage f) → Within f
     low (At q x) rs k (least i h g) p a d = let z : q ≡ p = cc in omega arith
     low Never rs k h p a d = let z : _≡_ {A = ℕ} 0 1 = cc in absurd (omega arith)
 
 -- ---- a call that answers 0 wasn't refused
 
-told-none : (b : Bool) → cond b noState 0 ≡ 0 → b ≡ false
+pub told-none : (b : Bool) → cond b noState 0 ≡ 0 → b ≡ false
 told-none true e = absurd (omega arith)
 told-none false e = refl
 
@@ -151,10 +151,10 @@ unfolding refusedRun
 tally-taken b t t′ w e l = rw (neither (refusedStep b w) (notTally t) e .0, eq-eqb (length t′) 6 l)
 
 -- what a step leaves that isn't refused
-abbrev pub stepped : After → Told (List ℕ × List ℕ)
-stepped a = told 0 (stepIn (turnPage (record { state = a .state; cause = a .cause })) (a .image))
+abbrev pub steppedIn : After → Told (List ℕ × List ℕ)
+steppedIn a = told 0 (stepIn (turnPage (record { state = a .state; cause = a .cause })) (a .image))
 
-pub step-call-is : (b m map w : List ℕ) (line : ℕ) → refusedStep b w ≡ false → stepWhy (settingsFrom w) m map line ≡ 0 → stepCall b m map w line ≡ stepped (stepOf map (heard (settingsFrom w) line) (stateFrom b) m)
+pub step-call-is : (b m map w : List ℕ) (line : ℕ) → refusedStep b w ≡ false → stepWhy (settingsFrom w) m map line ≡ 0 → stepCall b m map w line ≡ steppedIn (stepOf map (heard (settingsFrom w) line) (stateFrom b) m)
 unfolding stepCall stepPage
 step-call-is b m map w line h e = rw (h, e)
 

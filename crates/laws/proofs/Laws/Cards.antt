@@ -5,7 +5,7 @@ use mathlib.Core.Bool.{true, false}
 use mathlib.Core.List.{List, [], _∷_}
 use mathlib.Core.Path.{_≡_, refl, sym, ap, _∙_}
 use lib.ListN.{length, getD, length-set, length-replicate}
-use Rattle.board.specs.Work.{run, fitted, writable, even, wordAt, withWord, _>>=_}
+use Rattle.board.specs.Work.{run, fitted, writable, even, imageWord, withWord, _>>=_}
 use Rattle.state.specs.declared.State.{State}
 use Rattle.state.specs.declared.Mode.the-variants.{Locked}
 use Rattle.state.specs.Registers.{regOf, setReg}
@@ -23,8 +23,8 @@ use Rattle.machine.specs.declared.Stepped.{Stepped}
 use Rattle.machine.specs.declared.Stepped.the-variants as Stepped
 use Rattle.machine.specs.declared.Finished.{Finished}
 use Rattle.machine.specs.declared.Finished.the-variants as Finished
-use Rattle.machine.specs.Numbers.{statePage, nowhere, toldOf, placePage}
-use Rattle.machine.specs.Run.{End, end, restOfRun, noted, runOf, ranOf}
+use Rattle.machine.specs.Numbers.{statePage, nowhere, toldOf, firstPage}
+use Rattle.machine.specs.Run.{End, end, restOfRun, blankNoted, runOf, ranOf}
 use Rattle.machine.specs.Trail.{trailOf, lastAfter, blanksIn, tallyIn}
 use Rattle.machine.proofs.Laws.Counted.{run-trail}
 use Rattle.machine.proofs.Laws.Back.{turn-one, one-step}
@@ -34,11 +34,12 @@ use Rattle.machine.proofs.Laws.Entry.{run-answered}
 use Rattle.machine.proofs.Laws.Answered.{step-answer, run-done}
 use Rattle.machine_c.specs.Layout.{stateBytes, stateFrom, settingsFrom}
 use Rattle.laws.proofs.Laws.Taken.{taken-run, run-taken, run-answer-of, step-page-is, step-taken, ran-is}
-use Rattle.laws.proofs.Laws.Calls.{bytesFor, call-answered, run-not-refused, step-not-refused, tally-taken, stepped, step-call-is, blanks-word, mode-byte, cause-byte, number-no-blank}
+use Rattle.laws.proofs.Laws.Calls.{bytesFor, call-answered, run-not-refused, step-not-refused, tally-taken, steppedIn, step-call-is, blanks-word, mode-byte, cause-byte, number-no-blank}
 use Rattle.laws.proofs.Laws.More.{SoundStep}
 use Rattle.laws.proofs.Laws.More.{plugged-one, plugged-more, step-more, trail-more, run-more, none-first}
 use Rattle.endline.specs.Report.{benchBoard}
 use Rattle.laws.specs.Cards.{Plugged, Sound, bareRack, card, image, before, ranIn, endSeen, heals, spares, RunPlugged, StepPlugged, Wd16StepPlugged, Wd16RunPlugged, BothSuffice, BlankNeeded, LockNeeded}
+use Rattle.machine.proofs.Laws.Alike.{imageAtEnd}
 
 -- ---- A RUN
 
@@ -81,7 +82,7 @@ wd16-step-plugged b m map big w line k b₁ m₁ b₂ m₂ p h e five six nine f
     let settings = settingsFrom w in
     let free = step-not-refused b m map w line b₁ m₁ e in
     let a = stepOf map (heard settings line) (stateFrom b) m in
-    let left₁ : told 0 (b₁, m₁) ≡ stepped a = e ∙ step-call-is b m map w line (free .0) (free .1) in
+    let left₁ : told 0 (b₁, m₁) ≡ steppedIn a = e ∙ step-call-is b m map w line (free .0) (free .1) in
     let bytes : b₁ ≡ stateBytes (statePage (a .state)) (causeNumber (a .cause)) (toldOf (causeAddress (a .cause))) = ap (λ z. z .lent .0) left₁ in
     let mode : byteAt b₁ 18 ≡ modeNumber (a .state .mode) = ap (λ z. byteAt z 18) bytes ∙ mode-byte (a .state) (causeNumber (a .cause)) (toldOf (causeAddress (a .cause))) in
     let cause : byteAt b₁ 19 ≡ causeNumber (a .cause) = ap (λ z. byteAt z 19) bytes ∙ cause-byte (a .state) (causeNumber (a .cause)) (toldOf (causeAddress (a .cause))) in
@@ -90,10 +91,10 @@ wd16-step-plugged b m map big w line k b₁ m₁ b₂ m₂ p h e five six nine f
       unlocked = λ l. four (mode ∙ ap modeNumber l);
     } in
     let left₂ : told {B = List ℕ × List ℕ} k (b₂, m₂) ≡ told 0 (b₁, m₁) =
-    f ∙ step-call-is b m big w line (free .0) (step-taken settings m map big line h (free .1)) ∙ ap stepped (step-more map (heard settings line) (stateFrom b) m big (plugged-more map big p) sound) ∙ sym left₁ in
+    f ∙ step-call-is b m big w line (free .0) (step-taken settings m map big line h (free .1)) ∙ ap steppedIn (step-more map (heard settings line) (stateFrom b) m big (plugged-more map big p) sound) ∙ sym left₁ in
     (ap (λ z. z .number) left₂, ap (λ z. z .lent .0) left₂, ap (λ z. z .lent .1) left₂)
 
-done-one : {a b : Ran} → Finished.Done a ≡ Finished.Done b → a ≡ b
+pub done-one : {a b : Ran} → Finished.Done a ≡ Finished.Done b → a ≡ b
 done-one {a} {b} e = cc
 
 same-bytes : (a c : Ran) {b₁ b₂ t₁ t₂ : List ℕ} → c ≡ a → b₁ ≡ stateBytes (statePage (a .state)) 0 nowhere → b₂ ≡ stateBytes (statePage (c .state)) 0 nowhere → t₁ ≡ bytesFor a → t₂ ≡ bytesFor c → (b₂ ≡ b₁) × (t₂ ≡ t₁)
@@ -108,7 +109,7 @@ wd16-run-plugged b t t′ m map big w lines k b₁ t₁ m₁ b₂ t₂ m₂ p h 
     let a = one .ran in
     let two = call-answered b t′ m big w lines k b₂ t₂ m₂ (tally-taken b t t′ w (free .0) l) (taken-run settings m big lines (record { board = h; few = lines-taken .few; unused = lines-taken .unused })) f in
     let mode : byteAt b₁ 18 ≡ modeNumber (a .state .mode) = ap (λ z. byteAt z 18) (one .state) ∙ mode-byte (a .state) 0 nowhere in
-    let blanks : Words.wordAt t₁ 0 ≡ a .tally .blanks = ap (λ z. Words.wordAt z 0) (one .tally) ∙ blanks-word (a .tally .blanks) (placePage (a .tally .first)) in
+    let blanks : Words.wordAt t₁ 0 ≡ a .tally .blanks = ap (λ z. Words.wordAt z 0) (one .tally) ∙ blanks-word (a .tally .blanks) (firstPage (a .tally .first)) in
     let sound : Sound a = record { noBlank = sym blanks ∙ none; unlocked = λ l. four (mode ∙ ap modeNumber l) } in
     let same = run-plugged settings map big lines (stateFrom b) m m₁ m₂ a (Finished.Done (two .1 .ran)) p h sound (one .page) (two .1 .page) in
     let bytes = same-bytes a (two .1 .ran) (done-one (same .answer)) (one .state) (two .1 .state) (one .tally) (two .1 .tally) in
@@ -116,23 +117,20 @@ wd16-run-plugged b t t′ m map big w lines k b₁ t₁ m₁ b₂ t₂ m₂ p h 
 
 -- ---- WHY BOTH CONDITIONS ARE NEEDED
 
-abbrev imageIn : End → List ℕ
-imageIn (end s m t) = m
-
 blank-row : endSeen (ranIn (heals bareRack)) ≡ 0x200 ∷ 0x1fc ∷ 0 ∷ 1 ∷ []
-unfolding restOfRun noted stepOf errorOf kindIn haltOption workOf vectored busError run fitted writable even wordAt withWord _>>=_ regOf setReg reg withReg withI2 withMode withMark cleared psOf push fromLoc pushBoth trap tabled
+unfolding restOfRun blankNoted stepOf errorOf kindIn haltOption workOf vectored busError run fitted writable even imageWord withWord _>>=_ regOf setReg reg withReg withI2 withMode withMark cleared psOf push fromLoc pushBoth trap tabled
 blank-row = refl
 
 healed-row : endSeen (ranIn (heals card)) ≡ 0x400 ∷ 0x1fc ∷ 0 ∷ 0 ∷ []
-unfolding restOfRun noted stepOf errorOf kindIn haltOption workOf vectored busError run fitted writable even wordAt withWord _>>=_ regOf setReg reg withReg withI2 withMode withMark cleared psOf push fromLoc pushBoth trap tabled
+unfolding restOfRun blankNoted stepOf errorOf kindIn haltOption workOf vectored busError run fitted writable even imageWord withWord _>>=_ regOf setReg reg withReg withI2 withMode withMark cleared psOf push fromLoc pushBoth trap tabled
 healed-row = refl
 
 locked-row : endSeen (ranIn (spares bareRack)) ≡ 0x100 ∷ 0x500 ∷ 4 ∷ 0 ∷ []
-unfolding restOfRun noted stepOf errorOf kindIn haltOption workOf vectored busError run fitted writable even wordAt withWord _>>=_ regOf setReg reg withReg withI2 withMode withMark cleared psOf push fromLoc pushBoth trap tabled
+unfolding restOfRun blankNoted stepOf errorOf kindIn haltOption workOf vectored busError run fitted writable even imageWord withWord _>>=_ regOf setReg reg withReg withI2 withMode withMark cleared psOf push fromLoc pushBoth trap tabled
 locked-row = refl
 
 spared-row : endSeen (ranIn (spares card)) ≡ 0x300 ∷ 0x4fc ∷ 0 ∷ 0 ∷ []
-unfolding restOfRun noted stepOf errorOf kindIn haltOption workOf vectored busError run fitted writable even wordAt withWord _>>=_ regOf setReg reg withReg withI2 withMode withMark cleared psOf push fromLoc pushBoth trap tabled
+unfolding restOfRun blankNoted stepOf errorOf kindIn haltOption workOf vectored busError run fitted writable even imageWord withWord _>>=_ regOf setReg reg withReg withI2 withMode withMark cleared psOf push fromLoc pushBoth trap tabled
 spared-row = refl
 
 pub both-suffice : BothSuffice
@@ -155,13 +153,13 @@ card-taken m l = rw l
 
 -- what a run over one line word that isn't refused answers and leaves
 met : (map : List ℕ) (line : ℕ) (s : State) (m : List ℕ) → powerWhy benchBoard m map ≡ 0 → plain line ≡ true
-    → (let x = runOf benchBoard map (line ∷ []) s m in left (finishedPage (Finished.Done (ranIn x))) (imageIn x) ≡ runPage benchBoard m map (line ∷ []) s)
+    → (let x = runOf benchBoard map (line ∷ []) s m in left (finishedPage (Finished.Done (ranIn x))) (imageAtEnd x) ≡ runPage benchBoard m map (line ∷ []) s)
 unfolding allOf
 met map line s m e h =
     let x = runOf benchBoard map (line ∷ []) s m in
-    run-answered benchBoard m map (line ∷ []) s (ranIn x) (imageIn x) (taken-run benchBoard m map (line ∷ []) (record { board = e; few = omega arith; unused = rw h })) (whole x)
+    run-answered benchBoard m map (line ∷ []) s (ranIn x) (imageAtEnd x) (taken-run benchBoard m map (line ∷ []) (record { board = e; few = omega arith; unused = rw h })) (whole x)
   where
-    whole : (x : End) → ranOf (ranIn x) (imageIn x) ≡ x
+    whole : (x : End) → ranOf (ranIn x) (imageAtEnd x) ≡ x
     whole (end t n y) = refl
 
 -- by the rows
@@ -183,7 +181,7 @@ apart a b c d e f g h x y p q r = cc
 pub blank-needed : BlankNeeded
 blank-needed law =
     let same : Finished.Done (ranIn (heals card)) ≡ Finished.Done (ranIn (heals bareRack)) =
-    law benchBoard bareRack card (1 ∷ []) (before 0x200) image (imageIn (heals bareRack)) (imageIn (heals card)) (ranIn (heals bareRack)) (Finished.Done (ranIn (heals card)))
+    law benchBoard bareRack card (1 ∷ []) (before 0x200) image (imageAtEnd (heals bareRack)) (imageAtEnd (heals card)) (ranIn (heals bareRack)) (Finished.Done (ranIn (heals card)))
     plugged (card-taken image image-size) not-locked
     (met bareRack 1 (before 0x200) image (bare-taken image image-size) refl) (met card 1 (before 0x200) image (card-taken image image-size) refl) in
     let pc : _≡_ {A = ℕ} 0x200 0x400 = apart _ _ _ _ _ _ _ _ _ _ blank-row healed-row (ap seenIn same) in
@@ -192,7 +190,7 @@ blank-needed law =
 pub lock-needed : LockNeeded
 lock-needed law =
     let same : Finished.Done (ranIn (spares card)) ≡ Finished.Done (ranIn (spares bareRack)) =
-    law benchBoard bareRack card (2 ∷ []) (before 0x500) image (imageIn (spares bareRack)) (imageIn (spares card)) (ranIn (spares bareRack)) (Finished.Done (ranIn (spares card)))
+    law benchBoard bareRack card (2 ∷ []) (before 0x500) image (imageAtEnd (spares bareRack)) (imageAtEnd (spares card)) (ranIn (spares bareRack)) (Finished.Done (ranIn (spares card)))
     plugged (card-taken image image-size) no-blanks
     (met bareRack 2 (before 0x500) image (bare-taken image image-size) refl) (met card 2 (before 0x500) image (card-taken image image-size) refl) in
     let pc : _≡_ {A = ℕ} 0x100 0x300 = apart _ _ _ _ _ _ _ _ _ _ locked-row spared-row (ap seenIn same) in

@@ -27,6 +27,7 @@ use Rattle.laws.proofs.Laws.Taken.{taken-run}
 use Rattle.laws.proofs.Laws.Halves.{run-none}
 use Rattle.laws.specs.One.{uncaused}
 use Rattle.laws.specs.Halves.{still, Wd16RunNone}
+use Rattle.laws.proofs.Laws.Cards.{done-one}
 
 -- ---- the numbers of a state's bytes
 
@@ -120,9 +121,6 @@ bytes-kept b e h =
 
 -- ---- the call
 
-done-is : {a c : Ran} → Finished.Done a ≡ Finished.Done c → a ≡ c
-done-is {a} {c} e = cc
-
 pub wd16-run-none : Wd16RunNone
 unfolding allOf
 wd16-run-none b t m map w k b₁ t₁ m₁ good l board bytes e =
@@ -131,7 +129,7 @@ wd16-run-none b t m map w k b₁ t₁ m₁ good l board bytes e =
     let free = buffers-taken b t w state (settings-taken b w good) l in
     let call = call-answered b t m map w [] k b₁ t₁ m₁ free (taken-run settings m map [] (record { board = board; few = omega arith; unused = refl })) e in
     let none = run-none settings map (stateFrom b) m m₁ (Finished.Done (call .1 .ran)) board (call .1 .page) in
-    let still-is : call .1 .ran ≡ still (stateFrom b) = done-is (none .0) in (
+    let still-is : call .1 .ran ≡ still (stateFrom b) = done-one (none .0) in (
       call .0,
       call .1 .state ∙ ap (λ a. stateBytes (statePage (a .state)) 0 nowhere) still-is ∙ bytes-kept b state bytes,
       call .1 .tally ∙ ap bytesFor still-is,

@@ -12,7 +12,7 @@ use Rattle.wordbytes.specs.Words.{wordAt}
 use Rattle.machine.specs.declared.Ran.{Ran}
 use Rattle.machine.specs.declared.Finished.{Finished}
 use Rattle.machine.specs.declared.Finished.the-variants as Finished
-use Rattle.machine.specs.Numbers.{statePage, nowhere, placePage}
+use Rattle.machine.specs.Numbers.{statePage, nowhere, firstPage}
 use Rattle.machine.specs.Run.{restOfRun, ranOf, runOf}
 use Rattle.machine.specs.Counted.{tallyJoined}
 use Rattle.machine.proofs.Laws.Counted.{joined-left, joined-right}
@@ -82,18 +82,18 @@ run-one settings map line s m m₁ m₂ r q e f = one-run r (asRun q) m₁ m₂ 
 -- the tallies' words, from what the runs counted
 module _ (n : ℕ) (a b c : Ran) (h : Halves n a b c) (low : Within (a .tally .first)) (lowToo : Within (b .tally .first)) {t₁ t₂ t₃ : List ℕ}
     (e : t₁ ≡ bytesFor a) (f : t₂ ≡ bytesFor b) (g : t₃ ≡ bytesFor c) where
-  blanks-add : wordAt t₃ 0 ≡ wordAt t₁ 0 + wordAt t₂ 0
-  blanks-add = rw (e, f, g, blanks-word (a .tally .blanks) (placePage (a .tally .first)), blanks-word (b .tally .blanks) (placePage (b .tally .first)), blanks-word (c .tally .blanks) (placePage (c .tally .first))) (h .blanks)
+  pub blanks-add : wordAt t₃ 0 ≡ wordAt t₁ 0 + wordAt t₂ 0
+  blanks-add = rw (e, f, g, blanks-word (a .tally .blanks) (firstPage (a .tally .first)), blanks-word (b .tally .blanks) (firstPage (b .tally .first)), blanks-word (c .tally .blanks) (firstPage (c .tally .first))) (h .blanks)
 
-  place-is : wordAt t₃ 2 ≡ firstPlace n (wordAt t₁ 2) (wordAt t₂ 2)
+  pub place-is : wordAt t₃ 2 ≡ firstPlace n (wordAt t₁ 2) (wordAt t₂ 2)
   place-is =
-      rw (e, f, g, place-word (a .tally .blanks) (placePage (a .tally .first)), place-word (b .tally .blanks) (placePage (b .tally .first)), place-word (c .tally .blanks) (placePage (c .tally .first)))
-      (ap (λ z. placeNumber (placePage z)) (h .firstBlank) ∙ place-after n (a .tally .first) (b .tally .first) low lowToo)
+      rw (e, f, g, place-word (a .tally .blanks) (firstPage (a .tally .first)), place-word (b .tally .blanks) (firstPage (b .tally .first)), place-word (c .tally .blanks) (firstPage (c .tally .first)))
+      (ap (λ z. placeNumber (firstPage z)) (h .firstBlank) ∙ place-after n (a .tally .first) (b .tally .first) low lowToo)
 
-  told-is : wordAt t₃ 4 ≡ firstTold (wordAt t₁ 2) (wordAt t₁ 4) (wordAt t₂ 4)
+  pub told-is : wordAt t₃ 4 ≡ firstTold (wordAt t₁ 2) (wordAt t₁ 4) (wordAt t₂ 4)
   told-is =
-      rw (e, f, g, place-word (a .tally .blanks) (placePage (a .tally .first)), told-word (a .tally .blanks) (placePage (a .tally .first)), told-word (b .tally .blanks) (placePage (b .tally .first)), told-word (c .tally .blanks) (placePage (c .tally .first)))
-      (ap (λ z. placeTold (placePage z)) (h .firstBlank) ∙ told-after n (a .tally .first) (b .tally .first) low)
+      rw (e, f, g, place-word (a .tally .blanks) (firstPage (a .tally .first)), told-word (a .tally .blanks) (firstPage (a .tally .first)), told-word (b .tally .blanks) (firstPage (b .tally .first)), told-word (c .tally .blanks) (firstPage (c .tally .first)))
+      (ap (λ z. placeTold (firstPage z)) (h .firstBlank) ∙ told-after n (a .tally .first) (b .tally .first) low)
 
 module _ (map w xs ys b t t′ t″ m : List ℕ) (good : refusedStep b w ≡ false) (tally : length t ≡ 6) (tally′ : length t′ ≡ 6) (tally″ : length t″ ≡ 6)
     (board : powerWhy (settingsFrom w) m map ≡ 0) (few : length xs + length ys ≤ 4096) (unused : allOf plain xs ≡ true) (unusedToo : allOf plain ys ≡ true) where

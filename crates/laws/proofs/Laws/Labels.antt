@@ -8,7 +8,7 @@ use mathlib.Core.Path.{_≡_, refl, sym, ap, _∙_, subst}
 use lib.Dec.{eqb}
 use borrow.Author.Tests.{eqb-true, ne-eqb, ltb-true, lt-ltb}
 use Rattle.wordmath.specs.Address.{plus, minus}
-use Rattle.board.specs.Work.{value, wordAt, fitted, writable, run, _>>=_}
+use Rattle.board.specs.Work.{value, imageWord, fitted, writable, run, _>>=_}
 use Rattle.board.proofs.Laws.Alike.{found-value}
 use Rattle.opcodes.specs.Fields.{highByte, register, format9Code, offset}
 use Rattle.plate.specs.Plate.{formatOf}
@@ -19,10 +19,10 @@ use Rattle.state.specs.Registers.{regOf, setReg}
 use Rattle.state.specs.State.{reg, heard, withReg, withFlags, withMark}
 use Rattle.state.specs.Stack.{pushReg}
 use Rattle.operand.specs.declared.Place.the-variants.{Mem}
-use Rattle.operand.specs.Operand.{Seen, locate, indexed, indexedDeferred, deferred, moved, decode}
+use Rattle.operand.specs.Operand.{Decoded, locate, indexed, indexedDeferred, deferred, moved, decode}
 use Rattle.formats5to6.specs.Format5.{displacement}
 use Rattle.formats5to6.proofs.Laws.Format5 as Twice
-use Rattle.format9.specs.Format9.{call, jsrTo, jsr, leaTo, lea, sob, format9}
+use Rattle.format9.specs.Format9.{jsrAt, jsrTo, jsr, leaTo, lea, sob, format9}
 use Rattle.step.specs.Execute.{execute, byFormat}
 use Rattle.step.specs.Step.{stepOf}
 use Rattle.step.proofs.Laws.Late.{begins}
@@ -71,7 +71,7 @@ branch-comes h v w third settings m map line s t n at label is empty near word y
     let plate : formatOf (highByte w) ≡ 5 = eqb-true _ 5 is in
     let low = high-few w is in
     let op = plus w (d / 2 % 256) in
-    let there : wordAt m (s .regs .pc) ≡ op = ap (λ z. wordAt m z) (at .here) ∙ word in
+    let there : imageWord m (s .regs .pc) ≡ op = ap (λ z. imageWord m z) (at .here) ∙ word in
     let same : highByte op ≡ highByte w = field-high w (d / 2 % 256) empty low (low-byte (d / 2)) in
     let went = branches-as-printed settings m map line s t n (at .call) (at .runs) (at .done) (ap (λ z. formatOf (highByte z)) there ∙ ap formatOf same ∙ plate) .0 in
     let back : displacement op ≡ d = displacement-back op d (field-low w (d / 2 % 256) empty low (low-byte (d / 2))) (even-ahead v h (label .even) (at .even)) (low-word (v + 65536 - plus h 2)) (ltb-true _ 512 near) in
@@ -179,7 +179,7 @@ sob-comes h v w third settings m map line s t n at label is empty near word not-
     let out = heard settings line in
     let op = plus w (d / 2 % 64) in
     let top : w / 512 ≡ 59 = eqb-true _ 59 is in
-    let there : wordAt m (s .regs .pc) ≡ op = ap (λ z. wordAt m z) (at .here) ∙ word in
+    let there : imageWord m (s .regs .pc) ≡ op = ap (λ z. imageWord m z) (at .here) ∙ word in
     let few : d < 128 = ltb-true d 128 near in
     let code : op / 512 ≡ 59 = sob-code w (d / 2 % 64) top empty (mod-64 (d / 2)) in
     let r : register op ≡ register w = sob-register w (d / 2 % 64) top empty (mod-64 (d / 2)) in
@@ -204,30 +204,30 @@ sob-comes h v w third settings m map line s t n at label is empty near word not-
 
 -- ---- JMP and CALL
 
-lea-pc : (map : List ℕ) (out : Outside) (s : State) (m : List ℕ) (t : State) (n : List ℕ) → run map (execute out s 0x73F7) m ≡ value t n → t .regs .pc ≡ plus (plus (s .regs .pc) 2) (wordAt m (s .regs .pc))
+lea-pc : (map : List ℕ) (out : Outside) (s : State) (m : List ℕ) (t : State) (n : List ℕ) → run map (execute out s 0x73F7) m ≡ value t n → t .regs .pc ≡ plus (plus (s .regs .pc) 2) (imageWord m (s .regs .pc))
 unfolding run byFormat formatOf format9 lea leaTo decode locate indexed moved _>>=_ withReg setReg withFlags
 lea-pc map out s m t n h = ap (λ z. z .regs .pc) (given (found-value (fitted map (s .regs .pc)) (s .regs .pc) _ t n h .1))
 
-jsr-pc : (map : List ℕ) (out : Outside) (s : State) (m : List ℕ) (t : State) (n : List ℕ) → run map (execute out s 0x71F7) m ≡ value t n → t .regs .pc ≡ plus (plus (s .regs .pc) 2) (wordAt m (s .regs .pc))
-unfolding run byFormat formatOf format9 jsr jsrTo call pushReg decode locate indexed moved _>>=_ withReg setReg withFlags
+jsr-pc : (map : List ℕ) (out : Outside) (s : State) (m : List ℕ) (t : State) (n : List ℕ) → run map (execute out s 0x71F7) m ≡ value t n → t .regs .pc ≡ plus (plus (s .regs .pc) 2) (imageWord m (s .regs .pc))
+unfolding run byFormat formatOf format9 jsr jsrTo jsrAt pushReg decode locate indexed moved _>>=_ withReg setReg withFlags
 jsr-pc map out s m t n h =
     let one = found-value (fitted map (s .regs .pc)) (s .regs .pc) _ t n h .1 in
     ap (λ z. z .regs .pc) (given (found-value (writable map (minus (s .regs .sp) 2)) (minus (s .regs .sp) 2) _ t n one .1))
 
 -- an op code whose own work comes to its operand's address
 module _ (code : ℕ) (other : eqb code 5 ≡ false)
-    (comes : (map : List ℕ) (out : Outside) (s : State) (m : List ℕ) (t : State) (n : List ℕ) → run map (execute out s code) m ≡ value t n → t .regs .pc ≡ plus (plus (s .regs .pc) 2) (wordAt m (s .regs .pc))) where
+    (comes : (map : List ℕ) (out : Outside) (s : State) (m : List ℕ) (t : State) (n : List ℕ) → run map (execute out s code) m ≡ value t n → t .regs .pc ≡ plus (plus (s .regs .pc) 2) (imageWord m (s .regs .pc))) where
   jumps : JumpComes code
   jumps h v settings m map line s t n at label word offset =
       let out = heard settings line in
       let is = turn-is settings m map line s t n (at .call) in
       let a = stepOf map out s m in
-      let there : wordAt m (s .regs .pc) ≡ code = ap (λ z. wordAt m z) (at .here) ∙ word in
+      let there : imageWord m (s .regs .pc) ≡ code = ap (λ z. imageWord m z) (at .here) ∙ word in
       let work = plain-run map out s m (a .state) (a .image) (ap (λ z. eqb z 5) there ∙ other) (code-work map out s m (at .runs) (sym (is .1) ∙ at .done)) in
       let pc : begins s .regs .pc ≡ plus h 2 = begins-pc s ∙ ap (λ z. plus z 2) (at .here) in
       ap (λ z. z .regs .pc) (is .0)
       ∙ comes map out (begins s) m (a .state) (a .image) (subst (λ (x : ℕ). run map (execute out (begins s) x) m ≡ value (a .state) (a .image)) there work)
-      ∙ ap (λ z. plus (plus z 2) (wordAt m z)) pc
+      ∙ ap (λ z. plus (plus z 2) (imageWord m z)) pc
       ∙ ap (λ z. plus (plus (plus h 2) 2) z) offset
       ∙ lands h v (label .word)
     where
@@ -242,15 +242,15 @@ call-comes = jumps 0x71F7 refl jsr-pc
 
 -- ---- an operand
 
-seen-given : {x y : Seen} {k l : List ℕ} → value x k ≡ value y l → y ≡ x
+seen-given : {x y : Decoded} {k l : List ℕ} → value x k ≡ value y l → y ≡ x
 seen-given {x} {y} h = cc
 
 pub operand-stands : OperandStands
 unfolding run decode locate indexed indexedDeferred deferred _>>=_
 operand-stands z v map s m o n label word =
     let pc = s .regs .pc in
-    let lands : plus (plus pc 2) (wordAt m pc) ≡ v = ap (λ x. plus (plus pc 2) x) word ∙ joins (plus pc 2) v (omega arith) (label .word) in (
+    let lands : plus (plus pc 2) (imageWord m pc) ≡ v = ap (λ x. plus (plus pc 2) x) word ∙ joins (plus pc 2) v (omega arith) (label .word) in (
       λ h. ap (λ x. x .place) (seen-given (found-value (fitted map pc) pc _ o n h .1)) ∙ ap (λ x. Mem x 7 (plus pc 2)) lands,
-      λ h. ap (λ x. x .place) (seen-given (found-value (fitted map (plus (plus pc 2) (wordAt m pc))) (plus (plus pc 2) (wordAt m pc)) _ o n (found-value (fitted map pc) pc _ o n h .1) .1))
-          ∙ ap (λ x. Mem (wordAt m x) 7 (plus pc 2)) lands,
+      λ h. ap (λ x. x .place) (seen-given (found-value (fitted map (plus (plus pc 2) (imageWord m pc))) (plus (plus pc 2) (imageWord m pc)) _ o n (found-value (fitted map pc) pc _ o n h .1) .1))
+          ∙ ap (λ x. Mem (imageWord m x) 7 (plus pc 2)) lands,
     )

@@ -1,13 +1,18 @@
 -- The theorems that specs/Mark.antt states.
-use Prim.Native.Nat.{ℕ}
+use Prim.Native.Nat.{ℕ, _/_, _%_}
+use native.Mathlib.Omega.{arith}
 use mathlib.Core.Bool.{Bool, true, false, not, _&&_, cond}
 use mathlib.Core.List.{List, [], _∷_}
 use mathlib.Core.Path.{_≡_, refl, sym, ap, _∙_, subst}
-use Rattle.wordmath.specs.Number.{bit}
+use lib.Dec.{eqb}
+use Rattle.wordmath.specs.Number.{bit, digit}
+use Rattle.wordmath.specs.Status.{enableOf}
+use Rattle.wordmath.proofs.Laws.Digit.{digit-le}
 use Rattle.state.specs.declared.State.{State}
 use Rattle.state.specs.declared.Settings.{Settings}
+use Rattle.state.specs.declared.Outside.{Outside}
 use Rattle.state.specs.declared.Mode.the-variants.{Running}
-use Rattle.state.specs.State.{heard}
+use Rattle.state.specs.State.{heard, psOf}
 use Rattle.step.specs.declared.Turn.{Turn}
 use Rattle.step.specs.declared.Kind.{Kind}
 use Rattle.step.specs.declared.Kind.the-variants.{OpCode, NonVectored, Vectored}
@@ -21,7 +26,7 @@ use Rattle.refusal.proofs.Laws.Page.{answered-one}
 use Rattle.machine.proofs.Laws.Back.{state-one, turn-one}
 use Rattle.machine.proofs.Laws.Answered.{power-answer, step-answer}
 use Rattle.laws.proofs.Laws.Marked.{step-marks, held-off, switch-heard, power-clears, cause-by, enabled-runs}
-use Rattle.laws.specs.Mark.{executed, enables, isRunning, markAfter, fromOpCode, interrupted, fromInterrupt, fromSwitch, StepCall, MarkAfter, PowerUpClears, HoldsOff, SwitchHeard, LateOnce, among, markBy, Wd16MarkAfter, Wd16PowerUpClears, Wd16HoldsOff, Wd16SwitchHeard, Wd16LateOnce}
+use Rattle.laws.specs.Mark.{executed, enables, isRunning, markAfter, fromOpCode, interrupted, fromInterrupt, fromSwitch, StepCall, MarkAfter, PowerUpClears, HoldsOff, SwitchHeard, LateOnce, among, markBy, Wd16MarkAfter, Wd16PowerUpClears, Wd16HoldsOff, Wd16SwitchHeard, Wd16LateOnce, SetAtOnce, EnabledAtOnce, Wd16EnabledAtOnce}
 
 -- what a call of `step` answered and left is the definition's
 pub turn-is : (settings : Settings) (m map : List ℕ) (line : ℕ) (s : State) (t : Turn) (n : List ℕ) → StepCall settings m map line s t n
@@ -130,3 +135,29 @@ wd16-late-once w b m map l₁ l₂ l₃ b₁ m₁ b₂ m₂ b₃ m₃ e₁ e₂ 
           ap (λ n. among (2 ∷ 3 ∷ 6 ∷ 8 ∷ []) n) (three .cause)
           ∙ late .1 (cause-0 (two .turn .cause) (sym (two .cause) ∙ code)) (ap (λ z. z .mode) (sym (two .state)) ∙ runs₂) (ap (λ z. z .i2) (sym (two .state)) ∙ set₂),
     )
+
+-- ---- I2 and the PS bit
+
+bit-set : (x : ℕ) → x ≡ digit true → eqb x 1 ≡ true
+bit-set x e = rw e
+
+ps-set : (out : Outside) (bus : Bool) (s : State) → s .i2 ≡ true → enableOf (psOf out bus s) ≡ true
+unfolding psOf
+ps-set out bus s e =
+    let i : digit (s .i2) ≡ 1 = ap digit e in
+    bit-set (psOf out bus s / 4096 % 2)
+    (omega (arith, i, digit-le (out .fail), digit-le bus, digit-le (s .flags .n), digit-le (s .flags .z), digit-le (s .flags .v), digit-le (s .flags .c)))
+
+set-once : (s : State) → s .i2 ≡ true → SetAtOnce s
+set-once s e = record { i2 = e; psBit = λ out bus. ps-set out bus s e }
+
+pub enabled-at-once : EnabledAtOnce
+enabled-at-once settings m map line s t n e runs enables-it done =
+    let is = turn-is settings m map line s t n e in
+    set-once (t .state) (ap (λ z. z .i2) (is .0) ∙ enabled-runs map (heard settings line) s m runs enables-it (sym (is .1) ∙ done) .1)
+
+pub wd16-enabled-at-once : Wd16EnabledAtOnce
+wd16-enabled-at-once w b m map line b′ m′ e runs enables-it zero =
+    let d = step-done w b m map line b′ m′ e in
+    let x = enabled-at-once (settingsFrom w) m map line (stateFrom b) (d .turn) m′ (d .page) runs enables-it (cause-0 (d .turn .cause) (sym (d .cause) ∙ zero)) in
+    set-once (stateFrom b′) (ap (λ z. z .i2) (d .state) ∙ x .i2)

@@ -2,13 +2,13 @@
 use Prim.Native.Nat.{ℕ, zero, suc, _/_, _<_}
 use native.Mathlib.Omega.{arith}
 use Rattle.opcodes.proofs.Laws.Past.{Below, below}
-use mathlib.Core.Bool.{Bool, true, false, not, _&&_, cond}
+use mathlib.Core.Bool.{Bool, true, false, not, _&&_, cond, and-false}
 use mathlib.Core.List.{List, [], _∷_}
 use mathlib.Core.Path.{_≡_, refl, sym, ap, _∙_, subst}
 use lib.Dec.{eqb, ltb}
 use lib.ListN.{getD}
 use borrow.Author.Tests.{not-true, eqb-true, ne-eqb, ltb-true, ltb-false}
-use Rattle.board.specs.Work.{Work, give, Came, value, blank, Size, word, byte, wordAt, fitted, run, _>>=_, _>>_}
+use Rattle.board.specs.Work.{Work, give, Came, value, blank, Size, word, byte, imageWord, fitted, run, _>>=_, _>>_}
 use Rattle.board.proofs.Laws.Alike.{found-value}
 use Rattle.step.proofs.Laws.Late.{begins}
 use Rattle.opcodes.specs.Fields.{highByte, onlyRegister, format2Code, format4Code, argument, register, format9Code, sourceMode, sourceRegister, destinationMode, destinationRegister, blockSource, blockDestination}
@@ -27,20 +27,20 @@ use Rattle.state.specs.State.{reg, psOf, withPc, withReg, withFlags, withI2, wi
 use Rattle.state.specs.Stack.{push, pushReg, pop, popReg, popStatus, fetch, fromLoc, pushBoth, trap, tabled, trapNow}
 use Rattle.operand.specs.declared.Place.{Place}
 use Rattle.operand.specs.declared.Place.the-variants.{Reg, Mem}
-use Rattle.operand.specs.Operand.{Seen, moved, decode, writeTo}
+use Rattle.operand.specs.Operand.{Decoded, moved, decode, writeTo}
 use Rattle.operand.specs.Destination.{Holding, operandOf, destination}
 use Rattle.format1.specs.Format1.{xctError, bpt, pushThree, popThree, save, savs, rest, rtt, rrtn, rrtt, rsts, rsvc, format1}
 use Rattle.formats2to4.specs.Low.{formats2to4, lowCodes}
-use Rattle.formats2to4.specs.Format2.{rtn, msko, prtn, lcc, format2}
-use Rattle.formats2to4.specs.Format4.{svca, svc, format4}
+use Rattle.formats2to4.specs.Format2.{rtn, msko, prtn, codes2, lcc, format2}
+use Rattle.formats2to4.specs.Format4.{svca, svc, codes4, format4}
 use Rattle.formats5to6.specs.Format5.{branchNumber, branch}
 use Rattle.formats5to6.specs.Format6.{immediate, single, double, format6}
 use Rattle.format7.specs.Format7.{tcall, tjmp, lsts, ssts, format7}
 use Rattle.format7.specs.Format7 as Seven
 use Rattle.format7.specs.Rows.{onWordAt, storedAt, modifyAt, statusAt, noResultAt}
 use Rattle.format7.proofs.Laws.Columns.{columns}
-use Rattle.format8.specs.Format8.{moveRow, onward, counted, again, element, format8}
-use Rattle.format9.specs.Format9.{call, jsrTo, jsr, leaTo, lea, ash, sob, xch, ashc, mul, div, codes9, format9}
+use Rattle.format8.specs.Format8.{moveRow, onward, registersMoved, again, element, format8}
+use Rattle.format9.specs.Format9.{jsrAt, jsrTo, jsr, leaTo, lea, ash, sob, xch, ashc, mul, div, codes9, format9}
 use Rattle.shift.specs.Shifted.{preset}
 use Rattle.format10.specs.Format10.{stores, settle, moveByte, settleByte, onOperands, onWords, onBytes, binaryCode, byteCode, format10}
 use Rattle.arith.specs.Binary.{binaryOf, byteBinaryOf}
@@ -50,7 +50,7 @@ use Rattle.laws.proofs.Laws.Always.{Always, AlwaysEach, run-give, alway
 use Rattle.laws.specs.Mark.{enables, executed, isRunning, markAfter, fromInterrupt, fromSwitch, runsOrWaits}
 use Rattle.state.specs.declared.Mode.{Mode}
 use Rattle.state.specs.declared.Mode.the-variants.{Running, Waiting, PowerHalt, SwitchHalt, Locked, Saved}
-use Rattle.step.specs.Places.{keep, pickUp, keepFour, pickUpFour, keepRegisters, pickUpRegisters, save as keepAll, restore}
+use Rattle.step.specs.Places.{keep, pickUp, keepFour, pickUpFour, keepRegisters, pickUpRegisters, savePlaces as keepAll, restorePlaces}
 use Rattle.step.specs.declared.Kind.{Kind}
 use Rattle.step.specs.declared.Kind.the-variants.{OpCode, HaltEnd, Boots, Saves, LocksUp, Restarts, Restores, NonVectored, Vectored, Waits, Stuck}
 use Rattle.step.specs.declared.Cause.{Cause}
@@ -61,7 +61,7 @@ use Rattle.state.specs.declared.Settings.{Settings}
 use Rattle.step.proofs.Laws.Ends.{step-well, option-no-code}
 use Rattle.step.proofs.Laws.Causes.{blank-error, blank-counted}
 use Rattle.step.proofs.Laws.Told.{tells}
-use Rattle.step.specs.declared.Told.the-variants.{Nowhere, At}
+use Rattle.step.specs.declared.Reached.the-variants.{Nowhere, At}
 
 abbrev Unmarked : State → Type 0
 Unmarked s = s .mark ≡ false
@@ -104,17 +104,14 @@ unfolding Always tabled _>>=_ withReg
 tabled-unmarked s at e = λ v. e
 
 two-unmarked : (out : Outside) (s : State) (op : ℕ) → Unmarked s → Always Unmarked (format2 out s op)
-unfolding Always format2 rtn msko prtn popReg _>>=_ withReg
+unfolding Always AlwaysEach format2 rtn msko prtn popReg _>>=_ withReg
 two-unmarked out s op e =
-    always-cond Unmarked (eqb (format2Code op) 2) _ _ e
-    (always-cond Unmarked (eqb (format2Code op) 3) (rtn s (onlyRegister op)) _ (λ v. e)
-    (always-cond Unmarked (eqb (format2Code op) 4) (msko s (onlyRegister op)) (prtn s (onlyRegister op)) e (λ v w. e)))
+    always-pick Unmarked (codes2 out s (onlyRegister op)) (minus (format2Code op) 2) (prtn s (onlyRegister op)) (e, ((λ v. e), (e, ((λ v w. e), tt)))) (λ v w. e)
 
 four-unmarked : (out : Outside) (s : State) (op : ℕ) → Unmarked s → Always Unmarked (format4 out s op)
-unfolding Always format4 svca svc save pushThree pushReg push pushBoth fromLoc tabled _>>=_ withReg
+unfolding Always AlwaysEach format4 svca svc save pushThree pushReg push pushBoth fromLoc tabled _>>=_ withReg
 four-unmarked out s op e =
-    always-cond Unmarked (eqb (format4Code op) 1) (svca out s (argument op)) _ (λ v w. e)
-    (always-cond Unmarked (eqb (format4Code op) 2) (svc out s (argument op) 0x24) (svc out s (argument op) 0x26) (λ v. e) (λ v. e))
+    always-pick Unmarked (codes4 out s (argument op)) (minus (format4Code op) 1) (svc out s (argument op) 0x26) ((λ v w. e), ((λ v. e), ((λ v. e), tt))) (λ v. e)
 
 low-unmarked : (out : Outside) (s : State) (op : ℕ) → Unmarked s → Always Unmarked (formats2to4 out s op)
 unfolding Always formats2to4 withFlags
@@ -168,11 +165,11 @@ unfolding again withReg
 again-unmarked s t e = either (eqb (t .regs .r0) 0) t _ e e
 
 eight-unmarked : (s : State) (op : ℕ) → Unmarked s → Always Unmarked (format8 s op)
-unfolding Always element counted onward withReg
-eight-unmarked s op e = always-after Unmarked _ _ (λ _. again-unmarked s (counted (moveRow op) s (blockSource op) (blockDestination op)) e)
+unfolding Always element registersMoved onward withReg
+eight-unmarked s op e = always-after Unmarked _ _ (λ _. again-unmarked s (registersMoved (moveRow op) s (blockSource op) (blockDestination op)) e)
 
-called-unmarked : (s : State) (r a : ℕ) → Unmarked s → Always Unmarked (call s r a)
-unfolding Always call pushReg _>>=_ withReg
+called-unmarked : (s : State) (r a : ℕ) → Unmarked s → Always Unmarked (jsrAt s r a)
+unfolding Always jsrAt pushReg _>>=_ withReg
 called-unmarked s r a e = e
 
 jsr-unmarked : (out : Outside) (s : State) (r : ℕ) (p : Place) → Unmarked s → Always Unmarked (jsrTo out s r p)
@@ -190,7 +187,7 @@ unfolding sob withReg
 sob-unmarked s op e = either (eqb (minus (reg s (register op)) 1) 0) _ _ e e
 
 -- a place is decoded, and then
-with-place : (s : State) (op : ℕ) (f : Seen → Work State) → Unmarked s → ((o : Seen) → Unmarked (o .state) → Always Unmarked (f o))
+with-place : (s : State) (op : ℕ) (f : Decoded → Work State) → Unmarked s → ((o : Decoded) → Unmarked (o .state) → Always Unmarked (f o))
     → Always Unmarked (decode word s (destinationMode op) (destinationRegister op) >>= f)
 with-place s op f e g = always-then (λ o. Unmarked (o .state)) Unmarked (decode word s (destinationMode op) (destinationRegister op)) f (decode-unmarked word s (destinationMode op) (destinationRegister op) e) g
 
@@ -369,23 +366,23 @@ chosen-value map out s m op h = always-value (MarkOf op s) map (carry out (chose
 
 begun-marks : (b : Bool) (map : List ℕ) (out : Outside) (s : State) (m : List ℕ) (w : ℕ) {t : State} {n : List ℕ}
     → (let past = withPc s (plus (s .regs .pc) 2) in run map (cond b (beginXct out past) (give (code past w false)) >>= (λ next. carry out next)) m ≡ value t n)
-    → MarkOf (cond b (wordAt m (wordAt m (s .regs .sp))) w) s t
+    → MarkOf (cond b (imageWord m (imageWord m (s .regs .sp))) w) s t
 unfolding run beginXct popReg pop fetch _>>=_ withReg setReg withFlags
 begun-marks false map out s m w h = always-value (MarkOf w s) map _ m (carry-marks out (withPc s (plus (s .regs .pc) 2)) w false) h
 begun-marks true map out s m w {t} {n} h =
     let sp = s .regs .sp in
-    let pc = wordAt m sp in
+    let pc = imageWord m sp in
     let one = found-value (fitted map sp) sp _ t n h in
     let two = found-value (fitted map (plus sp 2)) (plus sp 2) _ t n (one .1) in
     let three = found-value (fitted map pc) pc _ t n (two .1) in
-    chosen-value map out _ m (wordAt m pc) (three .1)
+    chosen-value map out _ m (imageWord m pc) (three .1)
 
 -- THE MARK AFTER AN OP CODE
 work-marks : (map : List ℕ) (out : Outside) (s : State) (m : List ℕ) {t : State} {n : List ℕ}
     → run map (opWork out s) m ≡ value t n → MarkOf (executed s m) s t
 unfolding run opWork fetch begun _>>=_
 work-marks map out s m {t} {n} h =
-    begun-marks (eqb (wordAt m (s .regs .pc)) 5) map out s m (wordAt m (s .regs .pc)) (found-value (fitted map (s .regs .pc)) (s .regs .pc) _ t n h .1)
+    begun-marks (eqb (imageWord m (s .regs .pc)) 5) map out s m (imageWord m (s .regs .pc)) (found-value (fitted map (s .regs .pc)) (s .regs .pc) _ t n h .1)
 
 -- ---- the kinds of step
 
@@ -411,8 +408,8 @@ save-keeps : (out : Outside) (s : State) → Always (λ t. t .mark ≡ s .mark) 
 unfolding Always keepAll keepRegisters keepFour keep _>>=_ withMode
 save-keeps out s = refl
 
-restore-keeps : (s : State) → Always (λ t. t .mark ≡ s .mark) (restore s)
-unfolding Always restore pickUpRegisters pickUpFour pickUp _>>=_ withReg withStatus withMode
+restore-keeps : (s : State) → Always (λ t. t .mark ≡ s .mark) (restorePlaces s)
+unfolding Always restorePlaces pickUpRegisters pickUpFour pickUp _>>=_ withReg withStatus withMode
 restore-keeps s = λ _ _ _ _ _ _ _ _ _. refl
 
 vectored-clears : (out : Outside) (s : State) → Always Unmarked (vectored out s)
@@ -428,7 +425,7 @@ kind-marks map Boots out s m h = always-value (λ t. t .mark ≡ s .mark) map (g
 kind-marks map Saves out s m h = always-value (λ t. t .mark ≡ s .mark) map (keepAll out s) m (save-keeps out s) h
 kind-marks map LocksUp out s m h = always-value (λ t. t .mark ≡ s .mark) map (give (withMode s Locked)) m refl h
 kind-marks map Restarts out s m h = always-value (λ t. t .mark ≡ s .mark) map (restart s) m (restart-keeps s) h
-kind-marks map Restores out s m h = always-value (λ t. t .mark ≡ s .mark) map (restore s) m (restore-keeps s) h
+kind-marks map Restores out s m h = always-value (λ t. t .mark ≡ s .mark) map (restorePlaces s) m (restore-keeps s) h
 kind-marks map NonVectored out s m h = always-value Unmarked map (nonVectored out s) m (trap-unmarked s (psOf out false s) _) h
 kind-marks map Vectored out s m h = always-value Unmarked map (vectored out s) m (vectored-clears out s) h
 kind-marks map Waits out s m h = always-value (λ t. t .mark ≡ s .mark) map (give s) m refl h
@@ -583,12 +580,8 @@ deaf SwitchHalt out = one-of isInterrupt false (out .i3) _ Waits (options (out .
 deaf Locked out = refl
 deaf Saved out = one-of isInterrupt false (out .i3) Waits Restores refl refl
 
-and-no : (b : Bool) → (b && false) ≡ false
-and-no true = refl
-and-no false = refl
-
 marked-deaf : (s : State) (out : Outside) → s .mark ≡ true → isInterrupt (kindOf s out) ≡ false
-marked-deaf s out e = ap (λ z. isInterrupt (kindIn (s .mode) z out)) (ap (λ z. s .i2 && not z) e ∙ and-no (s .i2)) ∙ deaf (s .mode) out
+marked-deaf s out e = ap (λ z. isInterrupt (kindIn (s .mode) z out)) (ap (λ z. s .i2 && not z) e ∙ and-false (s .i2)) ∙ deaf (s .mode) out
 
 -- no interrupt's cause without its kind
 no-interrupt : (k : Kind) → isInterrupt k ≡ false → (fromInterrupt (causeOf k) ≡ false) × ((a : ℕ) → fromInterrupt (errorCauseOf k a) ≡ false)
@@ -698,11 +691,11 @@ code-work map out s m runs c = came (run map (workOf (kindOf s out) out s) m) re
         absurd (omega arith)
 
 -- an op code that isn't XCT, from where it is fetched on
-pub plain-run : (map : List ℕ) (out : Outside) (s : State) (m : List ℕ) (t : State) (n : List ℕ) → eqb (wordAt m (s .regs .pc)) 5 ≡ false
-    → run map (opWork out s) m ≡ value t n → run map (execute out (begins s) (wordAt m (s .regs .pc))) m ≡ value t n
+pub plain-run : (map : List ℕ) (out : Outside) (s : State) (m : List ℕ) (t : State) (n : List ℕ) → eqb (imageWord m (s .regs .pc)) 5 ≡ false
+    → run map (opWork out s) m ≡ value t n → run map (execute out (begins s) (imageWord m (s .regs .pc))) m ≡ value t n
 unfolding run opWork fetch begun carry traced _>>=_
 plain-run map out s m t n other h =
-    sym (run-give map (execute out (begins s) (wordAt m (s .regs .pc))) m) ∙ (rw other at (found-value (fitted map (s .regs .pc)) (s .regs .pc) _ t n h .1))
+    sym (run-give map (execute out (begins s) (imageWord m (s .regs .pc))) m) ∙ (rw other at (found-value (fitted map (s .regs .pc)) (s .regs .pc) _ t n h .1))
 
 -- it is running with I2 set after it
 pub enabled-runs : (map : List ℕ) (out : Outside) (s : State) (m : List ℕ) → s .mode ≡ Running → enables (executed s m) ≡ true → stepOf map out s m .cause ≡ Cause.OpCode

@@ -15,8 +15,8 @@ use Rattle.state.specs.declared.Settings.{Settings}
 use Rattle.state.specs.declared.Mode.the-variants.{Locked}
 use Rattle.state.specs.State.{heard, withMode}
 use Rattle.step.specs.declared.Cause.{Cause}
-use Rattle.step.specs.declared.Told.{Told}
-use Rattle.step.specs.declared.Told.the-variants as Told
+use Rattle.step.specs.declared.Reached.{Reached}
+use Rattle.step.specs.declared.Reached.the-variants as Reached
 use Rattle.step.specs.Step.{After, after, stepOf, blankAt, isTold, isBlank, kindOf, workOf, busError}
 use Rattle.step.proofs.Laws.Ends.{step-well}
 use Rattle.step.proofs.Laws.Causes.{locked-still, blank-counted}
@@ -130,6 +130,6 @@ unfolding blanksIn firstBlankIn
 none-first [] e = refl
 none-first (a ∷ rs) e = split (blankAt (a .cause)) (none-first rs) e
   where
-    split : (b : Told) → (blanksIn rs ≡ 0 → firstBlankIn rs ≡ Never) → cond (isTold b) 1 0 + blanksIn rs ≡ 0 → here b (firstBlankIn rs) ≡ Never
-    split (Told.At x) h e = absurd (omega arith)
-    split Told.Nowhere h e = ap (placeMoved 1) (h (omega arith))
+    split : (b : Reached) → (blanksIn rs ≡ 0 → firstBlankIn rs ≡ Never) → cond (isTold b) 1 0 + blanksIn rs ≡ 0 → here b (firstBlankIn rs) ≡ Never
+    split (Reached.At x) h e = absurd (omega arith)
+    split Reached.Nowhere h e = ap (placeMoved 1) (h (omega arith))

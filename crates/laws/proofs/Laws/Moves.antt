@@ -11,7 +11,7 @@ use borrow.Author.Tests.{not-true, eq-eqb, ne-eqb}
 use Rattle.wordmath.specs.Number.{bit}
 use Rattle.wordmath.specs.Address.{plus, minus}
 use Rattle.wordmath.specs.Status.{flagsOf}
-use Rattle.board.specs.Work.{Came, value, blank, fitted, wordAt, withWord, run, _>>=_}
+use Rattle.board.specs.Work.{Came, value, blank, fitted, imageWord, withWord, run, _>>=_}
 use Rattle.board.proofs.Laws.Alike.{found-value}
 use Rattle.state.specs.declared.State.{State}
 use Rattle.state.specs.declared.Outside.{Outside}
@@ -45,15 +45,19 @@ use Rattle.machine.proofs.Laws.Answered.{run-done}
 use Rattle.machine_c.specs.Layout.{stateFrom, settingsFrom}
 use Rattle.machine_c.proofs.Laws.Again.{state-again}
 use Rattle.machine.specs.Numbers.{nowhere}
-use Rattle.laws.proofs.Laws.Append.{behind, goOn, run-append}
+use Rattle.laws.proofs.Laws.Append.{goOn, run-append}
 use Rattle.laws.proofs.Laws.Taken.{ran-is}
-use Rattle.laws.proofs.Laws.Calls.{call-answered, run-not-refused, step-done, cause-0, cause-5}
+use Rattle.wordbytes.specs.Words as Words
+use Rattle.laws.proofs.Laws.Calls.{blanks-word, call-answered, run-not-refused, step-done, cause-0, cause-5}
 use Rattle.laws.proofs.Laws.Always.{Always, always-value, run-split}
 use Rattle.opcodes.proofs.Laws.Past.{Below, below}
 use Rattle.laws.proofs.Laws.Marked.{code-work}
 use Rattle.laws.proofs.Laws.Mark.{turn-is}
-use Rattle.laws.specs.Moves.{RunsOn, LentRuns, quiet, Moves, RunMoves, RunsMove, Wd16RunsMove, ElementDropped, opened, OneElement, XctElement, Wd16ElementDropped, Wd16XctElement}
+use Rattle.laws.specs.Moves.{RunsOn, LentRuns, quiet, Moves, RunMoves, RunsMove, Wd16RunsMove, ElementDropped, opened, OneElement, XctElement, Wd16ElementDropped, Wd16XctElement, blanksTold, Wd16MovesCounted}
 use Rattle.laws.specs.Moves as Spec
+use Rattle.step.proofs.Laws.Block.{executes}
+use Rattle.machine.proofs.Laws.Alike.{imageAtEnd}
+use Rattle.machine.proofs.Laws.Same.{behindSteps}
 
 -- ---- quiet lines
 
@@ -106,15 +110,12 @@ runs-end settings map s m lines k s′ m′ (Spec.RunsOn.runs xs ys {blanks = j}
     let more = runs-end settings map (a .state) m₁ ys j s′ m′ r in
     record {
       tally = tallyJoined (length xs) (a .tally) (more .tally);
-      is = run-append settings map xs ys s m ∙ ap (goOn settings map (length xs) ys) (sym one) ∙ ap (behind (length xs) (a .tally)) (more .is);
+      is = run-append settings map xs ys s m ∙ ap (goOn settings map (length xs) ys) (sym one) ∙ ap (behindSteps (length xs) (a .tally)) (more .is);
       blanks = ap (λ n. a .tally .blanks + n) (more .blanks);
     }
 
 abbrev stateIn : End → State
 stateIn (end s m t) = s
-
-abbrev imageIn : End → List ℕ
-imageIn (end s m t) = m
 
 abbrev blanksOf : End → ℕ
 blanksOf (end s m t) = t .blanks
@@ -123,7 +124,7 @@ pub runs-move : RunsMove
 runs-move settings map op lines s m k s′ m′ w r =
     let x = runs-end settings map s m lines k s′ m′ r in
     let same = sym (x .is) ∙ move-end settings map op lines s m w in
-    (ap stateIn same, ap imageIn same, sym (x .blanks) ∙ ap blanksOf same)
+    (ap stateIn same, ap imageAtEnd same, sym (x .blanks) ∙ ap blanksOf same)
 
 -- ---- for C
 
@@ -224,10 +225,6 @@ eight-is op h = elim (ℕ-discrete (op / 256) 14) [ yes e ↦ at (op / 256) 14 e
     at : (a b : ℕ) → a ≡ b → formatOf b ≡ 8 → formatOf a ≡ 8
     at a b e q = rw e q
 
-pub executes : (out : Outside) (s : State) (op : ℕ) → out .settings .blocks ≡ true → op / 512 ≡ 7 → execute out s op ≡ format8 s op
-unfolding byFormat
-executes out s op e h = rw (eight-is op h, e)
-
 chosen-eight : (out : Outside) (s : State) (op : ℕ) → out .settings .blocks ≡ true → op / 512 ≡ 7 → chosen out s op ≡ code s op true
 unfolding trapsAlone
 chosen-eight out s op e h = rw (ne-eqb (op / 4) 1 (λ z. omega arith), eight-is op h, e)
@@ -236,15 +233,15 @@ chosen-eight out s op e h = rw (ne-eqb (op / 4) 1 (λ z. omega arith), eight-is 
 abbrev fetched : State → List ℕ → State
 fetched s m =
     let sp = s .regs .sp in
-    let pc = wordAt m sp in
-    withPc (withFlags (withSp (withPc s pc) (plus (plus sp 2) 2)) (flagsOf (wordAt m (plus sp 2)))) (plus pc 2)
+    let pc = imageWord m sp in
+    withPc (withFlags (withSp (withPc s pc) (plus (plus sp 2) 2)) (flagsOf (imageWord m (plus sp 2)))) (plus pc 2)
 
-xct-run : (map : List ℕ) (out : Outside) (s : State) (m : List ℕ) (t : State) (n : List ℕ) → eqb (wordAt m (s .regs .pc)) 5 ≡ true → run map (opWork out s) m ≡ value t n
-    → run map (carry out (chosen out (fetched s m) (wordAt m (wordAt m (s .regs .sp))))) m ≡ value t n
+xct-run : (map : List ℕ) (out : Outside) (s : State) (m : List ℕ) (t : State) (n : List ℕ) → eqb (imageWord m (s .regs .pc)) 5 ≡ true → run map (opWork out s) m ≡ value t n
+    → run map (carry out (chosen out (fetched s m) (imageWord m (imageWord m (s .regs .sp))))) m ≡ value t n
 unfolding run opWork fetch begun beginXct popReg pop _>>=_ withReg setReg withFlags
 xct-run map out s m t n five h =
     let sp = s .regs .sp in
-    let pc = wordAt m sp in
+    let pc = imageWord m sp in
     let zero = found-value (fitted map (s .regs .pc)) (s .regs .pc) _ t n h in
     let one = found-value (fitted map sp) sp _ t n (rw five at (zero .1)) in
     let two = found-value (fitted map (plus sp 2)) (plus sp 2) _ t n (one .1) in
@@ -262,9 +259,9 @@ pub xct-element : XctElement
 xct-element settings m map line s t n e fit runs c five eight =
     let is = turn-is settings m map line s t n e in
     let out = heard settings line in
-    let op = wordAt m (wordAt m (s .regs .sp)) in
+    let op = imageWord m (imageWord m (s .regs .sp)) in
     let a = stepOf map out s m in
-    let work = xct-run map out s m (a .state) (a .image) (eq-eqb (wordAt m (s .regs .pc)) 5 five) (code-work map out s m runs (sym (is .1) ∙ c)) in
+    let work = xct-run map out s m (a .state) (a .image) (eq-eqb (imageWord m (s .regs .pc)) 5 five) (code-work map out s m runs (sym (is .1) ∙ c)) in
     let one = one-element settings map line op s m (a .state) (a .image) fit eight (rw (chosen-eight out (fetched s m) op fit eight) at work) in
     subst (λ (x : State). OneElement settings map line op s m x n) (sym (is .0)) (subst (λ (x : List ℕ). OneElement settings map line op s m (a .state) x) (sym (is .2)) one)
 
@@ -281,4 +278,19 @@ pub wd16-xct-element : Wd16XctElement
 wd16-xct-element w b m map line b′ m′ e fit runs zero five eight =
     let d = step-done w b m map line b′ m′ e in
     let x = xct-element (settingsFrom w) m map line (stateFrom b) (d .turn) m′ (d .page) fit runs (cause-0 (d .turn .cause) (sym (d .cause) ∙ zero)) five eight in
-    subst (λ (s : State). OneElement (settingsFrom w) map line (wordAt m (wordAt m (stateFrom b .regs .sp))) (stateFrom b) m s m′) (sym (d .state)) x
+    subst (λ (s : State). OneElement (settingsFrom w) map line (imageWord m (imageWord m (stateFrom b .regs .sp))) (stateFrom b) m s m′) (sym (d .state)) x
+
+-- the tallies' blanks are the runs'
+told-lent : (w map b m lines b′ m′ : List ℕ) (r : LentRuns w map b m lines b′ m′) → blanksTold r ≡ lent-runs w map b m lines b′ m′ r .blanks
+unfolding blanksTold lent-runs
+told-lent w map b m lines b′ m′ Spec.LentRuns.none = refl
+told-lent w map b m lines b′ m′ (Spec.LentRuns.runs xs ys t b₁ t₁ m₁ e r) =
+    let free = run-not-refused b t m map w xs b₁ t₁ m₁ e in
+    let call = call-answered b t m map w xs 0 b₁ t₁ m₁ (free .0) (free .1) e .1 in
+    let here : Words.wordAt t₁ 0 ≡ call .ran .tally .blanks = ap (λ (z : List ℕ). Words.wordAt z 0) (call .tally) ∙ blanks-word (call .ran .tally .blanks) _ in
+    rw (here, told-lent w map b₁ m₁ ys b′ m′ r) refl
+
+pub wd16-moves-counted : Wd16MovesCounted
+wd16-moves-counted w map op lines b m b′ m′ a r =
+    let x = lent-runs w map b m lines b′ m′ r in
+    told-lent w map b m lines b′ m′ r ∙ runs-move (settingsFrom w) map op lines (stateFrom b) m (x .blanks) (stateFrom b′) m′ a (x .runs) .2

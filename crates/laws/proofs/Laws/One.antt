@@ -20,8 +20,8 @@ use Rattle.machine.specs.declared.Stepped.{Stepped}
 use Rattle.machine.specs.declared.Stepped.the-variants as Stepped
 use Rattle.wordbytes.specs.Words.{wordAt}
 use Rattle.wordbytes.proofs.Laws.{word-again}
-use Rattle.machine.specs.Numbers.{statePage, nowhere, toldOf, placePage}
-use Rattle.machine.specs.Run.{end, restOfRun, noted, noBlanks}
+use Rattle.machine.specs.Numbers.{statePage, nowhere, toldOf, firstPage}
+use Rattle.machine.specs.Run.{end, restOfRun, blankNoted, noBlanks}
 use Rattle.machine.proofs.Laws.Back.{turn-one}
 use Rattle.machine.specs.Entry.{stepWhy, powerWhy, runWhy, turned, steppedPage, finishedPage, stepPage, runPage}
 use Rattle.machine.specs.Entry as Entry
@@ -41,7 +41,7 @@ one-refusal settings m map line = ap (first (powerWhy settings m map)) (split (p
 
 -- a is the step, why its refusal
 page-one : (why : ℕ) (a : After) (m n : List ℕ) (q : Stepped) → left (steppedPage q) n ≡ call why (turned a) m
-    → left (finishedPage (asRun q)) n ≡ call why (Entry.runEnd (end (a .state) (a .image) (noted noBlanks 0 (blankAt (a .cause))))) m
+    → left (finishedPage (asRun q)) n ≡ call why (Entry.runEnd (end (a .state) (a .image) (blankNoted noBlanks 0 (blankAt (a .cause))))) m
 page-one zero a m n (Stepped.Done t) e =
     let same : t ≡ record { state = a .state; cause = a .cause } = turn-one t (record { state = a .state; cause = a .cause }) (answered-one (ap (λ z. z .page) e)) in
     let image : n ≡ a .image = ap (λ z. z .lent) e in
@@ -65,12 +65,12 @@ told-bytes : (s : State) (c : Cause) → wordAt (stateBytes (statePage s) (cause
 unfolding stateBytes statePage
 told-bytes s c = word-again (wordTold (toldOf (causeAddress c)))
 
-uncaused-bytes : (s : State) (c : Cause) → stateBytes (statePage s) 0 nowhere ≡ uncaused (stateBytes (statePage s) (causeNumber c) (toldOf (causeAddress c)))
+pub uncaused-bytes : (s : State) (c : Cause) → stateBytes (statePage s) 0 nowhere ≡ uncaused (stateBytes (statePage s) (causeNumber c) (toldOf (causeAddress c)))
 unfolding stateBytes statePage
 uncaused-bytes s c = refl
 
-cause-tallied : (c : Cause) → (let t = noted noBlanks 0 (blankAt c) in tallyBytes (t .blanks) (placePage (t .first))) ≡ oneTally (causeNumber c) (wordTold (toldOf (causeAddress c)))
-unfolding noted
+cause-tallied : (c : Cause) → (let t = blankNoted noBlanks 0 (blankAt c) in tallyBytes (t .blanks) (firstPage (t .first))) ≡ oneTally (causeNumber c) (wordTold (toldOf (causeAddress c)))
+unfolding blankNoted
 cause-tallied Cause.OpCode = refl
 cause-tallied Cause.Switch = refl
 cause-tallied Cause.NonVectored = refl
@@ -95,7 +95,7 @@ refused-one-call b t m why k j b₁ t₁ m₁ b₂ m₂ n e f =
 
 -- a is the step, why its refusal, bad that of the lent bytes
 call-one : (b t m : List ℕ) (bad why : ℕ) (a : After) (k j : ℕ) (b₁ t₁ m₁ b₂ m₂ : List ℕ)
-    → told k (b₁, t₁, m₁) ≡ reading runLaid (λ z. (b, t, z)) (call bad (call why (Entry.runEnd (end (a .state) (a .image) (noted noBlanks 0 (blankAt (a .cause))))) m) m)
+    → told k (b₁, t₁, m₁) ≡ reading runLaid (λ z. (b, t, z)) (call bad (call why (Entry.runEnd (end (a .state) (a .image) (blankNoted noBlanks 0 (blankAt (a .cause))))) m) m)
     → told j (b₂, m₂) ≡ reading stepIn (λ z. (b, z)) (call bad (call why (turned a) m) m)
     → OneCall k j b₁ t₁ m₁ b₂ m₂
 call-one b t m zero zero a k j b₁ t₁ m₁ b₂ m₂ e f =

@@ -17,7 +17,8 @@ use Rattle.machine.specs.declared.Tally.{Tally}
 use Rattle.machine.specs.Run.{End, end}
 use Rattle.plugs.specs.declared.Channel.{Channel}
 use Rattle.plugs.specs.declared.Plug.{Plug}
-use Rattle.plugs.specs.Plugs.{inRange, allOf, newPlug, newPlugs, noteAll}
+use Rattle.plugs.specs.Plugs.{inRange, newPlug, newPlugs, noteAll}
+use Rattle.refusal.specs.Refusal.{allOf}
 use Rattle.plugs.specs.Report.{readingsOf, seenOf, reportOf, columnOf, readingCount}
 use Rattle.plugs.specs.Sum.{AllIn, nil, cons}
 use Rattle.plugs.proofs.Laws.Report.{noteScans, Sixteen, none, more, scans-length, scans-report, column-length, both-counted, report-spans}
@@ -31,8 +32,8 @@ use Rattle.recorder.proofs.Laws.Record.{at-range}
 use Rattle.recorder.proofs.Laws.Sound.{scan-sound}
 use Rattle.recorder_c.specs.Layout.{channelsFrom, reportBytes, recorderBytes, recorderFrom, plugsAt, plugFrom, plugsFrom, seenFrom, reportsBytes, scansBytes, refusedScan, refusedReport}
 use Rattle.recorder_c.specs.Calls.{ScanBuffers, scanIn, scanCall, reportCall}
-use Rattle.recorder_c.proofs.Laws.Again.{Told, AllTold, no, one, report-told, report-length, recorder-again}
-use Rattle.laws.specs.Recorded.{inState, Recorded, fresh, ReadsColumn, Reports, ScansReported, ScansCounted, LentRecorder, zeros, Wd16ScansReported}
+use Rattle.recorder_c.proofs.Laws.Again.{HasReadings, AllTold, report-told, report-length, recorder-again, all-told}
+use Rattle.laws.specs.Recorded.{inState, Recorded, fresh, ReadsColumn, Reports, ScansReported, ScansCounted, LentRecorder, zeros, Wd16ScansReported, Wd16ScansCounted}
 use Rattle.recorder_c.proofs.Laws.Sound.{sixteen}
 use Rattle.machine_c.specs.Layout.{stateFrom, settingsFrom}
 use Rattle.refusal.specs.Numbers.{noState}
@@ -103,13 +104,13 @@ held-reads {ss = ss} h k = reads-of (columnOf k ss) (h .range k) (omega (arith, 
 
 module _ (r : Recorder) (channels : List Channel) (m map : List ℕ) (settings : Settings) (lines : List ℕ) where
   -- what a scan leaves that was done
-  pub record Done (r′ : Recorder) : Type 0 where
+  record ScanDone (r′ : Recorder) : Type 0 where
     pub scans : r′ .scans ≡ r .scans + 1
     pub plugs : r′ .plugs ≡ noteAll (r .plugs) channels
     pub room : r .scans < 4096
     pub range : allOf inRange channels ≡ true
 
-  scan-done : (r′ : Recorder) (t : Tally) (m′ : List ℕ) → left (answered (tallyPage t)) (r′, m′) ≡ scanOf r channels m map settings lines → Done r′
+  scan-done : (r′ : Recorder) (t : Tally) (m′ : List ℕ) → left (answered (tallyPage t)) (r′, m′) ≡ scanOf r channels m map settings lines → ScanDone r′
   unfolding scanOf scanDone
   scan-done r′ t m′ e =
       let x = scanRun r channels m map settings lines in
@@ -227,15 +228,11 @@ recorder-length : (r : Recorder) → length (r .plugs) ≡ 16 → length (record
 unfolding recorderBytes
 recorder-length r l = length-append (scansBytes (r .scans)) (reportsBytes (r .plugs)) ∙ omega (arith, reports-length (r .plugs), l)
 
-told-each : (ps : List Plug) → ((k : ℕ) → k < length ps → Told (getD ps k newPlug .seen)) → AllTold ps
-told-each [] h = no
-told-each (p ∷ ps) h = one (h 0 (omega arith)) (told-each ps (λ k l. h (suc k) (omega (arith, l))))
-
 held-sixteen : {n : ℕ} {ps : List Plug} {ss : List (List Channel)} → Held n ps ss → length ps ≡ 16
 held-sixteen {ss = ss} h = ap length (h .plugs) ∙ scans-length ss newPlugs
 
 held-told : {n : ℕ} {ps : List Plug} {ss : List (List Channel)} → Held n ps ss → AllTold ps
-held-told {ps = ps} {ss = ss} h = told-each ps (λ k l. subst (λ (p : Plug). Told (p .seen)) (sym (held-report h k (omega (arith, l, held-sixteen h)))) (report-told (columnOf k ss)))
+held-told {ps = ps} {ss = ss} h = all-told ps (λ k l. subst (λ (p : Plug). HasReadings (p .seen)) (sym (held-report h k (omega (arith, l, held-sixteen h)))) (report-told (columnOf k ss)))
 
 record HeldBytes (d : List ℕ) (ss : List (List Channel)) : Type 0 where
   size : length d ≡ 194
@@ -269,3 +266,6 @@ wd16-scans-reported d ss k b number b′ l h r e =
     let page : told number b′ ≡ told 0 (reportBytes (plugPage (reportOf (columnOf k ss)))) =
     e ∙ rw (bytes .size, r, not-over k h, held-report (bytes .held) k h) in
     (ap (λ z. z .number) page, ap (λ z. z .lent) page, held-reads (bytes .held) k)
+
+pub wd16-scans-counted : Wd16ScansCounted
+wd16-scans-counted d ss l = let h = held-lent d ss l in (h .size, h .held .scans, h .held .few)

@@ -19,8 +19,8 @@ use Rattle.state.specs.declared.State.{State}
 use Rattle.state.specs.declared.Outside.{Outside}
 use Rattle.state.specs.State.{reg, next, withPc, withFlags, withDone, withPair}
 use Rattle.formats2to4.specs.Low.{formats2to4, lowCodes}
-use Rattle.formats2to4.specs.Format2.{iak, rtn, msko, prtn, lcc, format2}
-use Rattle.formats2to4.specs.Format4.{svca, svc, format4}
+use Rattle.formats2to4.specs.Format2.{prtn, codes2, lcc, format2}
+use Rattle.formats2to4.specs.Format4.{svc, codes4, format4}
 use Rattle.formats5to6.specs.Format5.{displacement, branch}
 use Rattle.formats5to6.specs.Format6.{immediate, single, double, format6}
 use Rattle.format7.specs.Format7.{modify, tjmp, column0A, column8A, columnRow, format7}
@@ -30,7 +30,7 @@ use Rattle.format9.specs.Format9.{div, codes9, format9}
 use Rattle.format10.specs.Format10.{onWords, onBytes, format10}
 use Rattle.step.specs.Execute.{execute, byFormat}
 use Rattle.laws.proofs.Laws.Branches.{taken-printed}
-use Rattle.laws.proofs.Laws.Moves.{executes}
+use Rattle.step.proofs.Laws.Block.{executes}
 use Rattle.laws.specs.Branches.{lines, whenIn}
 
 -- ---- a group of high bytes has one format, by computation
@@ -68,7 +68,7 @@ module _ (out : Outside) (s : State) where
   -- ---- formats 2, 3 and 4: the high byte is 00
 
   abbrev pub twoAt : ℕ → ℕ → Work State
-  twoAt k op = let r = onlyRegister op in cond (eqb k 2) (give (iak out s r)) (cond (eqb k 3) (rtn s r) (cond (eqb k 4) (msko s r) (prtn s r)))
+  twoAt k op = getD (codes2 out s (onlyRegister op)) (minus k 2) (prtn s (onlyRegister op))
 
   pub two : (b op : ℕ) → 2 ≤ b / 8 → b / 8 < 6 → b % 8 ≡ 0 → b + op % 8 + 0 ≡ op → (formatOf (highByte op) ≡ 1) × (execute out s op ≡ twoAt (b / 8) op)
   unfolding formatOf byFormat lowCodes formats2to4 format2
@@ -84,7 +84,7 @@ module _ (out : Outside) (s : State) where
       (rw h refl, rw (h, le-ltb op 0x10 (omega (arith, i)), le-ltb op 0x30 (omega (arith, i)), lt-ltb op 0x40 (omega (arith, i))) refl)
 
   abbrev pub fourAt : ℕ → ℕ → Work State
-  fourAt k op = cond (eqb k 1) (svca out s (argument op)) (cond (eqb k 2) (svc out s (argument op) 0x24) (svc out s (argument op) 0x26))
+  fourAt k op = getD (codes4 out s (argument op)) (minus k 1) (svc out s (argument op) 0x26)
 
   pub four : (b op : ℕ) → 1 ≤ b / 64 → b / 64 < 4 → b % 64 ≡ 0 → b + op % 64 + 0 ≡ op → (formatOf (highByte op) ≡ 1) × (execute out s op ≡ fourAt (b / 64) op)
   unfolding formatOf byFormat lowCodes formats2to4 format4
@@ -160,7 +160,7 @@ module _ (out : Outside) (s : State) where
 
   -- ---- format 7: bits 15 to 6. `low`: the op code is one from 0A00, not one from 8A00
 
-  abbrev pub sevenBy : Bool → ℕ → ℕ → Work State
+  abbrev sevenBy : Bool → ℕ → ℕ → Work State
   sevenBy low row op = cond low (getD (column0A s op) row (tjmp s op)) (getD (column8A out s op) row (modify word sbcOf s op))
 
   seven-by : (op : ℕ) → format7 out s op ≡ sevenBy (ltb op 0x8000) (columnRow op) op
@@ -211,7 +211,7 @@ module _ (out : Outside) (s : State) where
 
   -- ---- format 10: bits 15 to 12
 
-  abbrev pub tenBy : Bool → Bool → ℕ → ℕ → Work State
+  abbrev tenBy : Bool → Bool → ℕ → ℕ → Work State
   tenBy words low k op = cond words (onWords (binaryAt (cond low (minus k 1) (plus 6 (minus k 9)))) s op) (onBytes (byteBinaryAt (minus k 12)) s op)
 
   abbrev pub tenAt : ℕ → ℕ → Work State

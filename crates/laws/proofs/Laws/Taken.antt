@@ -26,19 +26,20 @@ use Rattle.machine.proofs.Laws.Counted.{run-trail}
 use Rattle.machine.specs.Entry.{powerWhy, runWhy, finishedPage, runEnd, runPage, stepWhy, turned, stepPage}
 use Rattle.machine.proofs.Laws.Answered.{run-done}
 use Rattle.laws.proofs.Laws.Sizes.{trail-size}
+use Rattle.machine.proofs.Laws.Alike.{imageAtEnd}
 
 -- ---- what isn't refused: the settings, the map and the image; a list of at most 4,096 words, none with an unused bit
 
-pub record Taken (settings : Settings) (m map lines : List ℕ) : Type 0 where
+pub record RunTaken (settings : Settings) (m map lines : List ℕ) : Type 0 where
   pub board : powerWhy settings m map ≡ 0
   pub few : length lines ≤ 4096
   pub unused : allOf plain lines ≡ true
 
-pub taken-run : (settings : Settings) (m map lines : List ℕ) → Taken settings m map lines → runWhy settings m map lines ≡ 0
+pub taken-run : (settings : Settings) (m map lines : List ℕ) → RunTaken settings m map lines → runWhy settings m map lines ≡ 0
 unfolding runRefusal linesRefusal
 taken-run settings m map lines t = rw (t .board, le-leb (length lines) 4096 (t .few), t .unused)
 
-pub run-taken : (settings : Settings) (m map lines : List ℕ) → runWhy settings m map lines ≡ 0 → Taken settings m map lines
+pub run-taken : (settings : Settings) (m map lines : List ℕ) → runWhy settings m map lines ≡ 0 → RunTaken settings m map lines
 unfolding runRefusal linesRefusal
 run-taken settings m map lines e =
     let both = first-both (powerWhy settings m map) (linesRefusal lines) e in
@@ -73,13 +74,10 @@ module _ (settings : Settings) (m map lines : List ℕ) (s : State) where
       sizeOf (end t k y) = length k
 
 pub ran-is : {a : Ran} {n k : List ℕ} {t : State} {y : Tally} → ranOf a n ≡ end t k y → (a ≡ record { state = t; tally = y }) × (n ≡ k)
-ran-is e = (ap ranIn e, ap imageIn e)
+ran-is e = (ap ranIn e, ap imageAtEnd e)
   where
     ranIn : End → Ran
     ranIn (end t k y) = record { state = t; tally = y }
-
-    imageIn : End → List ℕ
-    imageIn (end t k y) = k
 
 -- ---- a step
 

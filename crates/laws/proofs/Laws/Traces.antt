@@ -10,18 +10,20 @@ use Rattle.wordbytes.specs.Words.{wordAt}
 use Rattle.wordbytes.proofs.Laws.{word-again}
 use Rattle.refusal.specs.Numbers.{noState}
 use Rattle.refusal.specs.Page.{answered, left, call, first, told, reading, nothing}
-use Rattle.refusal.proofs.Laws.Page.{first-both}
+use Rattle.refusal.proofs.Laws.Page.{first-both, call-right}
 use Rattle.job.specs.Job.{whyJob}
 use Rattle.trace.specs.declared.Verdict.{Verdict}
 use Rattle.trace.specs.declared.Verdict.the-variants.{Accepted, Wrong, Missing, Extra}
-use Rattle.trace.specs.Trace.{stepsOf, rightTrace, traceBytes, toldIn, whyTrace, compared, verdictOf, verdictPage}
+use Rattle.trace.specs.declared.Checked.{Checked}
+use Rattle.trace.specs.declared.Checked.the-variants as Checked
+use Rattle.trace.specs.Trace.{stepsOf, rightTrace, traceBytes, toldIn, whyTrace, compared, verdictOf, verdictPage, whyCheck, buffersAfter, checkOf}
 use Rattle.trace.specs.First.{AtStep, EndsAt, Says}
 use Rattle.trace.proofs.Laws.Bytes.{told-again, taken-again, bytes-back}
-use Rattle.trace.proofs.Laws.Right.{compared-self}
+use Rattle.trace.proofs.Laws.Right.{compared-self, checked-one}
 use Rattle.trace.proofs.Laws.First.{verdict-says}
 use Rattle.answer.specs.Answer.{answerWhy}
 use Rattle.trace_c.specs.Calls.{verdictWords, checkLeft, verdictIn, checkCall}
-use Rattle.laws.specs.Traces.{accepts, Wd16Accepts, Tells, accepted, wrong, missing, extra, Wd16Tells}
+use Rattle.laws.specs.Traces.{accepts, Wd16Accepts, Tells, accepted, wrong, missing, extra, Wd16Tells, CheckTells}
 
 -- ---- the words of a verdict
 
@@ -87,3 +89,17 @@ wd16-accepts job t b number b′ e taken l bytes = (only, when)
         let v : verdictOf job t ≡ Accepted = ap (λ x. compared 0 (rightTrace job) (toldIn x)) d ∙ ap (λ x. compared 0 (rightTrace job) x) (told-again (stepsOf job)) ∙ compared-self 0 (rightTrace job) in
         let page = e ∙ call-is job t b l why ∙ ap (λ x. told 0 (verdictWords (verdictPage x))) v in
         (ap (λ z. z .number) page, ap (λ z. wordAt (z .lent) 0) page)
+
+-- ---- a call of `check`
+
+-- its verdict; accepted where there is none
+abbrev verdictOr : Checked → Verdict
+verdictOr (Checked.Done v) = v
+verdictOr (Checked.Refused why) = Accepted
+
+pub check-tells : CheckTells
+unfolding checkOf
+check-tells job t image map lines v image′ map′ lines′ e =
+    let h = call-right (whyCheck job t (length image) (length map) (length lines)) (left (answered (verdictPage (verdictOf job t))) (buffersAfter job)) (image, map, lines) e .1 in
+    let same : v ≡ verdictOf job t = ap verdictOr (checked-one (Checked.Done v) (Checked.Done (verdictOf job t)) (ap (λ z. z .page) h)) in
+    subst (λ (x : Verdict). Says 0 (rightTrace job) (toldIn t) x) (sym same) (verdict-says job t)

@@ -13,9 +13,9 @@ use Rattle.wordbytes.specs.Words.{wordAt}
 use Rattle.board.specs.Work.{fitted, Agree}
 use Rattle.benchline.specs.Line.{fields}
 use Rattle.optext.specs.Line.{taken}
-use Rattle.listing.specs.declared.Found.{Found}
-use Rattle.listing.specs.declared.Found.the-variants.{Nothing, Cut, Whole}
-use Rattle.listing.specs.Listing.{stands, allStand, wordsAt, foundAt, lineOf, movesOn, lineAt, nextAt, linesFrom, listingOf}
+use Rattle.listing.specs.declared.CodeFound.{CodeFound}
+use Rattle.listing.specs.declared.CodeFound.the-variants.{Nothing, Cut, Whole}
+use Rattle.listing.specs.Listing.{stands, allStand, wordsAt, foundAt, lineOf, movesOn, listingLine, nextAt, linesFrom, listingOf}
 use Rattle.listing.specs.Calls.{lineWhy, lineIn, lineCall}
 use Rattle.listing.proofs.Laws.Joined.{good}
 
@@ -84,13 +84,13 @@ module _ (map m n : List ℕ) (g : Agree map m n) where
         go true false e i = cut-words a _ _ _ _ _ _ (word-same a h e)
         go false s e i = no-words a _ _ _ _ _ _
 
-    line-same : (a : ℕ) → a % 2 ≡ 0 → lineAt map m last a ≡ lineAt map n last a
-    unfolding lineAt
-    line-same a h = ap (λ (f : Found). lineOf a (wordsAt m a) f) (found-same a h) ∙ shown-same a h
+    line-same : (a : ℕ) → a % 2 ≡ 0 → listingLine map m last a ≡ listingLine map n last a
+    unfolding listingLine
+    line-same a h = ap (λ (f : CodeFound). lineOf a (wordsAt m a) f) (found-same a h) ∙ shown-same a h
 
     next-same : (a : ℕ) → a % 2 ≡ 0 → nextAt map m last a ≡ nextAt map n last a
     unfolding nextAt
-    next-same a h = ap (λ (f : Found). a + movesOn f * 2) (found-same a h)
+    next-same a h = ap (λ (f : CodeFound). a + movesOn f * 2) (found-same a h)
 
     next-even : (a : ℕ) → a % 2 ≡ 0 → nextAt map n last a % 2 ≡ 0
     unfolding nextAt

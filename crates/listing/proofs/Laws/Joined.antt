@@ -17,8 +17,8 @@ use Rattle.refusal.proofs.Laws.Refusal.{neither}
 use Rattle.wordbytes.specs.Words.{wordAt}
 use Rattle.board.specs.Work.{fitted}
 use Rattle.optext.specs.Line.{taken}
-use Rattle.listing.specs.declared.Found.the-variants.{Nothing, Cut, Whole}
-use Rattle.listing.specs.Listing.{allStand, foundAt, movesOn, lineAt, nextAt, linesFrom, listingOf}
+use Rattle.listing.specs.declared.CodeFound.the-variants.{Nothing, Cut, Whole}
+use Rattle.listing.specs.Listing.{allStand, foundAt, movesOn, listingLine, nextAt, linesFrom, listingOf}
 use Rattle.listing.specs.Calls.{Next, goesOn, ends, Lined, lined, badStretch, lineWhy, nextOf, lineIn, lineCall, Lines, final, more}
 
 -- ---- the listing, line by line
@@ -47,9 +47,9 @@ module _ (map image : List ℕ) (last : ℕ) where
   enough : (n a : ℕ) → last + 2 ≤ a + n * 2 → linesFrom map image last n a ≡ linesFrom map image last (suc n) a
   unfolding linesFrom
   enough zero a h = rw (lt-leb a last (omega arith)) refl
-  enough (suc n) a h = ap (λ (l : List (List ℕ)). cond (leb a last) (lineAt map image last a ∷ l) []) (enough n (nextAt map image last a) (omega (arith, next-further a)))
+  enough (suc n) a h = ap (λ (l : List (List ℕ)). cond (leb a last) (listingLine map image last a ∷ l) []) (enough n (nextAt map image last a) (omega (arith, next-further a)))
 
-  lines-more : (n a : ℕ) → a ≤ last → linesFrom map image last (suc n) a ≡ lineAt map image last a ∷ linesFrom map image last n (nextAt map image last a)
+  lines-more : (n a : ℕ) → a ≤ last → linesFrom map image last (suc n) a ≡ listingLine map image last a ∷ linesFrom map image last n (nextAt map image last a)
   unfolding linesFrom
   lines-more n a h = rw (le-leb a last h) refl
 
@@ -58,11 +58,11 @@ module _ (map image : List ℕ) (last : ℕ) where
   lines-end n a h = rw (lt-leb a last h) refl
 
   -- a listing is its first line, and the listing from the next address on
-  pub listing-more : (a : ℕ) → a ≤ last → last < 65535 → listingOf a last map image ≡ lineAt map image last a ∷ listingOf (nextAt map image last a) last map image
+  pub listing-more : (a : ℕ) → a ≤ last → last < 65535 → listingOf a last map image ≡ listingLine map image last a ∷ listingOf (nextAt map image last a) last map image
   unfolding listingOf
   listing-more a h k =
       lines-more 32767 a h
-      ∙ ap (λ (l : List (List ℕ)). lineAt map image last a ∷ l) (enough 32767 (nextAt map image last a) (omega (arith, next-further a)))
+      ∙ ap (λ (l : List (List ℕ)). listingLine map image last a ∷ l) (enough 32767 (nextAt map image last a) (omega (arith, next-further a)))
 
   pub listing-end : (a : ℕ) → last < a → listingOf a last map image ≡ []
   unfolding listingOf
@@ -74,7 +74,7 @@ pub cond-none : (b : Bool) (k : ℕ) → (k ≡ 0 → ⊥) → cond b k 0 ≡ 0 
 cond-none true k n e = absurd (n e)
 cond-none false k n e = refl
 
-pub record Good (a last : ℕ) : Type 0 where
+pub record GoodStretch (a last : ℕ) : Type 0 where
   pub even : a % 2 ≡ 0
   pub within : a ≤ last
   pub lastEven : last % 2 ≡ 0
@@ -82,7 +82,7 @@ pub record Good (a last : ℕ) : Type 0 where
 not-odd : (a : ℕ) → eqb (a % 2) 1 ≡ false → a % 2 ≡ 0
 not-odd a e = let n = eqb-false (a % 2) 1 e in omega arith
 
-pub good : (size : ℕ) (map : List ℕ) (a last text : ℕ) → lineWhy size map a last text ≡ 0 → Good a last
+pub good : (size : ℕ) (map : List ℕ) (a last text : ℕ) → lineWhy size map a last text ≡ 0 → GoodStretch a last
 unfolding lineWhy
 good size map a last text e =
     let b = first-both (boardRefusal size map) _ e .1 in
@@ -100,14 +100,14 @@ number ends = 0
 module _ (image map : List ℕ) (last : ℕ) where
   -- what a call that is not refused answers and leaves
   pub record Called (a n : ℕ) (x : Next) (b e : List ℕ) : Type 0 where
-    pub stretch : Good a last
-    pub line : take n e ≡ lineAt map image last a
+    pub stretch : GoodStretch a last
+    pub line : take n e ≡ listingLine map image last a
     pub next : x ≡ nextOf last (nextAt map image last a)
 
   pub called : (a n : ℕ) (x : Next) (b e : List ℕ) → left (answered (lined n x)) e ≡ lineCall image map a last b → Called a n x b e
   unfolding lineCall
   called a n x b e h =
-      let l = lineAt map image last a in
+      let l = listingLine map image last a in
       let done = call-right (lineWhy (length image) map a last (length b)) (lineIn image map a last b) b h in
       let t : lined n x ≡ lined (length l) (nextOf last (nextAt map image last a)) = answered-one (ap (λ z. z .page) (done .1)) in
       record {
@@ -136,7 +136,7 @@ module _ (image map : List ℕ) (last : ℕ) where
       let c = called a n ends b e h in
       let even : last % 2 ≡ 0 = c .stretch .lastEven in
       let z : listingOf (nextAt map image last a) last map image ≡ [] = listing-end map image last (nextAt map image last a) (ends-past (nextAt map image last a) (c .next)) in
-      rw (c .line) (sym (listing-more map image last a (c .stretch .within) (omega arith) ∙ ap (λ (l : List (List ℕ)). lineAt map image last a ∷ l) z))
+      rw (c .line) (sym (listing-more map image last a (c .stretch .within) (omega arith) ∙ ap (λ (l : List (List ℕ)). listingLine map image last a ∷ l) z))
   joined k _ _ (more a n a′ b e ms h r) =
       let c = called a n (goesOn a′) b e h in
       let even : last % 2 ≡ 0 = c .stretch .lastEven in

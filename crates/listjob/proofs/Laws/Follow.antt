@@ -12,9 +12,9 @@ use Rattle.refusal.specs.Numbers.{noStretch, textShort}
 use Rattle.refusal.specs.Page.{answered, left, first}
 use Rattle.refusal.specs.Refusal.{boardRefusal}
 use Rattle.refusal.proofs.Laws.Page.{first-both, call-right}
-use Rattle.listing.specs.Listing.{lineAt, nextAt, linesFrom, listingOf}
+use Rattle.listing.specs.Listing.{listingLine, nextAt, linesFrom, listingOf}
 use Rattle.listing.specs.Calls.{Next, goesOn, ends, lined, lineRoom, badStretch, lineWhy, nextOf, lineIn, lineCall, Lines, final, more}
-use Rattle.listing.proofs.Laws.Joined.{Good, good, next-further, goes-on, called, joined}
+use Rattle.listing.proofs.Laws.Joined.{GoodStretch, good, next-further, goes-on, called, joined}
 use Rattle.listing.proofs.Laws.{why-none}
 use Rattle.listjob.specs.Follow.{NextTaken, Ends, FollowEnds, LinesFew}
 
@@ -27,17 +27,17 @@ number ends = 1
 on-ends : (a : ℕ) → goesOn a ≡ ends → ⊥
 on-ends a e = let z : _≡_ {A = ℕ} 0 1 = ap number e in omega (arith, z)
 
-in-stretch : (a last : ℕ) → Good a last → badStretch a last ≡ false
+in-stretch : (a last : ℕ) → GoodStretch a last → badStretch a last ≡ false
 in-stretch a last g = simp (ne-eqb (a % 2) 1 (λ e. omega (arith, e, g .even)), ne-eqb (last % 2) 1 (λ e. omega (arith, e, g .lastEven)), le-ltb last a (g .within))
 
 -- where a line is not refused, no line of the stretch is
-pub other-taken : (size : ℕ) (map : List ℕ) (a last text a′ text′ : ℕ) → lineWhy size map a last text ≡ 0 → Good a′ last → 52 ≤ text′ → lineWhy size map a′ last text′ ≡ 0
+pub other-taken : (size : ℕ) (map : List ℕ) (a last text a′ text′ : ℕ) → lineWhy size map a last text ≡ 0 → GoodStretch a′ last → 52 ≤ text′ → lineWhy size map a′ last text′ ≡ 0
 unfolding lineWhy
 other-taken size map a last text a′ text′ e g h =
     sym (why-none size map a′ last text′ (boardRefusal size map) refl (first-both (boardRefusal size map) _ e .0) (badStretch a′ last) refl (in-stretch a′ last g) h)
 
 module _ (image map : List ℕ) (last : ℕ) where
-  pub next-good : (a : ℕ) → Good a last → nextAt map image last a ≤ last → Good (nextAt map image last a) last
+  pub next-good : (a : ℕ) → GoodStretch a last → nextAt map image last a ≤ last → GoodStretch (nextAt map image last a) last
   unfolding nextAt
   next-good a g h = record { even = omega (arith, g .even); within = h; lastEven = g .lastEven }
 
@@ -79,19 +79,19 @@ module _ (image map : List ℕ) (last : ℕ) where
     where
       by : (t : Bool) → ltb last (nextAt map image last a) ≡ t → Within (suc n) a
       by true q = record {
-        lines = take (length (lineAt map image last a)) (inFrontOf (lineAt map image last a) blank) ∷ [];
-        calls = final a (length (lineAt map image last a)) blank (inFrontOf (lineAt map image last a) blank) (rw q at (answers a e));
+        lines = take (length (listingLine map image last a)) (inFrontOf (listingLine map image last a) blank) ∷ [];
+        calls = final a (length (listingLine map image last a)) blank (inFrontOf (listingLine map image last a) blank) (rw q at (answers a e));
         few = omega arith;
       }
       by false q =
           let w = rest (ltb-false last (nextAt map image last a) q) in
           record {
-            lines = take (length (lineAt map image last a)) (inFrontOf (lineAt map image last a) blank) ∷ w .lines;
-            calls = more a (length (lineAt map image last a)) (nextAt map image last a) blank (inFrontOf (lineAt map image last a) blank) (w .lines) (rw q at (answers a e)) (w .calls);
+            lines = take (length (listingLine map image last a)) (inFrontOf (listingLine map image last a) blank) ∷ w .lines;
+            calls = more a (length (listingLine map image last a)) (nextAt map image last a) blank (inFrontOf (listingLine map image last a) blank) (w .lines) (rw q at (answers a e)) (w .calls);
             few = omega (arith, w .few);
           }
 
-  follow : (n a : ℕ) → last < a + n * 2 → lineWhy (length image) map a last 52 ≡ 0 → Good a last → Within n a
+  follow : (n a : ℕ) → last < a + n * 2 → lineWhy (length image) map a last 52 ≡ 0 → GoodStretch a last → Within n a
   follow zero a h e g = absurd (omega (arith, h, g .within))
   follow (suc n) a h e g =
       line-more n a e

@@ -28,7 +28,7 @@ use Rattle.machine.specs.declared.Finished.{Finished}
 use Rattle.machine.specs.declared.Finished.the-variants as Finished
 use Rattle.refusal.specs.Page.{Page, refused, refusedAt, answered, left}
 use Rattle.refusal.proofs.Laws.Page.{one, one-call}
-use Rattle.machine.specs.Numbers.{indicators, StatePage, statePage, Address, address, nowhere, toldOf, TurnPage, turnPage, Place, place, none, placePage, RanPage, ranPage}
+use Rattle.machine.specs.Numbers.{indicators, StatePage, statePage, Address, address, nowhere, toldOf, TurnPage, turnPage, FirstPage, place, none, firstPage, RanPage, ranPage}
 use Rattle.machine.specs.Entry.{poweredPage, steppedPage, finishedPage}
 use Rattle.machine.specs.Back.{modeOf, fromRegisters, stateOf}
 
@@ -101,16 +101,16 @@ turnOf p = record { state = stateOf (p .state); cause = causeOf (p .cause) (p .t
 turn-back : (t : Turn) → turnOf (turnPage t) ≡ t
 turn-back t = rw (state-back (t .state), cause-back (t .cause))
 
-abbrev pub firstOf : Place → First
-firstOf (place p a) = At p a
-firstOf none = Never
+abbrev pub firstBack : FirstPage → First
+firstBack (place p a) = At p a
+firstBack none = Never
 
-pub first-back : (f : First) → firstOf (placePage f) ≡ f
+pub first-back : (f : First) → firstBack (firstPage f) ≡ f
 first-back (At p a) = refl
 first-back Never = refl
 
 abbrev ranOf : RanPage → Ran
-ranOf p = record { state = stateOf (p .state); tally = record { blanks = p .blanks; first = firstOf (p .first) } }
+ranOf p = record { state = stateOf (p .state); tally = record { blanks = p .blanks; first = firstBack (p .first) } }
 
 ran-back : (r : Ran) → ranOf (ranPage r) ≡ r
 ran-back r = rw (state-back (r .state), first-back (r .tally .first))

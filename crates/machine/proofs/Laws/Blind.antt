@@ -11,7 +11,7 @@ use Rattle.step.specs.Step.{After, stepOf, Up, powerUpOf}
 use Rattle.step.proofs.Laws.Alike.{SameUp, power-alike, Same, step-alike, power-untouched, step-untouched}
 use Rattle.refusal.specs.Page.{Page, Left, left, call}
 use Rattle.machine.specs.Run.{End, end, runOf, noBlanks}
-use Rattle.machine.proofs.Laws.Alike.{Ends, ends, run-alike, imageOf, run-untouched}
+use Rattle.machine.proofs.Laws.Alike.{EndsAlike, ends, run-alike, imageAtEnd, run-untouched}
 use Rattle.machine.specs.Entry.{powerWhy, stepWhy, runWhy, powered, powerUpPage, runEnd, turned, stepPage, runPage}
 
 -- ---- two pages
@@ -21,7 +21,7 @@ pub record SameLeft {A : Type 0} (map : List ℕ) (x y : Left A (List ℕ)) : Ty
   pub page : x .page ≡ y .page
   pub agree : Agree map (x .lent) (y .lent)
 
-ended-same : {map : List ℕ} {x y : End} → Ends map x y → SameLeft map (runEnd x) (runEnd y)
+pub ended-same : {map : List ℕ} {x y : End} → EndsAlike map x y → SameLeft map (runEnd x) (runEnd y)
 ended-same (ends g) = record { page = refl; agree = g }
 
 turned-same : {map : List ℕ} {x y : After} → Same map x y → SameLeft map (turned x) (turned y)
@@ -48,7 +48,7 @@ module _ (settings : Settings) (map lines : List ℕ) (s : State) where
   unfolding runPage
   run-kept m = call-untouched map m (runWhy settings m map lines) (runEnd (runOf settings map lines s m)) (end-kept (runOf settings map lines s m) (run-untouched settings map 0 lines s m noBlanks))
     where
-      end-kept : (x : End) → Untouched map m (imageOf x) → Untouched map m (runEnd x .lent)
+      end-kept : (x : End) → Untouched map m (imageAtEnd x) → Untouched map m (runEnd x .lent)
       end-kept (end t n y) h = h
 
 module _ (settings : Settings) (map : List ℕ) (line : ℕ) (s : State) where

@@ -15,7 +15,7 @@ use Rattle.step.specs.declared.Cause.{Cause}
 use Rattle.step.specs.declared.Cause.the-variants as Cause
 use Rattle.step.specs.Step.{After, after, hears, stepOf}
 use Rattle.step.specs.Block.{Ready}
-use Rattle.step.proofs.Laws.Block.{afterOne, elementIn, Left, all-left, unheard-marked, ready-marked, step-once, step-last, ready-on, left-on, image-on, state-on, unmarked-on, hearing-on, image-last}
+use Rattle.step.proofs.Laws.Block.{afterOne, elementIn, ElementsLeft, all-left, unheard-marked, ready-marked, step-once, step-last, ready-on, left-on, image-on, state-on, unmarked-on, hearing-on, image-last}
 use Rattle.machine.specs.Trail.{trailOf, blanksIn, firstBlankIn}
 use Rattle.machine.specs.Block.{AllUnheard, none, also, elementsOf, blockMove, TrailEndsAt}
 
@@ -39,7 +39,7 @@ count-marked s = refl
 module _ (settings : Settings) (fit : settings .blocks ≡ true) (map : List ℕ) (op : ℕ) (eight : op / 512 ≡ 7) (p : Plain (blockSource op) (blockDestination op)) where
   -- from any state, marked or not: the first element clears the mark
   elements : (lines : List ℕ) (s : State) (m : List ℕ) (c : Cause)
-      → Left (length lines) (withMark s false) → Ready map op (length lines) (withMark s false) m → AllUnheard settings (hears (withMark s false)) lines
+      → ElementsLeft (length lines) (withMark s false) → Ready map op (length lines) (withMark s false) m → AllUnheard settings (hears (withMark s false)) lines
       → TrailEndsAt (after s m c) (trailOf settings map lines s m) (elementsOf op (length lines) (withMark s false) m)
   unfolding trailOf blanksIn firstBlankIn
   elements [] s m c l a none = absurd (omega (arith, l .some))
@@ -56,9 +56,9 @@ module _ (settings : Settings) (fit : settings .blocks ≡ true) (map : List ℕ
     where
       -- an unmarked state goes on as it is
       onward : (v : State) → withMark v false ≡ v → {n : ℕ} {rest : List ℕ} {b : After} {rs : List After} {x : List ℕ}
-          → (Left n (withMark v false) → Ready map op n (withMark v false) x → AllUnheard settings (hears (withMark v false)) rest → TrailEndsAt b rs (elementsOf op n (withMark v false) x))
-          → Left n v → Ready map op n v x → AllUnheard settings (hears v) rest → TrailEndsAt b rs (elementsOf op n v x)
-      onward v e {n} {rest} {b} {rs} {x} f = subst (λ w. Left n w → Ready map op n w x → AllUnheard settings (hears w) rest → TrailEndsAt b rs (elementsOf op n w x)) e f
+          → (ElementsLeft n (withMark v false) → Ready map op n (withMark v false) x → AllUnheard settings (hears (withMark v false)) rest → TrailEndsAt b rs (elementsOf op n (withMark v false) x))
+          → ElementsLeft n v → Ready map op n v x → AllUnheard settings (hears v) rest → TrailEndsAt b rs (elementsOf op n v x)
+      onward v e {n} {rest} {b} {rs} {x} f = subst (λ w. ElementsLeft n w → Ready map op n w x → AllUnheard settings (hears w) rest → TrailEndsAt b rs (elementsOf op n w x)) e f
 
   -- a line word for each element, in which nothing is heard; an IEN's mark ends with the first
   pub block-move : (lines : List ℕ) (s : State) (m : List ℕ) (c : Cause)

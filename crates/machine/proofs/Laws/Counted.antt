@@ -9,14 +9,14 @@ use Rattle.state.specs.declared.State.{State}
 use Rattle.state.specs.declared.Settings.{Settings}
 use Rattle.state.specs.State.{heard}
 use Rattle.step.specs.declared.Cause.{Cause}
-use Rattle.step.specs.declared.Told.{Told}
-use Rattle.step.specs.declared.Told.the-variants as Told
+use Rattle.step.specs.declared.Reached.{Reached}
+use Rattle.step.specs.declared.Reached.the-variants as Reached
 use Rattle.step.specs.Step.{After, after, stepOf, blankAt, isTold, isBlank}
 use Rattle.machine.specs.declared.Tally.{Tally}
 use Rattle.machine.specs.declared.First.{First}
 use Rattle.machine.specs.declared.First.the-variants.{At, Never}
-use Rattle.machine.specs.Numbers.{placePage}
-use Rattle.machine.specs.Run.{end, restOfRun, runOf, noted, noBlanks, firstOf, End}
+use Rattle.machine.specs.Numbers.{firstPage}
+use Rattle.machine.specs.Run.{end, restOfRun, runOf, blankNoted, noBlanks, firstKept, End}
 use Rattle.machine.specs.Trail.{trailOf, lastAfter, blanksIn, placeMoved, here, firstBlankIn, tallyIn, causeAt, Least, least, nowhere}
 use Rattle.machine.specs.Counted.{orFirst, tallyJoined}
 
@@ -68,24 +68,24 @@ joined-joined n k t u v =
     ∙ ap (λ z. orFirst (t .first) z) (sym (moved-or n (u .first) (placeMoved k (v .first)))))
 
 -- one step, and the trail after it
-pub tally-cons : (a : After) (rs : List After) → tallyIn (a ∷ rs) ≡ tallyJoined 1 (noted noBlanks 0 (blankAt (a .cause))) (tallyIn rs)
-unfolding blanksIn firstBlankIn tallyJoined noted
+tally-cons : (a : After) (rs : List After) → tallyIn (a ∷ rs) ≡ tallyJoined 1 (blankNoted noBlanks 0 (blankAt (a .cause))) (tallyIn rs)
+unfolding blanksIn firstBlankIn tallyJoined blankNoted
 tally-cons a rs = split (blankAt (a .cause))
   where
-    split : (b : Told) → _≡_ {A = Tally} (record { blanks = cond (isTold b) 1 0 + blanksIn rs; first = here b (firstBlankIn rs) })
-        (record { blanks = noted noBlanks 0 b .blanks + blanksIn rs; first = orFirst (noted noBlanks 0 b .first) (placeMoved 1 (firstBlankIn rs)) })
-    split (Told.At x) = refl
-    split Told.Nowhere = refl
+    split : (b : Reached) → _≡_ {A = Tally} (record { blanks = cond (isTold b) 1 0 + blanksIn rs; first = here b (firstBlankIn rs) })
+        (record { blanks = blankNoted noBlanks 0 b .blanks + blanksIn rs; first = orFirst (blankNoted noBlanks 0 b .first) (placeMoved 1 (firstBlankIn rs)) })
+    split (Reached.At x) = refl
+    split Reached.Nowhere = refl
 
 -- the loop's tally
-noted-joined : (t : Tally) (n : ℕ) (b : Told) → noted t n b ≡ tallyJoined n t (noted noBlanks 0 b)
-unfolding tallyJoined noted
-noted-joined t n (Told.At a) = tally-is refl (first (t .first))
+noted-joined : (t : Tally) (n : ℕ) (b : Reached) → blankNoted t n b ≡ tallyJoined n t (blankNoted noBlanks 0 b)
+unfolding tallyJoined blankNoted
+noted-joined t n (Reached.At a) = tally-is refl (first (t .first))
   where
-    first : (f : First) → firstOf f n a ≡ orFirst f (At (n + 0) a)
+    first : (f : First) → firstKept f n a ≡ orFirst f (At (n + 0) a)
     first (At p x) = refl
     first Never = ap (λ z. At z a) (omega arith)
-noted-joined t n Told.Nowhere = tally-is (omega arith) (sym (or-never (t .first)))
+noted-joined t n Reached.Nowhere = tally-is (omega arith) (sym (or-never (t .first)))
 
 -- ---- A RUN'S END AND TALLY ARE ITS TRAIL'S
 
@@ -96,10 +96,10 @@ rest-trail settings map place [] s m t c = ap (end s m) (sym (joined-right place
 rest-trail settings map place (x ∷ xs) s m t c =
     let a = stepOf map (heard settings x) s m in
     let rs = trailOf settings map xs (a .state) (a .image) in
-    rest-trail settings map (place + 1) xs (a .state) (a .image) (noted t place (blankAt (a .cause))) (a .cause)
+    rest-trail settings map (place + 1) xs (a .state) (a .image) (blankNoted t place (blankAt (a .cause))) (a .cause)
     ∙ ap (λ z. end (lastAfter a rs .state) (lastAfter a rs .image) z)
     (ap (λ z. tallyJoined (place + 1) z (tallyIn rs)) (noted-joined t place (blankAt (a .cause)))
-    ∙ joined-joined place 1 t (noted noBlanks 0 (blankAt (a .cause))) (tallyIn rs)
+    ∙ joined-joined place 1 t (blankNoted noBlanks 0 (blankAt (a .cause))) (tallyIn rs)
     ∙ ap (tallyJoined place t) (sym (tally-cons a rs)))
 
 -- the whole run, from a state and an image; a cause before its first step is not asked for
@@ -109,12 +109,12 @@ run-trail settings map lines s m c = rest-trail settings map 0 lines s m noBlank
 
 -- ---- THE FIRST PLACE IS THE LEAST
 
-pub first-least : (rs : List After) → Least rs (placePage (firstBlankIn rs))
+pub first-least : (rs : List After) → Least rs (firstPage (firstBlankIn rs))
 unfolding firstBlankIn
 first-least [] = nowhere (λ k h. absurd (omega arith))
 first-least (a ∷ rs) = split (blankAt (a .cause)) refl (firstBlankIn rs) (first-least rs)
   where
-    later : (f : First) → isBlank (a .cause) ≡ false → Least rs (placePage f) → Least (a ∷ rs) (placePage (placeMoved 1 f))
+    later : (f : First) → isBlank (a .cause) ≡ false → Least rs (firstPage f) → Least (a ∷ rs) (firstPage (placeMoved 1 f))
     later (At p x) e (least l h g) = rw (one-more p) (least {p = suc p} (omega arith) h before)
       where
         one-more : (p : ℕ) → 1 + p ≡ suc p
@@ -129,9 +129,9 @@ first-least (a ∷ rs) = split (blankAt (a .cause)) refl (firstBlankIn rs) (firs
         every zero i = e
         every (suc k) i = g k (omega arith)
 
-    split : (b : Told) → blankAt (a .cause) ≡ b → (f : First) → Least rs (placePage f) → Least (a ∷ rs) (placePage (here b f))
-    split (Told.At x) e f h = least {p = 0} (omega arith) e (λ k i. absurd (omega arith))
-    split Told.Nowhere e f h = later f (ap isTold e) h
+    split : (b : Reached) → blankAt (a .cause) ≡ b → (f : First) → Least rs (firstPage f) → Least (a ∷ rs) (firstPage (here b f))
+    split (Reached.At x) e f h = least {p = 0} (omega arith) e (λ k i. absurd (omega arith))
+    split Reached.Nowhere e f h = later f (ap isTold e) h
 
 -- ---- the trail, place by place
 

@@ -7,7 +7,7 @@ use Rattle.state.specs.declared.Settings.{Settings}
 use Rattle.state.specs.State.{heard}
 use Rattle.step.specs.declared.Turn.{Turn}
 use Rattle.machine.specs.declared.Ran.{Ran}
-use Rattle.step.specs.Step.{stepOf, turnOf, up, powerUpOf}
+use Rattle.step.specs.Step.{stepOf, up, powerUpOf, turnOf}
 use Rattle.refusal.specs.Page.{refused, answered, left}
 use Rattle.refusal.proofs.Laws.Page.{call-refused, call-answered}
 use Rattle.machine.specs.Numbers.{statePage, turnPage, ranPage}

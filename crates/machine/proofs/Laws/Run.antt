@@ -13,17 +13,18 @@ use Rattle.state.specs.State.{heard}
 use Rattle.machine.specs.declared.Tally.{Tally}
 use Rattle.step.specs.declared.Cause.{Cause}
 use Rattle.step.specs.declared.Cause.the-variants as Cause
-use Rattle.step.specs.Step.{stepOf, After, after, blankAt, calm}
-use Rattle.machine.specs.Run.{noted, End, end, restOfRun, runOf, lastCause}
+use Rattle.step.specs.Step.{stepOf, After, after, blankAt}
+use Rattle.step.specs.Inner.{calm}
+use Rattle.machine.specs.Run.{blankNoted, End, end, restOfRun, runOf, lastCause}
 
 rest-cons : (settings : Settings) (map : List ℕ) (i x : ℕ) (xs : List ℕ) (s : State) (m : List ℕ) (t : Tally)
-    → restOfRun settings map (i + 1) xs (stepOf map (heard settings x) s m .state) (stepOf map (heard settings x) s m .image) (noted t i (blankAt (stepOf map (heard settings x) s m .cause))) ≡ restOfRun settings map i (x ∷ xs) s m t
+    → restOfRun settings map (i + 1) xs (stepOf map (heard settings x) s m .state) (stepOf map (heard settings x) s m .image) (blankNoted t i (blankAt (stepOf map (heard settings x) s m .cause))) ≡ restOfRun settings map i (x ∷ xs) s m t
 unfolding restOfRun
 rest-cons settings map i x xs s m t = refl
 
 -- one step more
 pub rest-more : (settings : Settings) (map lines : List ℕ) (i : ℕ) (s : State) (m : List ℕ) (t t′ : Tally) (a : After)
-    → i < length lines → a ≡ stepOf map (heard settings (getD lines i 0)) s m → t′ ≡ noted t i (blankAt (a .cause))
+    → i < length lines → a ≡ stepOf map (heard settings (getD lines i 0)) s m → t′ ≡ blankNoted t i (blankAt (a .cause))
     → restOfRun settings map (i + 1) (drop (i + 1) lines) (a .state) (a .image) t′ ≡ restOfRun settings map i (drop i lines) s m t
 rest-more settings map lines i s m t t′ a l e d = rw (drop-cons lines i 0 l, ← add-one i, d, e) (rest-cons settings map i (getD lines i 0) (drop (i + 1) lines) s m t)
 

@@ -16,8 +16,8 @@ use Rattle.machine.specs.declared.First.{First}
 use Rattle.machine.specs.declared.First.the-variants.{At, Never}
 use Rattle.refusal.specs.Page.{refused, answered, left}
 use Rattle.refusal.proofs.Laws.Page.{call-refused, call-answered}
-use Rattle.machine.specs.Numbers.{placePage, ranPage}
-use Rattle.machine.specs.Run.{End, end, restOfRun, runOf, ranOf, noted, noBlanks}
+use Rattle.machine.specs.Numbers.{firstPage, ranPage}
+use Rattle.machine.specs.Run.{End, end, restOfRun, runOf, ranOf, blankNoted, noBlanks}
 use Rattle.machine.specs.Trail.{trailOf, blanksIn, firstBlankIn, tallyIn, placeMoved, Least, least, nowhere}
 use Rattle.machine.specs.Counted.{orFirst, tallyJoined}
 use Rattle.machine.specs.Entry.{runEnd, stepWhy}
@@ -39,7 +39,7 @@ blanks-few (a ∷ rs) = one (isBlank (a .cause)) (blanks-few rs)
 first-among : (rs : List After) → BlankAmong (length rs) (firstBlankIn rs)
 first-among rs = from (firstBlankIn rs) (first-least rs)
   where
-    from : (f : First) → Least rs (placePage f) → BlankAmong (length rs) f
+    from : (f : First) → Least rs (firstPage f) → BlankAmong (length rs) f
     from (At p a) (least l h g) = l
     from Never h = tt
 
@@ -66,13 +66,13 @@ joined-tallied {n = n} {k = k} {t = t} {u = u} h g = record { few = omega (arith
 
 -- ---- a part, behind n steps
 
-abbrev behind : ℕ → Tally → End → End
-behind n t (end s m u) = end s m (tallyJoined n t u)
+abbrev pub behindSteps : ℕ → Tally → End → End
+behindSteps n t (end s m u) = end s m (tallyJoined n t u)
 
 part-is : (settings : Settings) (map lines : List ℕ) (n : ℕ) (b r : Ran) (m m′ : List ℕ) (t : Tally) → ranOf r m′ ≡ runOf settings map lines (b .state) m → t ≡ tallyJoined n (b .tally) (r .tally)
     → ranOf (record { state = r .state; tally = t }) m′ ≡ restOfRun settings map n lines (b .state) m (b .tally)
 part-is settings map lines n b r m m′ t e d =
-    rw d (ap (behind n (b .tally)) (e ∙ run-trail settings map lines (b .state) m Cause.Nothing) ∙ sym (rest-trail settings map n lines (b .state) m (b .tally) Cause.Nothing))
+    rw d (ap (behindSteps n (b .tally)) (e ∙ run-trail settings map lines (b .state) m Cause.Nothing) ∙ sym (rest-trail settings map n lines (b .state) m (b .tally) Cause.Nothing))
 
 pub parted : (settings : Settings) (map lines : List ℕ) (n : ℕ) (b r : Ran) (m m′ : List ℕ) (t : Tally) → Tallied n (b .tally) → Lent map m′
     → ranOf r m′ ≡ runOf settings map lines (b .state) m → t ≡ tallyJoined n (b .tally) (r .tally) → Parted settings map lines n b m (record { state = r .state; tally = t }) m′
@@ -84,7 +84,7 @@ parted settings map lines n b r m m′ t h l e d = record {
 
 -- ---- the parts of a run over one line word
 
-abbrev restOn : Settings → List ℕ → ℕ → List ℕ → End → End
+abbrev pub restOn : Settings → List ℕ → ℕ → List ℕ → End → End
 restOn settings map n lines (end s m t) = restOfRun settings map n lines s m t
 
 rest-same : (settings : Settings) (map : List ℕ) (place k n j x : ℕ) (s : State) (m : List ℕ) (t : Tally) → j ≡ k + n
@@ -97,8 +97,8 @@ rest-same settings map place zero n j x s m t e =
 rest-same settings map place (suc k) n zero x s m t e = absurd (omega arith)
 rest-same settings map place (suc k) n (suc j) x s m t e =
     let a = stepOf map (heard settings x) s m in
-    ap (λ z. restOn settings map z (replicate n x) (restOfRun settings map (place + 1) (replicate k x) (a .state) (a .image) (noted t place (blankAt (a .cause))))) (next place k)
-    ∙ rest-same settings map (place + 1) k n j x (a .state) (a .image) (noted t place (blankAt (a .cause))) (omega arith)
+    ap (λ z. restOn settings map z (replicate n x) (restOfRun settings map (place + 1) (replicate k x) (a .state) (a .image) (blankNoted t place (blankAt (a .cause))))) (next place k)
+    ∙ rest-same settings map (place + 1) k n j x (a .state) (a .image) (blankNoted t place (blankAt (a .cause))) (omega arith)
   where
     next : (place k : ℕ) → place + suc k ≡ place + 1 + k
     next place k = omega arith

@@ -20,7 +20,7 @@ use Rattle.machine.specs.declared.Stage.{Stage}
 use Rattle.machine.specs.declared.Stop.{Stop}
 use Rattle.machine.specs.declared.Tally.{Tally}
 use Rattle.machine.specs.declared.Until.{Until}
-use Rattle.machine.specs.Run.{end, restOfRun, runOf, noted, noBlanks, lastCause}
+use Rattle.machine.specs.Run.{end, restOfRun, runOf, blankNoted, noBlanks, lastCause}
 use Rattle.machine.specs.Entry.{runWhy}
 use Rattle.machine.specs.Until.{ends, stepsTo, stopPage, runFor, untilOf, runUntilPage, Strode, stopAt, Ended}
 
@@ -28,11 +28,11 @@ use Rattle.machine.specs.Until.{ends, stepsTo, stopPage, runFor, untilOf
 
 module _ (settings : Settings) (map lines : List ℕ) (i : ℕ) (s : State) (m : List ℕ) (a : After) (l : i < length lines) (e : a ≡ stepOf map (heard settings (getD lines i 0)) s m) where
   rest-cons : (x k : ℕ) (xs : List ℕ) (t : Tally)
-      → (let b = stepOf map (heard settings x) s m in restOfRun settings map (i + 1) (take k xs) (b .state) (b .image) (noted t i (blankAt (b .cause))) ≡ restOfRun settings map i (take (suc k) (x ∷ xs)) s m t)
+      → (let b = stepOf map (heard settings x) s m in restOfRun settings map (i + 1) (take k xs) (b .state) (b .image) (blankNoted t i (blankAt (b .cause))) ≡ restOfRun settings map i (take (suc k) (x ∷ xs)) s m t)
   unfolding restOfRun
   rest-cons x k xs t = refl
 
-  rest-took : (k : ℕ) (t t′ : Tally) → t′ ≡ noted t i (blankAt (a .cause))
+  rest-took : (k : ℕ) (t t′ : Tally) → t′ ≡ blankNoted t i (blankAt (a .cause))
       → restOfRun settings map (i + 1) (take k (drop (i + 1) lines)) (a .state) (a .image) t′ ≡ restOfRun settings map i (take (suc k) (drop i lines)) s m t
   rest-took k t t′ d = rw (drop-cons lines i 0 l, ← add-one i, d, e) (rest-cons (getD lines i 0) k (drop (i + 1) lines) t)
 

@@ -15,6 +15,7 @@ use Rattle.machine.specs.Numbers.{indicators, statePage, Address, address, nowh
 use Rattle.machine.specs.Back.{stateOf}
 use Rattle.machine.proofs.Laws.Back.{state-back}
 use Rattle.machine_c.specs.Layout.{addressTold, stateBytes, pageFrom, stateFrom, refusedState}
+use Rattle.wordmath.proofs.Laws.Digit.{digit-le}
 
 page-again : (s : State) (cause : ℕ) (told : Address) → pageFrom (stateBytes (statePage s) cause told) ≡ statePage s
 unfolding pageFrom stateBytes statePage
@@ -23,10 +24,6 @@ page-again s cause told = simp word-again
 -- THE SAME STATE COMES BACK
 pub state-again : (s : State) (cause : ℕ) (told : Address) → stateFrom (stateBytes (statePage s) cause told) ≡ s
 state-again s cause told = ap stateOf (page-again s cause told) ∙ state-back s
-
-digit-le : (b : Bool) → digit b ≤ 1
-digit-le true = omega arith
-digit-le false = omega arith
 
 mode-le : (m : Mode) → modeNumber m ≤ 5
 mode-le Running = omega arith

@@ -5,7 +5,7 @@ use mathlib.Core.Path.{_≡_, refl}
 use lib.ListN.{length}
 use borrow.Author.Tests.{eq-eqb}
 use Rattle.state.specs.declared.State.{State}
-use Rattle.machine.specs.Numbers.{statePage, Address, Place}
+use Rattle.machine.specs.Numbers.{statePage, Address, FirstPage}
 use Rattle.machine_c.specs.Layout.{stateBytes, tallyBytes, laid}
 
 pub laid-all : (bytes b : List ℕ) → length b ≡ length bytes → laid bytes b ≡ bytes
@@ -16,6 +16,6 @@ pub laid-state : (b : List ℕ) (s : State) (cause : ℕ) (told : Address) → l
 unfolding stateBytes statePage
 laid-state b s cause told e = laid-all _ b e
 
-pub laid-tally : (b : List ℕ) (blanks : ℕ) (first : Place) → length b ≡ 6 → laid (tallyBytes blanks first) b ≡ tallyBytes blanks first
+pub laid-tally : (b : List ℕ) (blanks : ℕ) (first : FirstPage) → length b ≡ 6 → laid (tallyBytes blanks first) b ≡ tallyBytes blanks first
 unfolding tallyBytes
 laid-tally b blanks first e = laid-all _ b e

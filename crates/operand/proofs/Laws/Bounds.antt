@@ -10,7 +10,7 @@ use Rattle.state.specs.declared.State.{State}
 use Rattle.operand.specs.declared.Place.{Place}
 use Rattle.operand.specs.declared.Place.the-variants.{Reg, Mem}
 use Rattle.operand.specs.Destination.{Holding, operandOf}
-use Rattle.operand.specs.Operand.{locate, incrementDeferred, decrementDeferred, indexed, indexedDeferred, deferred, Seen, decode, readOf, writeTo}
+use Rattle.operand.specs.Operand.{locate, incrementDeferred, decrementDeferred, indexed, indexedDeferred, deferred, Decoded, decode, readOf, writeTo}
 
 located : (step k r pc mode : ℕ) → Bounded 0 (locate step k r pc mode)
 unfolding locate incrementDeferred decrementDeferred indexed indexedDeferred deferred _>>=_
@@ -27,7 +27,7 @@ read z r (Mem a which v) = search bounds
 
 module _ {A : Type 0} {n : ℕ} (z : Size) (s : State) (mode k : ℕ) where
   -- and then the work that follows
-  pub bounded-decode : {f : Seen → Work A} → ((to : Seen) → Bounded n (f to)) → Bounded n (decode z s mode k >>= f)
+  pub bounded-decode : {f : Decoded → Work A} → ((to : Decoded) → Bounded n (f to)) → Bounded n (decode z s mode k >>= f)
   bounded-decode h = bounded-then {k = n} (omega arith) (decoded z s mode k) h
 
   pub bounded-operand : {f : Holding → Work A} → ((o : Holding) → Bounded n (f o)) → Bounded n (operandOf z s mode k >>= f)

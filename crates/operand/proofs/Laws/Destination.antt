@@ -13,7 +13,7 @@ use Rattle.state.specs.State.{reg}
 use Rattle.operand.specs.Operand.{incrementOf, locate, moved, readOf, addressOf, foundAs}
 use Rattle.operand.proofs.Laws.Operand.{located, decoded, undecoded, unread-operand}
 use Rattle.operand.specs.Destination.{holding, operandOf}
-pub use Rattle.operand.specs.Destination.{heldAs, unheld, nowhere}
+pub use Rattle.operand.specs.Destination.{heldAs, unheld, unlocated}
 
 -- ---- how code comes to it, of words and of bytes alike
 

@@ -15,8 +15,8 @@ use Rattle.wordmath.specs.Address.{plus}
 use Rattle.operand.specs.declared.Place.{Place}
 
 -- modes 6 and 7 in one: the sum with the next word is the operand's address, or the address of its address
-unfoldable pub offset : ℕ → ℕ → ℕ → ℕ → Work Place
-offset k r pc mode = do
+unfoldable pub indexedBy : ℕ → ℕ → ℕ → ℕ → Work Place
+indexedBy k r pc mode = do
   x ← load pc
   through (ltb 6 mode) (plus (indexBase k r pc) x) 7 (plus pc 2)
 
@@ -40,7 +40,7 @@ locate-pointed step k r pc (suc (suc (suc (suc (suc (suc m)))))) l h =
     absurd (not-suc-le-zero (le-of-suc-le-suc (le-of-suc-le-suc (le-of-suc-le-suc (le-of-suc-le-suc (le-of-suc-le-suc (le-of-suc-le-suc h)))))))
 
 -- a mode other than 0 to 6
-pub locate-last : (step k r pc mode : ℕ) → 7 ≤ mode → locate step k r pc mode ≡ indexedDeferred step k r pc
+locate-last : (step k r pc mode : ℕ) → 7 ≤ mode → locate step k r pc mode ≡ indexedDeferred step k r pc
 unfolding locate
 locate-last step k r pc mode h =
     List·getD-eq-default
@@ -48,8 +48,8 @@ locate-last step k r pc mode h =
     (indexedDeferred step k r pc)
     h
 
-pub locate-offset : (step k r pc mode : ℕ) → 6 ≤ mode → locate step k r pc mode ≡ offset k r pc mode
-unfolding locate offset indexed indexedDeferred
+pub locate-offset : (step k r pc mode : ℕ) → 6 ≤ mode → locate step k r pc mode ≡ indexedBy k r pc mode
+unfolding locate indexedBy indexed indexedDeferred
 locate-offset step k r pc zero h = absurd (not-suc-le-zero h)
 locate-offset step k r pc (suc zero) h = absurd (not-suc-le-zero (le-of-suc-le-suc h))
 locate-offset step k r pc (suc (suc zero)) h = absurd (not-suc-le-zero (le-of-suc-le-suc (le-of-suc-le-suc h)))

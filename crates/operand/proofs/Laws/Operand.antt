@@ -13,7 +13,7 @@ use Rattle.operand.specs.declared.Place.{Place}
 use Rattle.operand.specs.declared.Place.the-variants.{Reg, Mem}
 use Rattle.operand.specs.declared.Found.{Found}
 use Rattle.operand.specs.declared.Found.the-variants as Found
-use Rattle.operand.specs.Operand.{incrementOf, locate, moved, seen, decode, readOf, withPart, writeTo, addressOf}
+use Rattle.operand.specs.Operand.{incrementOf, locate, moved, decodedTo, decode, readOf, withPart, writeTo, addressOf}
 pub use Rattle.operand.specs.Operand.{foundAs, unfound}
 
 -- ---- how code comes to an operand, of words and of bytes alike
@@ -27,7 +27,7 @@ located z s mode k f d e g = (rw (d, e) at g) .got
 -- a place that was found decodes the operand
 pub decoded : {map : List ℕ} (z : Size) (s : State) (mode k : ℕ) {st : Store} {t : State} {r : Found} {p : Place}
     → Got map (locate (incrementOf z k) k (reg s k) (s .regs .pc) mode) st (foundAs r st) → r ≡ Found.At p → t ≡ moved s p
-    → Got map (decode z s mode k) st (good (seen t k p) st)
+    → Got map (decode z s mode k) st (good (decodedTo t k p) st)
 unfolding decode
 decoded z s mode k g e h = got-then _ g (means foundAs e) (got-give (rw h))
 

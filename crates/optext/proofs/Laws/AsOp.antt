@@ -2,7 +2,7 @@
 use mathlib.Core.Bool.{Bool, true, false, cond, _&&_}
 use mathlib.Core.Path.{_≡_, refl, ap, sym, _∙_, subst}
 use mathlib.Core.List.{List, [], _∷_, append-nil}
-use Prim.Native.Nat.{ℕ, _≤_}
+use Prim.Native.Nat.{ℕ, _≤_, _<_}
 use native.Mathlib.Omega.{arith}
 use lib.Dec.{eqb}
 use borrow.Author.Tests.{eq-eqb, eqb-true}
@@ -14,11 +14,15 @@ use Rattle.optext.specs.Rows.{firstOf, secondOf}
 use Rattle.optext.specs.Line.{rowOf, takes, opText}
 use Rattle.optext.specs.Guess.{guessOf}
 use Rattle.optext.specs.Words.{own, wordsOf}
-use Rattle.optext.specs.Read.{sameText, readFrom, wordsOfText, opOf}
-use Rattle.optext.proofs.Laws.Read.{same-is}
+use Rattle.optext.specs.Column.{IsText}
+use Rattle.optext.specs.Read.{sameText, wordsOfText, opOf}
+use Rattle.optext.proofs.Laws.Read.{same-refl, same-eq, same-is}
 use Rattle.optext.proofs.Laws.Choose.{no}
 use Rattle.optext.proofs.Laws.Near.{agree-self}
-use Rattle.optext.proofs.Laws.Columns.{same-text}
+use Rattle.optext.proofs.Laws.Furthest.{lt-w, lt-x, lt-y}
+use Rattle.optext.proofs.Laws.Meets.{text-words, whole-words}
+use Rattle.optext.proofs.Laws.Columns.{guessLine, same-text, own-line}
+use Rattle.optext.proofs.Laws.Reader.{read-of-text, read-refuses}
 
 -- texts that agree to the end of both
 both-true : (a b : Bool) → (a && b) ≡ true → (a ≡ true) × (b ≡ true)
@@ -69,13 +73,19 @@ words-le w x y =
 module _ (t : List ℕ) (g : Guess) (p : g ≡ guessOf t) (b : Bool) (q : b ≡ sameText (opText (g .w) (g .x) (g .y)) t) where
   pub op-taken : (e : List ℕ) (n : ℕ) → b ≡ true → Wrote (wordsOf (g .w) (g .x) (g .y)) zeros e n
       → record { count = n; a = getD e 0 0; b = getD e 1 0; c = getD e 2 0 } ≡ opOf (wordsOfText t)
-  unfolding wordsOfText readFrom
-  op-taken e n h w =
-      let s : sameText (opText (g .w) (g .x) (g .y)) t ≡ true = sym q ∙ h in
-      rw (← p, s, w .bytes, w .count) (sym (op-over (wordsOf (g .w) (g .x) (g .y))))
+  op-taken e n h v =
+      let s : opText (g .w) (g .x) (g .y) ≡ t = same-eq _ t (sym q ∙ h) in
+      let lw : g .w < 65536 = rw p (lt-w t) in
+      let r : wordsOfText t ≡ wordsOf (g .w) (g .x) (g .y) =
+      ap wordsOfText (sym (text-words (g .w) (g .x) (g .y) lw ∙ s)) ∙ read-of-text (wordsOf (g .w) (g .x) (g .y)) (whole-words (g .w) (g .x) (g .y) lw (rw p (lt-x t)) (rw p (lt-y t))) in
+      rw (r, v .bytes, v .count) (sym (op-over (wordsOf (g .w) (g .x) (g .y))))
 
   pub op-refused : b ≡ false → record { count = 0; a = 0; b = 0; c = 0 } ≡ opOf (wordsOfText t)
-  unfolding wordsOfText readFrom
-  op-refused h =
-      let s : sameText (opText (g .w) (g .x) (g .y)) t ≡ false = sym q ∙ h in
-      rw (← p, s) refl
+  unfolding guessLine
+  op-refused h = rw (read-refuses t none) refl
+    where
+      same : IsText t → opText (g .w) (g .x) (g .y) ≡ t
+      same i = ap (λ (z : Guess). opText (z .w) (z .x) (z .y)) p ∙ own-line t i
+
+      none : IsText t → ⊥
+      none i = no (sym (ap (λ (l : List ℕ). sameText l t) (same i) ∙ same-refl t) ∙ sym q ∙ h)

@@ -16,12 +16,12 @@ use Rattle.optext.specs.declared.rows.Kind.the-variants.{None, Mask, Dis
 use Rattle.hexdigits.specs.Digits.{digits, hexOf, hex4, hex2}
 use Rattle.optext.specs.Digits.{unHex, unHex4, unHex2}
 use Rattle.optext.specs.Rows.{rowCount, rowWidth, rows, tableBytes, theRow, baseOf}
-use Rattle.optext.specs.Line.{registers, regA, regB, regText, upText, literalText, downText, offsetText, plainText, modeText, modeTakes, operandText, takes, fieldOf}
-use Rattle.optext.specs.Guess.{unCount, unReg, notPc, operandRead, atBit6, unPlain, unMode, addressed, reservedFrom, unOp}
+use Rattle.optext.specs.Line.{registers, regA, regB, regText, upText, literalText, downText, offsetText, plainText, modeText, modeTakes, isReserved, operandText, takes, fieldOf}
+use Rattle.optext.specs.Guess.{unCount, unReg, notPc, operandRead, atBit6, unPlain, unMode, addressed, unWord, unOp}
 use Rattle.optext.proofs.Laws.Choose.{eq-cases, at}
 use Rattle.optext.proofs.Laws.Table.{row-count, flat-drop, base-lt}
-use Rattle.optext.proofs.Laws.Forms.{mode-plain, mode-at}
-use Rattle.optext.proofs.Laws.Reserved.{from-same}
+use Rattle.optext.proofs.Laws.Forms.{plain-elim, mode-plain, mode-at}
+use Rattle.optext.proofs.Laws.Reserved.{reserved-elim}
 use Rattle.optext.proofs.Laws.Inside.{Allowed}
 
 -- an operand's own word, by the number of words that it takes: x, or 0
@@ -70,6 +70,46 @@ pub hex2-back : (x : ℕ) (t : List ℕ) → x < 256 → unHex2 (hex2 x ++ t) �
 unfolding unHex2 hex2
 hex2-back x t h = rw (hex-back (x / 16) (omega arith), hex-back (x % 16) (omega arith)) (omega arith)
 
+first-15 : eqb (hexOf 15) 55 ≡ false
+unfolding hexOf digits
+first-15 = refl
+
+first-7 : eqb (hexOf 7) 55 ≡ true
+unfolding hexOf digits
+first-7 = refl
+
+pub quarter : (n : ℕ) → n % 4 ≡ 0 → n % 16 / 4 * 4 ≡ n % 16
+quarter n h = omega arith
+
+digits-sum : (w : ℕ) → w / 4096 * 4096 + w / 256 % 16 * 256 + w / 16 % 16 * 16 + w % 16 ≡ w
+digits-sum w = omega arith
+
+-- a word that .WORD may hold
+unWord-back : (w : ℕ) (t : List ℕ) → w < 65536 → isReserved w ≡ true → unWord (hex4 w ++ t) ≡ w
+unfolding unWord hex4
+unWord-back w t l r = reserved-elim w (unWord (hex4 w ++ t) ≡ w) r high low
+  where
+    b : unHex (hexOf (w / 256 % 16)) ≡ w / 256 % 16
+    b = hex-back (w / 256 % 16) (omega arith)
+
+    c : unHex (hexOf (w / 16 % 16)) ≡ w / 16 % 16
+    c = hex-back (w / 16 % 16) (omega arith)
+
+    d : unHex (hexOf (w % 16)) ≡ w % 16
+    d = hex-back (w % 16) (omega arith)
+
+    high : 240 ≤ w / 256 → unWord (hex4 w ++ t) ≡ w
+    high h = let e : w / 4096 ≡ 15 = omega arith in rw (e, first-15, b, c, d) (omega arith)
+
+    low : w / 1024 ≡ 28 → w / 8 % 8 ≡ 0 → unWord (hex4 w ++ t) ≡ w
+    low h m =
+        let e : w / 4096 ≡ 7 = omega arith in
+        let f : w / 256 % 16 % 4 ≡ w / 256 % 16 = omega arith in
+        let g = quarter (w / 16) (omega arith) in
+        let k : w % 16 % 8 ≡ w % 16 = omega arith in
+        let v = digits-sum w in
+        rw (e, first-7, b, c, d, f, k) (omega (arith, e, g, v))
+
 pub count-back : (d : ℕ) (t : List ℕ) → d < 16 → unCount (hex2 (d + 1) ++ t) ≡ d
 unfolding unCount hex2 hexOf unHex digits
 count-back d t h = eqb→eq (unCount (hex2 (d + 1))) d (at (λ d. eqb (unCount (hex2 (d + 1))) d) 16 tt d h)
@@ -105,25 +145,16 @@ plain-back (suc (suc (suc zero))) r x t h g l =
 plain-back (suc (suc (suc (suc p)))) r x t h g l = absurd (omega arith)
 
 -- none begins with @
-pub plain-sign : (p r x : ℕ) (t : List ℕ) → p < 4 → r < 8 → x < 65536 → getD (plainText p r x ++ t) 0 0 ≡ 64 → ⊥
-unfolding plainText regText upText literalText downText offsetText hex4
-plain-sign zero r x t h g l e =
-    let k = reg-high r g in
-    let e′ : regA r ≡ 64 = e in
-    omega arith
-plain-sign (suc zero) r x t h g l e =
-    ⊎-elim (λ q. pc-sign (subst (λ (r : ℕ). getD (plainText 1 r x ++ t) 0 0 ≡ 64) q e)) (λ q. no (rw (ne-eqb r 7 q) at e)) (eq-cases r 7)
+pub plain-sign : (p r x : ℕ) (t : List ℕ) → r < 8 → x < 65536 → getD (plainText p r x ++ t) 0 0 ≡ 64 → ⊥
+unfolding regText upText literalText downText offsetText hex4
+plain-sign p r x t g l =
+    plain-elim (λ (s : List ℕ). getD (s ++ t) 0 0 ≡ 64 → ⊥) p r x (λ e. above (regA r) (reg-high r g) e) (other 35 (omega arith)) (other 40 (omega arith)) (other 45 (omega arith)) (digit-sign (x / 4096) (omega arith))
   where
-    no : _≡_ {A = ℕ} 40 64 → ⊥
-    no e = omega arith
+    above : (n : ℕ) → 71 ≤ n → n ≡ 64 → ⊥
+    above n h e = omega arith
 
-    pc-sign : _≡_ {A = ℕ} 35 64 → ⊥
-    pc-sign e = omega arith
-plain-sign (suc (suc zero)) r x t h g l e =
-    let e′ : _≡_ {A = ℕ} 45 64 = e in
-    omega arith
-plain-sign (suc (suc (suc zero))) r x t h g l e = digit-sign (x / 4096) (omega arith) e
-plain-sign (suc (suc (suc (suc p)))) r x t h g l e = omega arith
+    other : (n : ℕ) → n < 64 → n ≡ 64 → ⊥
+    other n h e = omega arith
 
 pub mode-back : (f x : ℕ) (t : List ℕ) → f < 64 → x < 65536 → unMode (modeText f x ++ t) ≡ operandRead f (ownOf (modeTakes f) x) (length (modeText f x))
 unfolding modeTakes unMode
@@ -131,7 +162,7 @@ mode-back f x t h l =
     let p : f / 16 < 4 = omega arith in
     let r : f % 8 < 8 = omega arith in
     ⊎-elim
-    (λ q. rw (mode-plain f x q, ne-eqb (getD (plainText (f / 16) (f % 8) x ++ t) 0 0) 64 (plain-sign (f / 16) (f % 8) x t p r l), plain-back (f / 16) (f % 8) x t p r l)
+    (λ q. rw (mode-plain f x q, ne-eqb (getD (plainText (f / 16) (f % 8) x ++ t) 0 0) 64 (plain-sign (f / 16) (f % 8) x t r l), plain-back (f / 16) (f % 8) x t p r l)
     (ap (λ (y : ℕ). operandRead y (ownOf (plainTakes (f / 16) (f % 8)) x) (length (plainText (f / 16) (f % 8) x))) (omega arith)))
     (λ q. rw (mode-at f x q, plain-back (f / 16) (f % 8) x t p r l, add-one (length (plainText (f / 16) (f % 8) x)))
     (ap (λ (y : ℕ). operandRead y (ownOf (plainTakes (f / 16) (f % 8)) x) (suc (length (plainText (f / 16) (f % 8) x)))) (omega arith)))
@@ -158,7 +189,7 @@ op-back Mid w x t g l a = ap (λ (y : ℕ). operandRead (y * 8) 0 2) (reg-back (
 op-back Dst w x t g l a = mode-back (w % 64) x t (omega arith) l
 op-back Addr w x t g l a = rw (mode-back (w % 64) x t (omega arith) l, addressed-same (w % 64) (a .0 tt)) refl
 op-back Src w x t g l a = ap atBit6 (mode-back (w / 64 % 64) x t (omega arith) l)
-op-back Word w x t g l a = ap (λ (y : ℕ). operandRead y 0 4) (ap reservedFrom (hex4-back w t g) ∙ from-same w (a .1 tt) ∙ omega arith)
+op-back Word w x t g l a = ap (λ (y : ℕ). operandRead y 0 4) (unWord-back w t g (a .1 tt) ∙ omega arith)
 
 -- a word that is not taken is not shown
 plain-ignores : (p r x y : ℕ) → p < 4 → plainTakes p r ≡ 0 → plainText p r x ≡ plainText p r y

@@ -118,7 +118,7 @@ same-front ws vs m many room e =
 
 -- ---- the two calls
 
-whole-take : (ws : List ℕ) (m : ℕ) → ((i : ℕ) → getD ws i 0 < 65536) → m ≡ taken (getD ws 0 0) → m ≤ length ws → Whole (take m ws)
+pub whole-take : (ws : List ℕ) (m : ℕ) → ((i : ℕ) → getD ws i 0 < 65536) → m ≡ taken (getD ws 0 0) → m ≤ length ws → Whole (take m ws)
 whole-take ws m u e l =
     let k = some-taken (getD ws 0 0) in
     let z : getD (take m ws) 0 0 ≡ getD ws 0 0 = getD-take m ws 0 0 (omega (arith, e, k)) in

@@ -32,6 +32,11 @@ pub bool-cases : (b : Bool) → (b ≡ false) ⊎ (b ≡ true)
 bool-cases true = inr refl
 bool-cases false = inl refl
 
+-- what holds of both holds of either
+pub choose : {A : Type 0} (P : A → Type 0) (b : Bool) (x y : A) → P x → P y → P (cond b x y)
+choose P true x y p q = p
+choose P false x y p q = q
+
 -- a rule of a table, proved at all of its places by one test that antt computes
 abbrev pub both : Bool → Bool → Bool
 both true b = b

@@ -1,6 +1,6 @@
 -- Laws of the forms of operands: which form each is, and how long.
 use mathlib.Core.Path.{_≡_, refl}
-use mathlib.Core.Bool.{Bool, true, false, cond}
+use mathlib.Core.Bool.{true, false}
 use mathlib.Core.List.{List, [], _∷_}
 use Prim.Native.Nat.{ℕ, _/_, _%_, _≤_}
 use Prim.Native.Char.{code}
@@ -8,6 +8,7 @@ use native.Mathlib.Omega.{arith}
 use lib.Dec.{eqb}
 use borrow.Author.Tests.{ne-eqb}
 use lib.ListN.{length}
+use Rattle.optext.proofs.Laws.Choose.{choose}
 use Rattle.optext.specs.declared.rows.Kind.{Kind}
 use Rattle.optext.specs.declared.rows.Kind.the-variants.{None, Mask, Disp, Reg, Arg4, Arg6, Count, High, Mid, Dst, Addr, Src, Word}
 use Rattle.hexdigits.specs.Digits.{hex4, hex2}
@@ -49,22 +50,20 @@ pub sep-some : (s : ℕ) (k : Kind) (w x : ℕ) → isShown k ≡ true → sepTe
 unfolding sepText
 sep-some s k w x h = rw h refl
 
--- lengths
-cond-le : (b : Bool) (s t : List ℕ) (n : ℕ) → length s ≤ n → length t ≤ n → length (cond b s t) ≤ n
-cond-le true s t n h g = h
-cond-le false s t n h g = g
+pub plain-elim : (P : List ℕ → Type 0) (p r x : ℕ) → P (regText r) → P (literalText x) → P (upText r) → P (downText r) → P (offsetText r x) → P (plainText p r x)
+unfolding plainText
+plain-elim P p r x a b c d e = choose P (eqb p 0) _ _ a (choose P (eqb p 1) _ _ (choose P (eqb r 7) _ _ b c) (choose P (eqb p 2) _ _ d e))
 
+-- lengths
 pub plain-le : (p r x : ℕ) → length (plainText p r x) ≤ 8
-unfolding plainText regText upText literalText downText offsetText hex4
-plain-le p r x =
-    cond-le (eqb p 0) _ _ 8 (omega arith) (cond-le (eqb p 1) _ _ 8 (cond-le (eqb r 7) _ _ 8 (omega arith) (omega arith))
-    (cond-le (eqb p 2) _ _ 8 (omega arith) (omega arith)))
+unfolding regText upText literalText downText offsetText hex4
+plain-le p r x = plain-elim (λ (s : List ℕ). length s ≤ 8) p r x (omega arith) (omega arith) (omega arith) (omega arith) (omega arith)
 
 pub mode-le : (f x : ℕ) → length (modeText f x) ≤ 9
 unfolding modeText
 mode-le f x =
     let h = plain-le (f / 16) (f % 8) x in
-    cond-le (eqb (f / 8 % 2) 0) _ _ 9 (omega arith) (omega arith)
+    choose (λ (s : List ℕ). length s ≤ 9) (eqb (f / 8 % 2) 0) _ _ (omega arith) (omega arith)
 
 pub operand-le : (k : Kind) (w x : ℕ) → length (operandText k w x) ≤ 9
 unfolding hex4 hex2 regText
@@ -86,16 +85,15 @@ pub sep-le : (s : ℕ) (k : Kind) (w x : ℕ) → length (sepText s k w x) ≤ 1
 unfolding sepText
 sep-le s k w x =
     let h = operand-le k w x in
-    cond-le (isShown k) _ _ 10 (omega arith) (omega arith)
+    choose (λ (s : List ℕ). length s ≤ 10) (isShown k) _ _ (omega arith) (omega arith)
 
 -- an operand takes at most one word
-cond-one : (b : Bool) (m n : ℕ) → m ≤ 1 → n ≤ 1 → cond b m n ≤ 1
-cond-one true m n h g = h
-cond-one false m n h g = g
+abbrev One : ℕ → Type 0
+One n = n ≤ 1
 
 pub mode-takes-le : (f : ℕ) → modeTakes f ≤ 1
 unfolding modeTakes
-mode-takes-le f = cond-one (eqb (f / 16) 3) _ _ (omega arith) (cond-one (eqb (f / 16) 1) _ _ (cond-one (eqb (f % 8) 7) _ _ (omega arith) (omega arith)) (omega arith))
+mode-takes-le f = choose One (eqb (f / 16) 3) _ _ (omega arith) (choose One (eqb (f / 16) 1) _ _ (choose One (eqb (f % 8) 7) _ _ (omega arith) (omega arith)) (omega arith))
 
 pub takes-le : (k : Kind) (w : ℕ) → takes k w ≤ 1
 takes-le None w = omega arith

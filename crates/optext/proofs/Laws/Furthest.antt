@@ -1,6 +1,6 @@
 -- The line of the guess at a text agrees with the text as far as any line does, and is the line that the text begins with, if it begins with one.
 use mathlib.Core.Path.{_≡_, refl, ap, _∙_}
-use mathlib.Core.Bool.{Bool, true, false, cond}
+use mathlib.Core.Bool.{true, false, cond}
 use mathlib.Core.Logic.{⊎-elim}
 use mathlib.Core.List.{List, [], _∷_, _++_}
 use Prim.Native.Nat.{ℕ, _+_, _<_}
@@ -15,7 +15,7 @@ use Rattle.optext.specs.First.{agree}
 use Rattle.optext.specs.Rows.{rowCount, nameOf, baseOf, firstOf, secondOf}
 use Rattle.optext.specs.Line.{rowOf, isShown, operandText, sepText, opText}
 use Rattle.optext.specs.Guess.{headOf, rowFor, unPlain, unMode, unOp, guessA, guessB, guessOf}
-use Rattle.optext.proofs.Laws.Choose.{bool-cases}
+use Rattle.optext.proofs.Laws.Choose.{bool-cases, choose}
 use Rattle.optext.proofs.Laws.Near.{Near}
 use Rattle.optext.proofs.Laws.Near.{near-nil, near-at, near-next, near-seq, whole-split}
 use Rattle.optext.proofs.Laws.Heads.{rowAt-lt, head-own, head-some, near-head}
@@ -28,19 +28,18 @@ use Rattle.optext.proofs.Laws.Inside.{Allowed, PartOk, guess-lt, inside
 use Rattle.optext.proofs.Laws.Operands.{again, part-ok, near-operand, hex4-lt}
 
 -- the words that are read are words
-cond-word : (b : Bool) (o o' : Operand) → o .word < 65536 → o' .word < 65536 → (cond b o o') .word < 65536
-cond-word true o o' h g = h
-cond-word false o o' h g = g
+abbrev IsWord : Operand → Type 0
+IsWord o = o .word < 65536
 
 plain-word : (t : List ℕ) → unPlain t .word < 65536
 unfolding unPlain
 plain-word t =
-    cond-word (eqb (getD t 0 0) 40) _ _ (omega arith) (cond-word (eqb (getD t 0 0) 45) _ _ (omega arith)
-    (cond-word (eqb (getD t 0 0) 35) _ _ (hex4-lt (drop 1 t)) (cond-word (ltb (getD t 0 0) 71) _ _ (hex4-lt t) (omega arith))))
+    choose IsWord (eqb (getD t 0 0) 40) _ _ (omega arith) (choose IsWord (eqb (getD t 0 0) 45) _ _ (omega arith)
+    (choose IsWord (eqb (getD t 0 0) 35) _ _ (hex4-lt (drop 1 t)) (choose IsWord (ltb (getD t 0 0) 71) _ _ (hex4-lt t) (omega arith))))
 
 mode-word : (t : List ℕ) → unMode t .word < 65536
 unfolding unMode
-mode-word t = cond-word (eqb (getD t 0 0) 64) _ _ (plain-word (drop 1 t)) (plain-word t)
+mode-word t = choose IsWord (eqb (getD t 0 0) 64) _ _ (plain-word (drop 1 t)) (plain-word t)
 
 op-word : (k : Kind) (t : List ℕ) → unOp k t .word < 65536
 op-word None t = omega arith

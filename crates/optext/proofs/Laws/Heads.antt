@@ -1,70 +1,49 @@
 -- The row whose mnemonic agrees furthest with a text: no other agrees further, and it is the text's own where the text begins with a mnemonic.
 use mathlib.Core.Path.{_≡_, refl, ap, sym, _∙_}
 use mathlib.Core.Bool.{Bool, true, false, cond}
-use mathlib.Core.Logic.{_⊎_, inl, inr, ⊎-elim}
+use mathlib.Core.Logic.{⊎-elim}
 use mathlib.Core.List.{List, [], _∷_, _++_}
-use Prim.Native.Nat.{ℕ, zero, suc, _+_, _≤_, _<_, _-_}
+use Prim.Native.Nat.{ℕ, zero, suc, _+_, _≤_, _<_}
 use native.Mathlib.Omega.{arith}
 use native.Mathlib.Numerals.{add-one}
 use lib.Dec.{T, ltb, eqb}
 use borrow.Author.Tests.{eq-eqb, ne-eqb, lt-ltb, le-ltb, ltb-true, ltb-false}
 use lib.ListN.{length, drop, getD}
-use lib.Seq.{getD-drop}
-use Rattle.optext.specs.First.{agree, bestFrom}
+use Rattle.optext.specs.First.{agree, bestBelow}
 use Rattle.optext.specs.Rows.{Row, rowCount, wordRow, rows, theRow, noRow, nameOf, firstOf}
 use Rattle.optext.specs.Line.{isShown}
 use Rattle.optext.specs.Guess.{headIn, headOf, headFar, rowFor}
 use Rattle.optext.proofs.Laws.Table.{row-count}
-use Rattle.optext.proofs.Laws.Choose.{eq-cases, lt-cases, bool-cases, both, both-left, both-right}
+use Rattle.optext.proofs.Laws.Choose.{eq-cases, lt-cases, bool-cases, choose, both, both-left, both-right}
 use Rattle.optext.proofs.Laws.Near.{Near}
-use Rattle.optext.proofs.Laws.Near.{agree-nil, agree-le, agree-short, agree-whole, agree-through}
+use Rattle.optext.proofs.Laws.Near.{agree-le, agree-short, agree-whole, agree-through}
 
 -- a place at which a number is greatest
-pub best-le : (f : ℕ → ℕ) (n i b k : ℕ) → (k ≡ b) ⊎ ((i ≤ k) × (k < i + n)) → f k ≤ f (bestFrom f n i b)
-best-le f zero i b k (inl e) = rw e (omega arith)
-best-le f zero i b k (inr h) = absurd (let p = h .0 in let q = h .1 in omega arith)
-best-le f (suc n) i b k c = go (λ m j h. best-le f n (suc i) m j h) (ltb (f b) (f i)) refl c
+best-le : (f : ℕ → ℕ) (n k : ℕ) → k < n → f k ≤ f (bestBelow f n)
+unfolding bestBelow
+best-le f zero k h = absurd (omega arith)
+best-le f (suc n) k h = go (λ l. best-le f n k l) (ltb (f (bestBelow f n)) (f n)) refl
   where
-    go : ((m j : ℕ) → (j ≡ m) ⊎ ((suc i ≤ j) × (j < suc i + n)) → f j ≤ f (bestFrom f n (suc i) m))
-        → (t : Bool) → ltb (f b) (f i) ≡ t → (k ≡ b) ⊎ ((i ≤ k) × (k < i + suc n)) → f k ≤ f (cond t (bestFrom f n (suc i) i) (bestFrom f n (suc i) b))
-    go r true e (inl q) = let l = ltb-true (f b) (f i) e in let z = r i i (inl refl) in rw q (omega arith)
-    go r false e (inl q) = r b k (inl q)
-    go r true e (inr h) =
-        let p = h .0 in
-        let q = h .1 in
-        ⊎-elim (λ e. r i k (inl e)) (λ e. r i k (inr (omega arith, omega arith))) (eq-cases k i)
-    go r false e (inr h) =
-        let p = h .0 in
-        let q = h .1 in
-        let l = ltb-false (f b) (f i) e in
-        let z = r b b (inl refl) in
-        ⊎-elim (λ e. rw e (omega arith)) (λ e. r b k (inr (omega arith, omega arith))) (eq-cases k i)
+    go : (k < n → f k ≤ f (bestBelow f n)) → (b : Bool) → ltb (f (bestBelow f n)) (f n) ≡ b → f k ≤ f (cond b n (bestBelow f n))
+    go r true e = let l = ltb-true _ (f n) e in ⊎-elim (λ q. rw q (omega arith)) (λ q. let m = r (omega arith) in omega arith) (eq-cases k n)
+    go r false e = let l = ltb-false _ (f n) e in ⊎-elim (λ q. rw q l) (λ q. r (omega arith)) (eq-cases k n)
 
-pub best-lt : (f : ℕ → ℕ) (n i b m : ℕ) → b < m → i + n ≤ m → bestFrom f n i b < m
-best-lt f zero i b m h g = h
-best-lt f (suc n) i b m h g = go (ltb (f b) (f i)) (best-lt f n (suc i) i m (omega arith) (omega arith)) (best-lt f n (suc i) b m h (omega arith))
-  where
-    go : (t : Bool) → bestFrom f n (suc i) i < m → bestFrom f n (suc i) b < m → cond t (bestFrom f n (suc i) i) (bestFrom f n (suc i) b) < m
-    go true p q = p
-    go false p q = q
+best-lt : (f : ℕ → ℕ) (n : ℕ) → bestBelow f (suc n) ≤ n
+unfolding bestBelow
+best-lt f zero = choose (λ (k : ℕ). k ≤ 0) (ltb (f 0) (f 0)) _ _ (omega arith) (omega arith)
+best-lt f (suc n) = choose (λ (k : ℕ). k ≤ suc n) (ltb (f (bestBelow f (suc n))) (f (suc n))) _ _ (omega arith) (let h = best-lt f n in omega arith)
 
--- a loop that looks for it: r is the best of what is left and of b
-pub best-new : (f : ℕ → ℕ) (n i b v m r c u : ℕ) → v ≡ f b → m ≡ f i → r ≡ bestFrom f (n - i) i b → i < n → v < m → c ≡ i → u ≡ m
-    → (c < n) × (u ≡ f c) × (r ≡ bestFrom f (n - (i + 1)) (i + 1) c)
-best-new f n i b v m r c u p q e h l x y =
-    let z : n - i ≡ suc (n - suc i) = omega arith in
-    rw (x, y) (h, q, e ∙ rw (z, add-one i, lt-ltb (f b) (f i) (omega arith)) refl)
+-- a loop that looks for it
+pub best-one : (f : ℕ → ℕ) → 0 ≡ bestBelow f 1
+best-one f = let h = best-lt f 0 in omega arith
 
-pub best-old : (f : ℕ → ℕ) (n i b v m r c u : ℕ) → v ≡ f b → m ≡ f i → r ≡ bestFrom f (n - i) i b → i < n → b < n → m ≤ v → c ≡ b → u ≡ v
-    → (c < n) × (u ≡ f c) × (r ≡ bestFrom f (n - (i + 1)) (i + 1) c)
-best-old f n i b v m r c u p q e h g l x y =
-    let z : n - i ≡ suc (n - suc i) = omega arith in
-    rw (x, y) (g, p, e ∙ rw (z, add-one i, le-ltb (f b) (f i) (omega arith)) refl)
+pub best-new : (f : ℕ → ℕ) (i b v m c u : ℕ) → b ≡ bestBelow f i → v ≡ f b → m ≡ f i → v < m → c ≡ i → u ≡ m → (c ≡ bestBelow f (i + 1)) × (u ≡ f c)
+unfolding bestBelow
+best-new f i b v m c u e p q l x y = rw (x, y, add-one i, ← e, lt-ltb (f b) (f i) (omega arith)) (refl, q)
 
-pub best-end : (f : ℕ → ℕ) (n i b r : ℕ) → r ≡ bestFrom f (n - i) i b → n ≤ i → b ≡ r
-best-end f n i b r e h =
-    let m : n - i ≡ 0 = omega arith in
-    sym (e ∙ rw m refl)
+pub best-old : (f : ℕ → ℕ) (i b v m c u : ℕ) → b ≡ bestBelow f i → v ≡ f b → m ≡ f i → m ≤ v → c ≡ b → u ≡ v → (c ≡ bestBelow f (i + 1)) × (u ≡ f c)
+unfolding bestBelow
+best-old f i b v m c u e p q l x y = rw (x, y, add-one i, ← e, le-ltb (f b) (f i) (omega arith)) (refl, p)
 
 -- a rule of each pair of rows
 abbrev pub allIn : (Row → Bool) → List Row → Bool
@@ -121,13 +100,12 @@ heads-free i j h g e =
 
 pub rowAt-lt : (t : List ℕ) → rowFor t < rowCount
 unfolding rowFor
-rowAt-lt t = best-lt (headFar t) wordRow 1 0 rowCount (omega arith) (omega arith)
+rowAt-lt t = let h = best-lt (headFar t) wordRow in omega arith
 
 -- no mnemonic agrees further with the text
 pub head-far : (t : List ℕ) (k : ℕ) → k < rowCount → agree t (headOf k) ≤ agree t (headOf (rowFor t))
 unfolding rowFor
-head-far t k h =
-    best-le (headFar t) wordRow 1 0 k (⊎-elim (λ e. inl e) (λ e. inr (omega arith, omega arith)) (eq-cases k 0))
+head-far t k h = best-le (headFar t) rowCount k h
 
 -- and where the text begins with one, that is it
 pub head-own : (t : List ℕ) (k : ℕ) → k < rowCount → agree t (headOf k) ≡ length (headOf k) → rowFor t ≡ k
@@ -137,9 +115,6 @@ head-own t k h e =
 
 pub near-head : (t : List ℕ) (k : ℕ) → k < rowCount → Near t (headOf k) (headOf (rowFor t))
 near-head t k h = record { far = head-far t k h; whole = λ e. ap headOf (head-own t k h e) }
-
-drop-first : (t : List ℕ) (i : ℕ) → getD (drop i t) 0 0 ≡ getD t i 0
-drop-first t i = let e : i + 0 ≡ i = omega arith in getD-drop i t 0 0 ∙ ap (λ (n : ℕ). getD t n 0) e
 
 -- what the code finds of a mnemonic and the space after it
 module _ (t : List ℕ) (k : ℕ) where
@@ -155,25 +130,8 @@ module _ (t : List ℕ) (k : ℕ) where
   head-short i q l =
       ⊎-elim (λ e. rw (head-none e) q) (λ e. rw (head-some e) (q ∙ sym (agree-short t (nameOf k) (32 ∷ []) (rw (← q) l)))) (bool-cases (isShown (firstOf k)))
 
-  head-after : (i : ℕ) → i ≡ agree t (nameOf k) → length (nameOf k) ≤ i → isShown (firstOf k) ≡ true → agree t (headOf k) ≡ i + agree (drop i t) (32 ∷ [])
+  pub head-after : (i : ℕ) → i ≡ agree t (nameOf k) → length (nameOf k) ≤ i → isShown (firstOf k) ≡ true → i + agree (drop i t) (32 ∷ []) ≡ agree t (headOf k)
   head-after i q l e =
       let h = agree-le t (nameOf k) in
       let m : length (nameOf k) ≡ i = omega arith in
-      rw (head-some e) (agree-whole t (nameOf k) (32 ∷ []) (sym q ∙ sym m) ∙ rw m refl)
-
-  pub head-space : (i : ℕ) → i ≡ agree t (nameOf k) → length (nameOf k) ≤ i → isShown (firstOf k) ≡ true → getD t i 0 ≡ 32 → i + 1 ≡ agree t (headOf k)
-  head-space i q l e c = let z = space (drop i t) (drop-first t i ∙ c) in let y = head-after i q l e in omega arith
-    where
-      space : (u : List ℕ) → getD u 0 0 ≡ 32 → agree u (32 ∷ []) ≡ 1
-      space [] e = absurd (omega arith)
-      space (x ∷ u) e = rw (eq-eqb x 32 e, agree-nil u) refl
-
-  pub head-other : (i : ℕ) → i ≡ agree t (nameOf k) → (getD t i 0 ≡ 32 → ⊥) → i ≡ agree t (headOf k)
-  head-other i q c =
-      ⊎-elim (head-short i q) (λ l.
-      ⊎-elim (λ e. rw (head-none e) q) (λ e. let z = other (drop i t) (λ p. c (sym (drop-first t i) ∙ p)) in let y = head-after i q l e in omega arith) (bool-cases (isShown (firstOf k))))
-      (lt-cases i (length (nameOf k)))
-    where
-      other : (u : List ℕ) → (getD u 0 0 ≡ 32 → ⊥) → agree u (32 ∷ []) ≡ 0
-      other [] e = refl
-      other (x ∷ u) e = rw (ne-eqb x 32 e) refl
+      rw (head-some e) (sym (agree-whole t (nameOf k) (32 ∷ []) (sym q ∙ sym m) ∙ rw m refl))

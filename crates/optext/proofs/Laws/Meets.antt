@@ -91,7 +91,7 @@ two : (a b : ℕ) → a < 65536 → b < 65536 → (i : ℕ) → getD (a ∷ b �
 two a b l m zero = l
 two a b l m (suc i) = one b m i
 
-three : (a b c : ℕ) → a < 65536 → b < 65536 → c < 65536 → (i : ℕ) → getD (a ∷ b ∷ c ∷ []) i 0 < 65536
+pub three : (a b c : ℕ) → a < 65536 → b < 65536 → c < 65536 → (i : ℕ) → getD (a ∷ b ∷ c ∷ []) i 0 < 65536
 three a b c l m n zero = l
 three a b c l m n (suc i) = two b c m n i
 

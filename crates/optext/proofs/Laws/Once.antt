@@ -1,5 +1,4 @@
 -- One answer of the reader, and one list of words: no two meet what `Reads` says of a text.
-use mathlib.Core.Bool.{Bool, true, false, cond}
 use mathlib.Core.Path.{_≡_, ap, sym, _∙_, subst}
 use mathlib.Core.List.{List}
 use Prim.Native.Nat.{ℕ, suc, _≤_, _<_}
@@ -12,11 +11,7 @@ use Rattle.optext.specs.Line.{textOf}
 use Rattle.refusal.specs.Page.{Page, refused, refusedAt, answered}
 use Rattle.optext.specs.Column.{Begins, Column, Why, early, after, name, operand}
 use Rattle.optext.specs.Words.{Reads}
-
-unlike : true ≡ false → ⊥
-unlike e =
-    let z : _≡_ {A = ℕ} 0 1 = ap (λ (b : Bool). cond b 0 1) e in
-    omega arith
+use Rattle.optext.proofs.Laws.Choose.{no as unlike}
 
 pub not-less : (n : ℕ) → 3 ≤ n → n < 3 → ⊥
 not-less n a b = omega arith

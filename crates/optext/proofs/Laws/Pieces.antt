@@ -1,6 +1,6 @@
 -- Each piece of the guess is the nearest of its kind to the text it is read from.
-use mathlib.Core.Path.{_≡_, refl, ap, sym, subst}
-use mathlib.Core.Bool.{cond}
+use mathlib.Core.Path.{_≡_, refl, ap, sym, _∙_, subst}
+use mathlib.Core.Bool.{true, cond}
 use mathlib.Core.Logic.{_⊎_, ⊎-elim}
 use mathlib.Core.List.{List, [], _∷_}
 use Prim.Native.Nat.{ℕ, _+_, _*_, _/_, _%_, _<_, _-_, _≤_}
@@ -12,12 +12,13 @@ use lib.ListN.{drop, getD}
 use lib.Seq.{getD-drop}
 use Rattle.hexdigits.specs.Digits.{digits, hexOf, hex4, hex2}
 use Rattle.optext.specs.Digits.{unHex, unHex4, unHex2}
-use Rattle.optext.specs.Line.{registers, regA, regB, regText}
-use Rattle.optext.specs.Guess.{unCount, unReg, notPc}
+use Rattle.optext.specs.Line.{registers, regA, regB, regText, isReserved}
+use Rattle.optext.specs.Guess.{unCount, unReg, notPc, unWord}
 use Rattle.optext.proofs.Laws.Choose.{eq-cases, lt-cases, at}
 use Rattle.optext.proofs.Laws.Near.{Near}
 use Rattle.optext.proofs.Laws.Near.{near-nil, near-next, near-at}
-use Rattle.optext.proofs.Laws.Back.{hex-back, count-back, reg-back}
+use Rattle.optext.proofs.Laws.Reserved.{reserved-elim, reserved-high, reserved-mode}
+use Rattle.optext.proofs.Laws.Back.{hex-back, quarter, count-back, reg-back}
 
 pub unHex-lt : (c : ℕ) → unHex c < 16
 unfolding unHex
@@ -28,44 +29,99 @@ unHex-lt c =
     rw (le-ltb c 65 k) (⊎-elim (λ l. rw (lt-ltb c 71 l) (omega arith)) (λ l. rw (le-ltb c 71 l) (omega arith)) (lt-cases c 71)))
     (lt-cases c 65))) (lt-cases c 58))) (lt-cases c 48)
 
--- digits
-pub near-digit : (t : List ℕ) (d : ℕ) → d < 16 → (s : List ℕ) (q : List ℕ → List ℕ) → ((u : List ℕ) → Near u s (q u))
-    → Near t (hexOf d ∷ s) (hexOf (unHex (getD t 0 0)) ∷ q (drop 1 t))
-near-digit t d h s q n =
-    near-at t (hexOf d) s (λ (l : List ℕ). hexOf (unHex (getD l 0 0)) ∷ q (drop 1 l)) (λ u. rw (hex-back d h) (near-next u (hexOf d) s (q u) (n u)))
+-- digits: f is what is made of a digit that is read, and it leaves d as it is
+near-digit : (t : List ℕ) (d : ℕ) → d < 16 → (f : ℕ → ℕ) → f d ≡ d → (s : List ℕ) (q : List ℕ → List ℕ) → ((u : List ℕ) → Near u s (q u))
+    → Near t (hexOf d ∷ s) (hexOf (f (unHex (getD t 0 0))) ∷ q (drop 1 t))
+near-digit t d h f e s q n =
+    near-at t (hexOf d) s (λ (l : List ℕ). hexOf (f (unHex (getD l 0 0))) ∷ q (drop 1 l)) (λ u. rw (hex-back d h, e) (near-next u (hexOf d) s (q u) (n u)))
 
-abbrev one : List ℕ → List ℕ
-one t = hexOf (unHex (getD t 0 0)) ∷ []
+abbrev same : ℕ → ℕ
+same d = d
 
-abbrev two : List ℕ → List ℕ
-two t = hexOf (unHex (getD t 0 0)) ∷ one (drop 1 t)
+abbrev one : (ℕ → ℕ) → List ℕ → List ℕ
+one f t = hexOf (f (unHex (getD t 0 0))) ∷ []
 
-abbrev three : List ℕ → List ℕ
-three t = hexOf (unHex (getD t 0 0)) ∷ two (drop 1 t)
+abbrev two : (ℕ → ℕ) → (ℕ → ℕ) → List ℕ → List ℕ
+two f g t = hexOf (f (unHex (getD t 0 0))) ∷ one g (drop 1 t)
 
-pub near-hex1 : (t : List ℕ) (d : ℕ) → d < 16 → Near t (hexOf d ∷ []) (one t)
-near-hex1 t d h = near-digit t d h [] (λ l. []) near-nil
+abbrev three : (ℕ → ℕ) → (ℕ → ℕ) → (ℕ → ℕ) → List ℕ → List ℕ
+three f g h t = hexOf (f (unHex (getD t 0 0))) ∷ two g h (drop 1 t)
 
-four-is : (t : List ℕ) → hex4 (unHex4 t) ≡ hexOf (unHex (getD t 0 0)) ∷ three (drop 1 t)
-unfolding hex4 unHex4
-four-is t =
-    let x : ℕ = unHex (getD t 0 0) * 4096 + unHex (getD t 1 0) * 256 + unHex (getD t 2 0) * 16 + unHex (getD t 3 0) in
-    let a = unHex-lt (getD t 0 0) in
-    let b = unHex-lt (getD t 1 0) in
-    let c = unHex-lt (getD t 2 0) in
-    let d = unHex-lt (getD t 3 0) in
-    let p : x / 4096 ≡ unHex (getD t 0 0) = omega arith in
-    let q : x / 256 % 16 ≡ unHex (getD t 1 0) = omega arith in
-    let r : x / 16 % 16 ≡ unHex (getD t 2 0) = omega arith in
-    let s : x % 16 ≡ unHex (getD t 3 0) = omega arith in
-    rw (p, q, r, s, getD-drop 1 (drop 1 (drop 1 t)) 0 0, getD-drop 1 (drop 1 t) 1 0, getD-drop 1 t 2 0, getD-drop 1 (drop 1 t) 0 0, getD-drop 1 t 1 0, getD-drop 1 t 0 0) refl
+pub near-hex1 : (t : List ℕ) (d : ℕ) → d < 16 → Near t (hexOf d ∷ []) (one same t)
+near-hex1 t d h = near-digit t d h same refl [] (λ l. []) near-nil
+
+near-three : (f g h : ℕ → ℕ) (b c d : ℕ) → b < 16 → c < 16 → d < 16 → f b ≡ b → g c ≡ c → h d ≡ d → (t : List ℕ) → Near t (hexOf b ∷ hexOf c ∷ hexOf d ∷ []) (three f g h t)
+near-three f g h b c d lb lc ld p q r t =
+    near-digit t b lb f p _ (two g h) (λ u. near-digit u c lc g q _ (one h) (λ v. near-digit v d ld h r [] (λ l. []) near-nil))
+
+-- the four digits of a word
+digits-of : (x : ℕ) → hex4 x ≡ hexOf (x / 4096) ∷ hexOf (x / 256 % 16) ∷ hexOf (x / 16 % 16) ∷ hexOf (x % 16) ∷ []
+unfolding hex4
+digits-of x = refl
+
+four-by : (a : ℕ) (f g h : ℕ → ℕ) (t : List ℕ) → a < 16 → f (unHex (getD t 0 0)) < 16 → g (unHex (getD t 1 0)) < 16 → h (unHex (getD t 2 0)) < 16
+    → hex4 (a * 4096 + f (unHex (getD t 0 0)) * 256 + g (unHex (getD t 1 0)) * 16 + h (unHex (getD t 2 0))) ≡ hexOf a ∷ three f g h t
+unfolding hex4
+four-by a f g h t la lf lg lh =
+    let x : ℕ = a * 4096 + f (unHex (getD t 0 0)) * 256 + g (unHex (getD t 1 0)) * 16 + h (unHex (getD t 2 0)) in
+    let p : x / 4096 ≡ a = omega arith in
+    let q : x / 256 % 16 ≡ f (unHex (getD t 0 0)) = omega arith in
+    let r : x / 16 % 16 ≡ g (unHex (getD t 1 0)) = omega arith in
+    let s : x % 16 ≡ h (unHex (getD t 2 0)) = omega arith in
+    rw (p, q, r, s, getD-drop 1 (drop 1 t) 0 0, getD-drop 1 t 1 0, getD-drop 1 t 0 0) refl
 
 pub near-hex4 : (t : List ℕ) (x : ℕ) → x < 65536 → Near t (hex4 x) (hex4 (unHex4 t))
-unfolding hex4
-near-hex4 t x h =
-    rw (four-is t)
-    (near-digit t (x / 4096) (omega arith) _ three (λ u. near-digit u (x / 256 % 16) (omega arith) _ two (λ v.
-    near-digit v (x / 16 % 16) (omega arith) _ one (λ r. near-hex1 r (x % 16) (omega arith)))))
+unfolding unHex4
+near-hex4 t x l =
+    rw (digits-of x)
+    (near-at t (hexOf (x / 4096)) _ (λ (l : List ℕ). hex4 (unHex4 l)) (λ u.
+    rw (hex-back (x / 4096) (omega arith), four-by (x / 4096) same same same u (omega arith) (unHex-lt (getD u 0 0)) (unHex-lt (getD u 1 0)) (unHex-lt (getD u 2 0)))
+    (near-next u (hexOf (x / 4096)) _ _ (near-three same same same (x / 256 % 16) (x / 16 % 16) (x % 16) (omega arith) (omega arith) (omega arith) refl refl refl u))))
+
+-- .WORD's words
+word-15 : (u : List ℕ) → hex4 (unWord (hexOf 15 ∷ u)) ≡ hexOf 15 ∷ three same same same u
+unfolding unWord hexOf digits
+word-15 u = four-by 15 same same same u (omega arith) (unHex-lt (getD u 0 0)) (unHex-lt (getD u 1 0)) (unHex-lt (getD u 2 0))
+
+word-7 : (u : List ℕ) → hex4 (unWord (hexOf 7 ∷ u)) ≡ hexOf 7 ∷ three (λ d. d % 4) (λ d. d / 4 * 4) (λ d. d % 8) u
+unfolding unWord hexOf digits
+word-7 u =
+    let b = unHex-lt (getD u 1 0) in
+    let e : 0x7000 + unHex (getD u 0 0) % 4 * 256 + unHex (getD u 1 0) / 4 * 64 + unHex (getD u 2 0) % 8 ≡ 7 * 4096 + unHex (getD u 0 0) % 4 * 256 + unHex (getD u 1 0) / 4 * 4 * 16 + unHex (getD u 2 0) % 8 = omega arith in
+    ap hex4 e ∙ four-by 7 (λ d. d % 4) (λ d. d / 4 * 4) (λ d. d % 8) u (omega arith) (omega arith) (omega arith) (omega arith)
+
+pub near-word : (w : ℕ) → w < 65536 → isReserved w ≡ true → (t : List ℕ) → Near t (hex4 w) (hex4 (unWord t))
+near-word w l r t = rw (digits-of w) (reserved-elim w (Near t (hexOf (w / 4096) ∷ hexOf (w / 256 % 16) ∷ hexOf (w / 16 % 16) ∷ hexOf (w % 16) ∷ []) (hex4 (unWord t))) r high low)
+  where
+    high : 240 ≤ w / 256 → Near t (hexOf (w / 4096) ∷ hexOf (w / 256 % 16) ∷ hexOf (w / 16 % 16) ∷ hexOf (w % 16) ∷ []) (hex4 (unWord t))
+    high h =
+        let e : w / 4096 ≡ 15 = omega arith in
+        rw e (near-at t (hexOf 15) _ (λ (l : List ℕ). hex4 (unWord l)) (λ u.
+        rw (word-15 u) (near-next u (hexOf 15) _ _ (near-three same same same (w / 256 % 16) (w / 16 % 16) (w % 16) (omega arith) (omega arith) (omega arith) refl refl refl u))))
+
+    low : w / 1024 ≡ 28 → w / 8 % 8 ≡ 0 → Near t (hexOf (w / 4096) ∷ hexOf (w / 256 % 16) ∷ hexOf (w / 16 % 16) ∷ hexOf (w % 16) ∷ []) (hex4 (unWord t))
+    low h m =
+        let e : w / 4096 ≡ 7 = omega arith in
+        let b : w / 256 % 16 % 4 ≡ w / 256 % 16 = omega arith in
+        let c : w / 16 % 4 ≡ 0 = omega arith in
+        let d : w % 16 % 8 ≡ w % 16 = omega arith in
+        rw e (near-at t (hexOf 7) _ (λ (l : List ℕ). hex4 (unWord l)) (λ u.
+        rw (word-7 u) (near-next u (hexOf 7) _ _ (near-three (λ d. d % 4) (λ d. d / 4 * 4) (λ d. d % 8) (w / 256 % 16) (w / 16 % 16) (w % 16) (omega arith) (omega arith) (omega arith) b (quarter (w / 16) c) d u))))
+
+low-word : (x y z : ℕ) → x < 4 → y < 4 → z < 8 → (isReserved (0x7000 + x * 256 + y * 64 + z) ≡ true) × (0x7000 + x * 256 + y * 64 + z < 65536)
+low-word x y z h k l =
+    let q : (0x7000 + x * 256 + y * 64 + z) / 8 ≡ 3584 + x * 32 + y * 8 = omega arith in
+    (reserved-mode (0x7000 + x * 256 + y * 64 + z) (omega arith) (rw q (omega arith)), omega arith)
+
+-- it is one that .WORD may hold
+pub word-ok : (t : List ℕ) → (isReserved (unWord t) ≡ true) × (unWord t < 65536)
+unfolding unWord
+word-ok t =
+    let a = unHex-lt (getD t 1 0) in
+    let b = unHex-lt (getD t 2 0) in
+    let c = unHex-lt (getD t 3 0) in
+    ⊎-elim (λ e. rw (eq-eqb (getD t 0 0) 55 e) (low-word (unHex (getD t 1 0) % 4) (unHex (getD t 2 0) / 4) (unHex (getD t 3 0) % 8) (omega arith) (omega arith) (omega arith)))
+    (λ e. rw (ne-eqb (getD t 0 0) 55 e) (reserved-high (0xF000 + unHex (getD t 1 0) * 256 + unHex (getD t 2 0) * 16 + unHex (getD t 3 0)) (omega arith), omega arith)) (eq-cases (getD t 0 0) 55)
 
 -- two characters A and B of a number, which un reads: whatever stands second, the first is kept
 near-pair : (A B : ℕ → ℕ) (un : ℕ → ℕ → ℕ) (t : List ℕ) (v : ℕ) → ((b : ℕ) → A (un (A v) b) ≡ A v) → un (A v) (B v) ≡ v

@@ -3,7 +3,7 @@ use mathlib.Core.Path.{_≡_, refl, sym, _∙_, subst}
 use mathlib.Core.Bool.{Bool, true, false, cond}
 use mathlib.Core.Logic.{⊎-elim}
 use mathlib.Core.List.{List, [], _∷_}
-use Prim.Native.Nat.{ℕ, zero, suc, _+_, _*_, _/_, _%_, _≤_, _<_, _-_}
+use Prim.Native.Nat.{ℕ, zero, suc, _+_, _/_, _%_, _≤_, _<_, _-_}
 use native.Mathlib.Omega.{arith}
 use lib.Dec.{T, ltb, leb, eqb, eqb→eq, leb→le}
 use borrow.Author.Tests.{eq-eqb, ne-eqb, eqb-true, le-leb, lt-leb}
@@ -12,7 +12,6 @@ use lib.Seq.{getD-take}
 use Rattle.optext.specs.First.{firstFrom}
 use Rattle.optext.specs.Rows.{Row, placeOf, rowCount, wordRow, rows, theRow, noRow, baseOf, firstOf, secondOf}
 use Rattle.optext.specs.Line.{fieldOf, isReserved, fitsRow, rowOf}
-use Rattle.optext.specs.Guess.{reservedFrom}
 use Rattle.optext.proofs.Laws.Choose.{no, eq-cases, bool-cases, lt-cases, both, both-left, both-right, first-le, first-hit, first-at}
 use Rattle.optext.proofs.Laws.Places.{block, grows, row-fit}
 
@@ -149,48 +148,3 @@ has-row w h r =
 -- so the word of the last row is reserved
 pub last-reserved : (w : ℕ) → w < 65536 → rowOf w ≡ wordRow → isReserved w ≡ true
 last-reserved w h e = ⊎-elim (λ r. absurd (let l = has-row w h r in omega arith)) (λ r. r) (bool-cases (isReserved w))
-
--- what is read as a word of .WORD: a reserved word is itself
-pub from-same : (w : ℕ) → isReserved w ≡ true → reservedFrom w ≡ w
-unfolding reservedFrom
-from-same w r = rw r refl
-
-pub from-elim : (x : ℕ) (P : ℕ → Type 0) → (isReserved x ≡ true → P x)
-    → ((x / 8 % 8 ≡ 0 → ⊥) → x / 1024 ≡ 28 → x / 16 % 4 ≡ 0 → P (x / 16 * 16))
-    → (x / 1024 ≡ 28 → (x / 16 % 4 ≡ 0 → ⊥) → P (x / 256 * 256))
-    → ((x / 1024 ≡ 28 → ⊥) → x / 4096 ≡ 7 → P 0x7000)
-    → (x / 256 < 240 → (x / 4096 ≡ 7 → ⊥) → P 0xF000)
-    → P (reservedFrom x)
-unfolding reservedFrom
-from-elim x P a c d e f =
-    ⊎-elim (λ r. rw r (free r)) (λ r. rw r (a r)) (bool-cases (isReserved x))
-  where
-    below : isReserved x ≡ false → x / 256 < 240
-    below r = ⊎-elim (λ h. h) (λ h. absurd (no (sym (reserved-high x h) ∙ r))) (lt-cases (x / 256) 240)
-
-    free : isReserved x ≡ false → P (cond (eqb (x / 1024) 28) (cond (eqb (x / 16 % 4) 0) (x / 16 * 16) (x / 256 * 256)) (cond (eqb (x / 4096) 7) 0x7000 0xF000))
-    free r =
-        ⊎-elim (λ p. rw (eq-eqb (x / 1024) 28 p) (⊎-elim (λ m. rw (eq-eqb (x / 16 % 4) 0 m) (c (λ z. no (sym (reserved-mode x p z) ∙ r)) p m)) (λ m. rw (ne-eqb (x / 16 % 4) 0 m) (d p m)) (eq-cases (x / 16 % 4) 0)))
-        (λ p. rw (ne-eqb (x / 1024) 28 p) (⊎-elim (λ m. rw (eq-eqb (x / 4096) 7 m) (e p m)) (λ m. rw (ne-eqb (x / 4096) 7 m) (f (below r) m)) (eq-cases (x / 4096) 7))) (eq-cases (x / 1024) 28)
-
-pub from-ok : (x : ℕ) → x < 65536 → (isReserved (reservedFrom x) ≡ true) × (reservedFrom x < 65536)
-unfolding isReserved
-from-ok x h =
-    from-elim x (λ (z : ℕ). (isReserved z ≡ true) × (z < 65536)) (λ a. (a, h)) (λ a b c. (reserved-mode (x / 16 * 16) (omega arith) (omega arith), omega arith))
-    (λ a b. (reserved-mode (x / 256 * 256) (omega arith) (omega arith), omega arith)) (λ a b. (refl, omega arith)) (λ a b. (refl, omega arith))
-
--- as many digits as x shares with a reserved word w, the word read from x shares with w: z is that word, and x / n is the digits of x
-abbrev Shares : ℕ → ℕ → ℕ → ℕ → Type 0
-Shares n x w z = x / n ≡ w / n → z / n ≡ w / n
-
-abbrev pub SharesDigits : ℕ → ℕ → ℕ → Type 0
-SharesDigits x w z = Shares 4096 x w z × Shares 256 x w z × Shares 16 x w z
-
-pub from-digits : (x w : ℕ) → x < 65536 → isReserved w ≡ true → SharesDigits x w (reservedFrom x)
-from-digits x w h r =
-    let by : (P : Type 0) → (240 ≤ w / 256 → P) → (w / 1024 ≡ 28 → w / 8 % 8 ≡ 0 → P) → P = λ P. reserved-elim w P r in
-    from-elim x (SharesDigits x w) (λ a. (λ q. q, λ q. q, λ q. q))
-    (λ a b c. (λ q. omega arith, λ q. omega arith, λ q. omega arith))
-    (λ a b. (λ q. omega arith, λ q. omega arith, λ q. by (x / 256 * 256 / 16 ≡ w / 16) (λ s. omega arith) (λ s k. omega arith)))
-    (λ a b. (λ q. omega arith, λ q. by (0x7000 / 256 ≡ w / 256) (λ s. omega arith) (λ s k. omega arith), λ q. by (0x7000 / 16 ≡ w / 16) (λ s. omega arith) (λ s k. omega arith)))
-    (λ a b. (λ q. by (0xF000 / 4096 ≡ w / 4096) (λ s. omega arith) (λ s k. omega arith), λ q. by (0xF000 / 256 ≡ w / 256) (λ s. omega arith) (λ s k. omega arith), λ q. by (0xF000 / 16 ≡ w / 16) (λ s. omega arith) (λ s k. omega arith)))

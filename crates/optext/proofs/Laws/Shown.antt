@@ -1,6 +1,6 @@
 -- THE TEXT OF AN OP CODE STANDS IN A LINE OF A SOURCE AS IT IS: it fits the line, has no colon, and does not end with a space.
 use mathlib.Core.Path.{_≡_, refl}
-use mathlib.Core.Bool.{Bool, true, false, cond}
+use mathlib.Core.Bool.{Bool, true}
 use mathlib.Core.List.{List, [], _∷_, _++_}
 use Prim.Native.Nat.{ℕ, zero, suc, _+_, _*_, _/_, _%_, _≤_, _<_}
 use native.Mathlib.Omega.{arith}
@@ -11,7 +11,8 @@ use Rattle.optext.specs.declared.rows.Kind.{Kind}
 use Rattle.optext.specs.declared.rows.Kind.the-variants.{None, Mask, Disp, Reg, Arg4, Arg6, Count, High, Mid, Dst, Addr, Src, Word}
 use Rattle.optext.specs.Rows.{rowCount, rows, theRow, nameOf, firstOf, secondOf}
 use Rattle.optext.specs.Line.{registers, regA, regB, regText, upText, literalText, downText, offsetText, plainText, modeText, rowOf, sepText, rowText, wordText, opText, textOf}
-use Rattle.optext.proofs.Laws.Choose.{both, both-left, both-right, at}
+use Rattle.optext.proofs.Laws.Choose.{choose, both, both-left, both-right, at}
+use Rattle.optext.proofs.Laws.Forms.{plain-elim}
 use Rattle.optext.proofs.Laws.Longest.{text-le}
 use Rattle.optext.proofs.Laws.Reader.{any-word-text}
 use Rattle.optext.proofs.Laws.Reserved.{row-lt}
@@ -44,11 +45,6 @@ last-append d (x ∷ s) t = last-append x s t
 last-other : (c d : ℕ) (t : List ℕ) → OtherLetter c d → Without c t → OtherLetter c (lastLetter d t)
 last-other c d [] p q = p
 last-other c d (x ∷ t) p (more o q) = last-other c x t o q
-
--- either of two texts
-either : (P : List ℕ → Type 0) (b : Bool) (s t : List ℕ) → P s → P t → P (cond b s t)
-either P true s t p q = p
-either P false s t p q = q
 
 -- ---- digits and registers are neither a colon nor a space
 
@@ -102,18 +98,17 @@ closed r t o e = record { colon = more (first-letter r) (more (second-letter r) 
     last d (x ∷ t) e = record { is = e }
 
 plain : (p r x : ℕ) → Plain (plainText p r x)
-unfolding plainText upText literalText downText offsetText
+unfolding upText literalText downText offsetText
 plain p r x =
-    either Plain (eqb p 0) _ _ (register r)
-    (either Plain (eqb p 1) _ _ (either Plain (eqb r 7) _ _ (signed 35 _ tt (four-digits x)) (signed 40 _ tt (closed r _ tt tt)))
-    (either Plain (eqb p 2) _ _ (signed 45 _ tt (signed 40 _ tt (closed r _ tt tt))) (offset x (signed 40 _ tt (closed r _ tt tt)))))
+    plain-elim Plain p r x (register r) (signed 35 _ tt (four-digits x)) (signed 40 _ tt (closed r _ tt tt)) (signed 45 _ tt (signed 40 _ tt (closed r _ tt tt)))
+    (offset x (signed 40 _ tt (closed r _ tt tt)))
   where
     offset : {t : List ℕ} (x : ℕ) → Plain t → Plain (hex4 x ++ t)
     offset {t} x p = record { colon = without-append (four-digits x .colon) (p .colon); ending = λ d. rw (last-append d (hex4 x) t) (p .ending _) }
 
 mode : (f x : ℕ) → Plain (modeText f x)
 unfolding modeText
-mode f x = either Plain (eqb (f / 8 % 2) 0) _ _ (plain (f / 16) (f % 8) x) (signed 64 _ tt (plain (f / 16) (f % 8) x))
+mode f x = choose Plain (eqb (f / 8 % 2) 0) _ _ (plain (f / 16) (f % 8) x) (signed 64 _ tt (plain (f / 16) (f % 8) x))
 
 -- an operand after its separator s, or nothing: no space ends both where none ends what stands before
 record Behind (t : List ℕ) : Type 0 where

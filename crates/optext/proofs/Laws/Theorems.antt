@@ -35,32 +35,25 @@ use Rattle.optext.specs.Theorems.{OneText, NoneBegins, OneLine, OneWordT
 unfoldable pub wordsIn : Guess → List ℕ
 wordsIn g = wordsOf (g .w) (g .x) (g .y)
 
-len-1 : (l : List ℕ) → length l ≡ 1 → getD l 0 0 ∷ [] ≡ l
-len-1 [] e = absurd (omega arith)
-len-1 (a ∷ []) e = refl
-len-1 (a ∷ b ∷ l) e = absurd (omega arith)
+-- up to three words, one by one
+pub take-three : (l : List ℕ) → length l ≤ 3 → take (length l) (getD l 0 0 ∷ getD l 1 0 ∷ getD l 2 0 ∷ []) ≡ l
+take-three [] h = refl
+take-three (a ∷ []) h = refl
+take-three (a ∷ b ∷ []) h = refl
+take-three (a ∷ b ∷ c ∷ []) h = refl
+take-three (a ∷ b ∷ c ∷ d ∷ l) h = absurd (omega arith)
 
-len-2 : (l : List ℕ) → length l ≡ 2 → getD l 0 0 ∷ getD l 1 0 ∷ [] ≡ l
-len-2 [] e = absurd (omega arith)
-len-2 (a ∷ []) e = absurd (omega arith)
-len-2 (a ∷ b ∷ []) e = refl
-len-2 (a ∷ b ∷ c ∷ l) e = absurd (omega arith)
-
-pub len-3 : (l : List ℕ) → length l ≡ 3 → getD l 0 0 ∷ getD l 1 0 ∷ getD l 2 0 ∷ [] ≡ l
-len-3 [] e = absurd (omega arith)
-len-3 (a ∷ []) e = absurd (omega arith)
-len-3 (a ∷ b ∷ []) e = absurd (omega arith)
-len-3 (a ∷ b ∷ c ∷ []) e = refl
-len-3 (a ∷ b ∷ c ∷ d ∷ l) e = absurd (omega arith)
+pub words-of : (n : ℕ) (l : List ℕ) → length l ≡ n → n ≤ 3 → take n (getD l 0 0 ∷ getD l 1 0 ∷ getD l 2 0 ∷ []) ≡ l
+words-of n l e h = subst (λ (m : ℕ). take m (getD l 0 0 ∷ getD l 1 0 ∷ getD l 2 0 ∷ []) ≡ l) e (take-three l (omega arith))
 
 pub guess-words : (vs : List ℕ) → Whole vs → wordsIn (guessOf (textOf vs)) ≡ vs
 unfolding textOf wordsIn wordsOf own taken
 guess-words vs h =
     by-taken w (wordsIn (guessOf (textOf vs)) ≡ vs)
-    (λ e f. rw (back, e, f) (len-1 vs (count 0 0 e f)))
-    (λ e f. rw (back, word-taken (secondOf (rowOf w)) w y f, e, f) (len-2 vs (count 0 1 e f)))
-    (λ e f. rw (back, word-taken (firstOf (rowOf w)) w x e, e, f) (len-2 vs (count 1 0 e f)))
-    (λ e f. rw (back, word-taken (firstOf (rowOf w)) w x e, word-taken (secondOf (rowOf w)) w y f, e, f) (len-3 vs (count 1 1 e f)))
+    (λ e f. rw (back, e, f) (words-of 1 vs (count 0 0 e f) (omega arith)))
+    (λ e f. rw (back, word-taken (secondOf (rowOf w)) w y f, e, f) (words-of 2 vs (count 0 1 e f) (omega arith)))
+    (λ e f. rw (back, word-taken (firstOf (rowOf w)) w x e, e, f) (words-of 2 vs (count 1 0 e f) (omega arith)))
+    (λ e f. rw (back, word-taken (firstOf (rowOf w)) w x e, word-taken (secondOf (rowOf w)) w y f, e, f) (words-of 3 vs (count 1 1 e f) (omega arith)))
   where
     w : ℕ
     w = getD vs 0 0

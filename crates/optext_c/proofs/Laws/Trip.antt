@@ -10,7 +10,7 @@ use lib.Seq.{take-take, take-at, length-take-le, getD-take}
 use borrow.Author.Tests.{eq-eqb, ltb-true, ltb-false, le-ltb}
 use Rattle.hexdigits.specs.Over.{inFrontOf}
 use Rattle.wordbytes.specs.Words.{wordAt, bytesIn}
-use Rattle.wordbytes.proofs.Laws.{word-again, low-of, high-of}
+use Rattle.wordbytes.proofs.Laws.{word-again, low-of, high-of, bytes-length}
 use Rattle.refusal.specs.Numbers.{wordsOdd}
 use Rattle.refusal.specs.Page.{Page, refused, refusedAt, answered, left, call, told}
 use Rattle.refusal.proofs.Laws.Page.{first-both}
@@ -87,10 +87,6 @@ words-again (x ∷ y ∷ []) h l = rw (word-again x, word-again y) refl
 words-again (x ∷ y ∷ z ∷ []) h l = rw (word-again x, word-again y, word-again z) refl
 words-again (x ∷ y ∷ z ∷ w ∷ ws) h l = absurd (omega arith)
 
-bytes-long : (ws : List ℕ) → length (bytesIn ws) ≡ length ws * 2
-bytes-long [] = refl
-bytes-long (x ∷ ws) = let h = bytes-long ws in omega (arith, h)
-
 -- bytes that are the same in front have the same words in front
 three-words : (b v : List ℕ) (m : ℕ) → m ≤ 3 → take (m * 2) v ≡ take (m * 2) b → take m (wordAt v 0 ∷ wordAt v 2 ∷ wordAt v 4 ∷ []) ≡ take m (wordAt b 0 ∷ wordAt b 2 ∷ wordAt b 4 ∷ [])
 three-words b v m l e = by m l (λ i h. sym (getD-take (m * 2) v i 0 h) ∙ ap (λ (z : List ℕ). getD z i 0) e ∙ getD-take (m * 2) b i 0 h)
@@ -131,7 +127,7 @@ lent-fits a b h k = rw (h, k) refl
 -- ---- a call of the writer that answers 0
 
 -- the line's length and the words taken stand in the answer
-pub record Wrote (b t a t′ a′ : List ℕ) : Type 0 where
+pub record WroteText (b t a t′ a′ : List ℕ) : Type 0 where
   pub six : answerWhy a ≡ 0
   pub even : oddLength b ≡ false
   pub long : ℕ
@@ -141,12 +137,12 @@ pub record Wrote (b t a t′ a′ : List ℕ) : Type 0 where
   pub second : wordAt a′ 2 ≡ many
   pub answer : a′ ≡ threeWords long many 0
 
-pub wrote : (b t a t′ a′ : List ℕ) → told 0 (t′, a′) ≡ writeCall b t a → Wrote b t a t′ a′
+pub wrote : (b t a t′ a′ : List ℕ) → told 0 (t′, a′) ≡ writeCall b t a → WroteText b t a t′ a′
 unfolding writeCall writeOf
 wrote b t a t′ a′ h = by (lentWhy a b) (writeWhy (wordsIn b) (length t)) refl refl h
   where
     by : (bad why : ℕ) → lentWhy a b ≡ bad → writeWhy (wordsIn b) (length t) ≡ why
-        → told 0 (t′, a′) ≡ answering textWords a (call bad (call why (inFront (textOf (wordsIn b)) (taken (getD (wordsIn b) 0 0)) t) t) t) → Wrote b t a t′ a′
+        → told 0 (t′, a′) ≡ answering textWords a (call bad (call why (inFront (textOf (wordsIn b)) (taken (getD (wordsIn b) 0 0)) t) t) t) → WroteText b t a t′ a′
     by (suc bad) why e f g = absurd (omega (arith, ap (λ z. z .number) g))
     by zero (suc why) e f g = absurd (omega (arith, ap (λ z. z .number) g))
     by zero zero e f g =
@@ -242,7 +238,7 @@ text-made t c d c′ d′ u a k u′ a′ p six room e =
     let many : taken (getD ws 0 0) ≡ n = sym (w .accepts .count ∙ w .accepts .whole .count) in
     let some : 0 < n = subst (λ (z : ℕ). 0 < z) many (some-taken (getD ws 0 0)) in
     let few : n ≤ 3 = subst (λ (z : ℕ). z ≤ 3) many (taken-le (getD ws 0 0)) in
-    let bytes : take (n * 2) c′ ≡ bytesIn ws = ap (λ (z : List ℕ). take (n * 2) z) (w .left) ∙ over-front (bytesIn ws) c (n * 2) (bytes-long ws ∙ ap (λ (z : ℕ). z * 2) count) in
+    let bytes : take (n * 2) c′ ≡ bytesIn ws = ap (λ (z : List ℕ). take (n * 2) z) (w .left) ∙ over-front (bytesIn ws) c (n * 2) (bytes-length ws ∙ ap (λ (z : ℕ). z * 2) count) in
     let again : wordsIn (bytesIn ws) ≡ ws = words-again ws (rw count some) (rw count few) in
     let even : oddLength (bytesIn ws) ≡ false = even-bytes ws in
     let x = writes-line (bytesIn ws) u a k u′ a′ (is-answer a six) even room (rw (again, many, count) (le-refl n)) (e ∙ ap (λ (z : List ℕ). writeCall z u a) bytes) in
@@ -253,7 +249,7 @@ text-made t c d c′ d′ u a k u′ a′ p six room e =
     le-refl n = omega arith
 
     even-bytes : (ws : List ℕ) → oddLength (bytesIn ws) ≡ false
-    even-bytes ws = rw (bytes-long ws, eq-eqb (length ws * 2 % 2) 0 (omega arith)) refl
+    even-bytes ws = rw (bytes-length ws, eq-eqb (length ws * 2 % 2) 0 (omega arith)) refl
 
 -- WORDS LENT PAST THOSE TAKEN ARE IGNORED
 pub text-ignores : (b v t a t′ a′ : List ℕ) (k : ℕ) (t″ a″ : List ℕ) → told 0 (t′, a′) ≡ writeCall b t a → oddLength v ≡ false → take (wordAt a′ 2 * 2) v ≡ take (wordAt a′ 2 * 2) b

@@ -91,7 +91,7 @@ pub listed-again : ListedAgain
 listed-again s vs h w = plain-words s (textOf vs) h (opOf vs) (text-said vs w)
 
 -- .WORD and .ORG with the four digits of a word
-unfoldable pub wordLine : ℕ → List ℕ
+unfoldable wordLine : ℕ → List ℕ
 wordLine w = letters ".WORD " ++ hex4 w
 
 -- the writer's .WORD is that line

@@ -29,7 +29,7 @@ use Rattle.assembler.specs.Answer.{assembled, asmOf}
 use Rattle.assembler.proofs.Laws.Good.{good}
 use Rattle.assembler.proofs.Laws.Leaves.{refusal, unlike, leaves}
 use Rattle.assembler.specs.Ends.{assembleWhy}
-use Rattle.assembler.proofs.Laws.Ends.{Ends, done, alone, atLine, assemble-ends, line-told}
+use Rattle.assembler.proofs.Laws.Ends.{AssemblyEnds, done, alone, atLine, assemble-ends, line-told}
 use Rattle.assembler_c.specs.Call.{sizeWords, assembleCall}
 use Rattle.patchlaws.specs.Rising.{addressIn, Rises}
 use Rattle.patchlaws.specs.Given.{Has, Gives, OneWordAt, ReaderGives, Wd16ReaderGives, OpIsText}
@@ -227,7 +227,7 @@ numbered s out r b out′ b′ e = by (assemble-ends s out)
     number : Told (List ℕ × List ℕ) → ℕ
     number w = w .number
 
-    by : Ends s out (assembleWhy s out) (asmOf s out) → ⊥
+    by : AssemblyEnds s out (assembleWhy s out) (asmOf s out) → ⊥
     by (done z n p) = unlike (asmOf s out .page) n r p
     by (alone n t x) = n (sym (ap number (e ∙ ap (toldOf b) x)))
     by (atLine line f x) = line-told f .0 (sym (ap number (e ∙ ap (toldOf b) x)))

@@ -30,6 +30,7 @@ use Rattle.patchline.specs.declared.oneline.How.the-variants.{Unknown, Origin, 
 use Rattle.patchline.specs.Line.{operandsAt, commaAt, firstIn, secondIn, atOf, bareOperand, labelIn, filledIn, aliasOf, tailOf, filled, isDirective, isBranch, isSob, says, op, opIn, saidWith, saidOf, ahead, behind, withLabel}
 use Rattle.assembler.specs.Source.{valueOf, withLabels, lineOp}
 use Rattle.patchlaws.specs.Labels.{ReadsLine, BranchRead, SobRead, SobIsRow}
+use Rattle.opcodes.proofs.Laws.Past.{Below, below}
 
 -- ---- texts with two digits at their end
 
@@ -75,17 +76,8 @@ record Row (j : ℕ) : Type 0 where
   text : (w x y : ℕ) → rowText (24 + j) w x y ≡ nameOf (24 + j) ++ (32 ∷ hex2 (w % 256))
   one : (w : ℕ) → 1 + takes (firstOf (24 + j)) w + takes (secondOf (24 + j)) w ≡ 1
 
-unfoldable pub Each : (ℕ → Type 0) → ℕ → Type 0
-Each P zero = Unit {0}
-Each P (suc n) = Each P n × P n
-
-pub each-at : (P : ℕ → Type 0) (n : ℕ) → Each P n → (k : ℕ) → k < n → P k
-unfolding Each
-each-at P zero b k h = absurd (omega (arith, h))
-each-at P (suc n) b k h = elim (ℕ-discrete k n) [ yes e ↦ subst P (sym e) (b .1) | no d ↦ each-at P n (b .0) k (omega (arith, h, d)) ]
-
-branch-rows : Each Row 15
-unfolding Each theRow rows sepText hex2
+branch-rows : Below Row 15
+unfolding Below theRow rows sepText hex2
 branch-rows = (((((((((((((((tt, record { row = λ a h. inside 24 a 0 (omega arith) h refl; text = λ w x y. refl; one = λ w. refl }), record { row = λ a h. inside 25 a 0 (omega arith) h refl; text = λ w x y. refl; one = λ w. refl }), record { row = λ a h. inside 26 a 0 (omega arith) h refl; text = λ w x y. refl; one = λ w. refl }), record { row = λ a h. inside 27 a 0 (omega arith) h refl; text = λ w x y. refl; one = λ w. refl }), record { row = λ a h. inside 28 a 0 (omega arith) h refl; text = λ w x y. refl; one = λ w. refl }), record { row = λ a h. inside 29 a 0 (omega arith) h refl; text = λ w x y. refl; one = λ w. refl }), record { row = λ a h. inside 30 a 0 (omega arith) h refl; text = λ w x y. refl; one = λ w. refl }), record { row = λ a h. inside 31 a 0 (omega arith) h refl; text = λ w x y. refl; one = λ w. refl }), record { row = λ a h. inside 32 a 0 (omega arith) h refl; text = λ w x y. refl; one = λ w. refl }), record { row = λ a h. inside 33 a 0 (omega arith) h refl; text = λ w x y. refl; one = λ w. refl }), record { row = λ a h. inside 34 a 0 (omega arith) h refl; text = λ w x y. refl; one = λ w. refl }), record { row = λ a h. inside 35 a 0 (omega arith) h refl; text = λ w x y. refl; one = λ w. refl }), record { row = λ a h. inside 36 a 0 (omega arith) h refl; text = λ w x y. refl; one = λ w. refl }), record { row = λ a h. inside 37 a 0 (omega arith) h refl; text = λ w x y. refl; one = λ w. refl }), record { row = λ a h. inside 38 a 0 (omega arith) h refl; text = λ w x y. refl; one = λ w. refl })
 
 -- the branch of a high byte
@@ -116,7 +108,7 @@ unfolding opText taken
 branch-tailed w l e =
     let n = numbered w e in
     let j = numberOf (w / 256) in
-    let r = each-at Row 15 branch-rows j (n .few) in
+    let r = below Row 15 branch-rows j (n .few) in
     let at : (d : ℕ) → d < 256 → rowOf (w / 256 * 256 + d) ≡ 24 + j = λ d h.
     let q : w / 256 * 256 + d ≡ highOf j * 256 + d + 0 = rw (n .back) (omega arith) in
     ap rowOf q ∙ r .row d h in

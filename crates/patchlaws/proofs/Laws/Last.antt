@@ -24,8 +24,10 @@ use Rattle.patchline.specs.Line.{commaAt, firstIn, secondIn, labelIn, filled, i
 use Rattle.assembler.specs.Source.{valueOf, withLabels, lineOp}
 use Rattle.patchlaws.specs.Labels.{ReadsLine, takesOne, OnlyRead, LastRead}
 use Rattle.patchlaws.proofs.Laws.Modes.{offsetPc, mode-end}
-use Rattle.patchlaws.proofs.Laws.Labels.{Each, each-at, differ, offsets, isLabel, noLabel, beforeFirst, beforeSecond, first-filled, second-filled, put-none, put-some, no-second, has-comma}
+use Rattle.patchlaws.proofs.Laws.Labels.{differ, offsets, isLabel, noLabel, beforeFirst, beforeSecond, first-filled, second-filled, put-none, put-some, no-second, has-comma}
 use Rattle.patchlaws.proofs.Laws.Offsets.{said-relative, shown, put-in, put-whole, put-op, some-count, zero-offset, low-word}
+use Rattle.listing.proofs.Laws.Alike.{and-true}
+use Rattle.opcodes.proofs.Laws.Past.{Below, below}
 
 -- ---- the last operand is of a mode, and its word the second
 
@@ -45,8 +47,8 @@ record Seven (j : ℕ) : Type 0 where
   first : (w : ℕ) → takes (firstOf (51 + j)) w ≡ modeTakes (w % 64)
   second : (w : ℕ) → takes (secondOf (51 + j)) w ≡ 0
 
-seven-rows : Each Seven 32
-unfolding Each theRow rows sepText
+seven-rows : Below Seven 32
+unfolding Below theRow rows sepText
 seven-rows = ((((((((((((((((((((((((((((((((tt, record { row = λ a h. inside 51 a 0 (omega arith) h refl; text = λ w x y. refl; first = λ w. refl; second = λ w. refl }), record { row = λ a h. inside 52 a 0 (omega arith) h refl; text = λ w x y. refl; first = λ w. refl; second = λ w. refl }), record { row = λ a h. inside 53 a 0 (omega arith) h refl; text = λ w x y. refl; first = λ w. refl; second = λ w. refl }), record { row = λ a h. inside 54 a 0 (omega arith) h refl; text = λ w x y. refl; first = λ w. refl; second = λ w. refl }), record { row = λ a h. inside 55 a 0 (omega arith) h refl; text = λ w x y. refl; first = λ w. refl; second = λ w. refl }), record { row = λ a h. inside 56 a 0 (omega arith) h refl; text = λ w x y. refl; first = λ w. refl; second = λ w. refl }), record { row = λ a h. inside 57 a 0 (omega arith) h refl; text = λ w x y. refl; first = λ w. refl; second = λ w. refl }), record { row = λ a h. inside 58 a 0 (omega arith) h refl; text = λ w x y. refl; first = λ w. refl; second = λ w. refl }), record { row = λ a h. inside 59 a 0 (omega arith) h refl; text = λ w x y. refl; first = λ w. refl; second = λ w. refl }), record { row = λ a h. inside 60 a 0 (omega arith) h refl; text = λ w x y. refl; first = λ w. refl; second = λ w. refl }), record { row = λ a h. inside 61 a 0 (omega arith) h refl; text = λ w x y. refl; first = λ w. refl; second = λ w. refl }), record { row = λ a h. inside 62 a 0 (omega arith) h refl; text = λ w x y. refl; first = λ w. refl; second = λ w. refl }), record { row = λ a h. inside 63 a 0 (omega arith) h refl; text = λ w x y. refl; first = λ w. refl; second = λ w. refl }), record { row = λ a h. inside 64 a 0 (omega arith) h refl; text = λ w x y. refl; first = λ w. refl; second = λ w. refl }), record { row = λ a h. inside 65 a 0 (omega arith) h refl; text = λ w x y. refl; first = λ w. refl; second = λ w. refl }), record { row = λ a h. inside 66 a 0 (omega arith) h refl; text = λ w x y. refl; first = λ w. refl; second = λ w. refl }), record { row = λ a h. inside 67 a 0 (omega arith) h refl; text = λ w x y. refl; first = λ w. refl; second = λ w. refl }), record { row = λ a h. inside 68 a 0 (omega arith) h refl; text = λ w x y. refl; first = λ w. refl; second = λ w. refl }), record { row = λ a h. inside 69 a 0 (omega arith) h refl; text = λ w x y. refl; first = λ w. refl; second = λ w. refl }), record { row = λ a h. inside 70 a 0 (omega arith) h refl; text = λ w x y. refl; first = λ w. refl; second = λ w. refl }), record { row = λ a h. inside 71 a 0 (omega arith) h refl; text = λ w x y. refl; first = λ w. refl; second = λ w. refl }), record { row = λ a h. inside 72 a 0 (omega arith) h refl; text = λ w x y. refl; first = λ w. refl; second = λ w. refl }), record { row = λ a h. inside 73 a 0 (omega arith) h refl; text = λ w x y. refl; first = λ w. refl; second = λ w. refl }), record { row = λ a h. inside 74 a 0 (omega arith) h refl; text = λ w x y. refl; first = λ w. refl; second = λ w. refl }), record { row = λ a h. inside 75 a 0 (omega arith) h refl; text = λ w x y. refl; first = λ w. refl; second = λ w. refl }), record { row = λ a h. inside 76 a 0 (omega arith) h refl; text = λ w x y. refl; first = λ w. refl; second = λ w. refl }), record { row = λ a h. inside 77 a 0 (omega arith) h refl; text = λ w x y. refl; first = λ w. refl; second = λ w. refl }), record { row = λ a h. inside 78 a 0 (omega arith) h refl; text = λ w x y. refl; first = λ w. refl; second = λ w. refl }), record { row = λ a h. inside 79 a 0 (omega arith) h refl; text = λ w x y. refl; first = λ w. refl; second = λ w. refl }), record { row = λ a h. inside 80 a 0 (omega arith) h refl; text = λ w x y. refl; first = λ w. refl; second = λ w. refl }), record { row = λ a h. inside 81 a 0 (omega arith) h refl; text = λ w x y. refl; first = λ w. refl; second = λ w. refl }), record { row = λ a h. inside 82 a 0 (omega arith) h refl; text = λ w x y. refl; first = λ w. refl; second = λ w. refl })
 
 -- by the plate, and bits 7 and 6
@@ -71,7 +73,7 @@ seven w l e =
     let high : w / 64 / 4 ≡ w / 256 = omega arith in
     let n = seven-number (w / 64) (omega (arith, l)) (ap formatOf high ∙ e) in
     let j = numberSeven (w / 64) in
-    let r = each-at Seven 32 seven-rows j (n .0) in
+    let r = below Seven 32 seven-rows j (n .0) in
     let q : baseSeven j * 64 + w % 64 + 0 ≡ w = rw (n .1) (omega arith) in
     let k : rowOf w ≡ 51 + j = ap rowOf (sym q) ∙ r .row (w % 64) (omega arith) in
     record {
@@ -97,8 +99,8 @@ record Nine (i : ℕ) : Type 0 where
   first : (w : ℕ) → takes (firstOf (rowNine i)) w ≡ 0
   second : (w : ℕ) → takes (secondOf (rowNine i)) w ≡ modeTakes (w % 64)
 
-nine-rows : Each Nine 7
-unfolding Each theRow rows sepText regText
+nine-rows : Below Nine 7
+unfolding Below theRow rows sepText regText
 nine-rows = (((((((tt, record { row = λ a b e l m h. inside 91 a b (omega arith) (e, l) (m (omega arith), h); text = λ w x y. refl; first = λ w. refl; second = λ w. refl }), record { row = λ a b e l m h. inside 92 a b (omega arith) (e, l) (m (omega arith), h); text = λ w x y. refl; first = λ w. refl; second = λ w. refl }), record { row = λ a b e l m h. inside 93 a b (omega arith) (e, l) h; text = λ w x y. refl; first = λ w. refl; second = λ w. refl }), record { row = λ a b e l m h. inside 95 a b (omega arith) (e, l) h; text = λ w x y. refl; first = λ w. refl; second = λ w. refl }), record { row = λ a b e l m h. inside 96 a b (omega arith) (e, l) h; text = λ w x y. refl; first = λ w. refl; second = λ w. refl }), record { row = λ a b e l m h. inside 97 a b (omega arith) (e, l) h; text = λ w x y. refl; first = λ w. refl; second = λ w. refl }), record { row = λ a b e l m h. inside 98 a b (omega arith) (e, l) h; text = λ w x y. refl; first = λ w. refl; second = λ w. refl })
 
 abbrev numberNine : ℕ → ℕ
@@ -132,7 +134,7 @@ nine w l e sob mode =
     let half : w / 256 / 2 ≡ w / 512 = omega arith in
     let n = nine-number (w / 256) (omega (arith, l)) e (λ z. sob (omega (arith, half, z))) in
     let i = numberNine (w / 256 / 2) in
-    let r = each-at Nine 7 nine-rows i (n .0) in
+    let r = below Nine 7 nine-rows i (n .0) in
     let q : baseNine i * 512 + w / 64 % 8 * 64 + w % 64 ≡ w = rw (n .1) (parts w) in
     let k : rowOf w ≡ rowNine i = ap rowOf (sym q) ∙ r .row (w / 64 % 8 * 64) (w % 64) (omega arith) (omega arith) (λ z. mode (quarter w (low-nine i (w / 256 / 2) (n .1) z))) (omega arith) in
     record {
@@ -155,10 +157,6 @@ nine w l e sob mode =
 
 -- ---- by the op code
 
-both-are : (a b : Bool) → (a && b) ≡ true → (a ≡ true) × (b ≡ true)
-both-are true b q = (refl, q)
-both-are false b q = differ q
-
 neither-is : (a b : Bool) → not (a || b) ≡ true → (a ≡ false) × (b ≡ false)
 neither-is true b q = differ q
 neither-is false true q = differ q
@@ -178,7 +176,7 @@ last-of w l e = by (eqb (formatOf (highByte w)) 7) refl e
     by : (t : Bool) → eqb (formatOf (highByte w)) 7 ≡ t → (t || (eqb (formatOf (highByte w)) 9 && not (isReserved w || isSob w))) ≡ true → Last w
     by true q z = seven w l (eqb-true (formatOf (highByte w)) 7 q)
     by false q z =
-        let b = both-are (eqb (formatOf (highByte w)) 9) (not (isReserved w || isSob w)) z in
+        let b = and-true (eqb (formatOf (highByte w)) 9) (not (isReserved w || isSob w)) z in
         let n = neither-is (isReserved w) (isSob w) (b .1) in
         nine w l (eqb-true (formatOf (highByte w)) 9 (b .0)) (eqb-false (w / 512) 59 (n .1)) (no-mode-0 w (n .0))
 

@@ -13,9 +13,9 @@ use Rattle.benchline.specs.Line.{fields}
 use Rattle.optext.specs.Line.{wordText, taken, textOf}
 use Rattle.optext.proofs.Laws.Meets.{taken-le}
 use Rattle.optext.proofs.Laws.Shown.{text-stands, word-stands}
-use Rattle.listing.specs.declared.Found.{Found}
-use Rattle.listing.specs.declared.Found.the-variants.{Nothing, Cut, Whole}
-use Rattle.listing.specs.Listing.{stands, allStand, wordsAt, foundAt, lineOf, movesOn, lineAt, nextAt, linesFrom, listingOf}
+use Rattle.listing.specs.declared.CodeFound.{CodeFound}
+use Rattle.listing.specs.declared.CodeFound.the-variants.{Nothing, Cut, Whole}
+use Rattle.listing.specs.Listing.{stands, allStand, wordsAt, foundAt, lineOf, movesOn, listingLine, nextAt, linesFrom, listingOf}
 use Rattle.listing.proofs.Laws.Alike.{and-true, or-right}
 use Rattle.listing.proofs.Laws.Joined.{taken-some}
 use Rattle.assembler.specs.Section.{sectionEntry, sectionOf}
@@ -27,7 +27,7 @@ use Rattle.patchlaws.specs.Listed.{piece, shownBy, piecesFrom, wordsFrom
 
 -- ---- they are what the listing's lines show
 
-shows-line : (a w x y : ℕ) (f : Found) (ls : List (List ℕ)) (ps : List Piece) → movesOn f ≤ 3 → Shows ls ps
+shows-line : (a w x y : ℕ) (f : CodeFound) (ls : List (List ℕ)) (ps : List Piece) → movesOn f ≤ 3 → Shows ls ps
     → Shows (lineOf a (w ∷ x ∷ y ∷ []) f ∷ ls) (shownBy a (w ∷ x ∷ y ∷ []) f ++ ps)
 unfolding lineOf shownBy fields
 shows-line a w x y Nothing ls ps h s = unfitted a ls ps s
@@ -48,7 +48,7 @@ module _ (map image : List ℕ) (last : ℕ) where
     pub second : ltb n 2 ≡ false → stands map last (a + 2) ≡ true
     pub third : ltb n 3 ≡ false → stands map last (a + 4) ≡ true
 
-  abbrev At : ℕ → Found → Type 0
+  abbrev At : ℕ → CodeFound → Type 0
   At a Nothing = fitted map a ≡ false
   At a Cut = fitted map a ≡ true
   At a (Whole n) = AllThere a n
@@ -73,14 +73,14 @@ module _ (map image : List ℕ) (last : ℕ) where
       go true false e i = e
       go false s e i = e
 
-  few : (a : ℕ) (f : Found) → At a f → movesOn f ≤ 3
+  few : (a : ℕ) (f : CodeFound) → At a f → movesOn f ≤ 3
   few a Nothing h = omega arith
   few a Cut h = omega arith
   few a (Whole n) h = let t = taken-le (wordAt image a) in let c = h .count in omega arith
 
   -- THE PIECES ARE WHAT THE LISTING SHOWS, line by line
   shows-from : (n a : ℕ) → Shows (linesFrom map image last n a) (piecesFrom map image last n a)
-  unfolding linesFrom piecesFrom lineAt
+  unfolding linesFrom piecesFrom listingLine
   shows-from zero a = ended
   shows-from (suc n) a = go (leb a last) (shows-line a (wordAt image a) (wordAt image (a + 2)) (wordAt image (a + 4)) (foundAt map image last a) _ _ (few a (foundAt map image last a) (at a)) (shows-from n (nextAt map image last a)))
     where
@@ -155,7 +155,7 @@ module _ (map image : List ℕ) (last : ℕ) where
     }
 
     module _ (n : ℕ) (rise : (a low : ℕ) → a % 2 ≡ 0 → low ≤ a → Rise low (piecesFrom map image last n a)) (a low : ℕ) (e : a % 2 ≡ 0) (h : low ≤ a) where
-      rise-found : (f : Found) → At a f → a ≤ last → Rise low (shownBy a (wordsAt image a) f ++ piecesFrom map image last n (a + movesOn f * 2))
+      rise-found : (f : CodeFound) → At a f → a ≤ last → Rise low (shownBy a (wordsAt image a) f ++ piecesFrom map image last n (a + movesOn f * 2))
       unfolding Rise shownBy
       rise-found Nothing z l = rise (a + 1 * 2) low (omega arith) (omega arith)
       rise-found Cut z l = (h, cut-good a e l, rise (a + 1 * 2) (a + 2 * 1) (omega arith) (omega arith))
@@ -222,7 +222,7 @@ module _ (map image : List ℕ) (last : ℕ) where
   whole-more (suc (suc (suc (suc k)))) a es z f = absurd (let t = taken-le (wordAt image a) in let c = z .count in omega arith)
 
   module _ (n : ℕ) (same : (a : ℕ) → Reaches n a → Same (entriesOfPieces (piecesFrom map image last n a)) a) (a : ℕ) (h : Reaches (suc n) a) where
-    same-found : (f : Found) → At a f → a ≤ last → Same (entriesOfPieces (shownBy a (wordsAt image a) f ++ piecesFrom map image last n (a + movesOn f * 2))) a
+    same-found : (f : CodeFound) → At a f → a ≤ last → Same (entriesOfPieces (shownBy a (wordsAt image a) f ++ piecesFrom map image last n (a + movesOn f * 2))) a
     unfolding shownBy entriesOfPieces
     same-found Nothing z l = none-more a _ l z (same (a + 1 * 2) (omega arith))
     same-found Cut z l = one-more a _ (standing a l z) (same (a + 1 * 2) (omega arith))

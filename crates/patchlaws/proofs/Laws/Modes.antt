@@ -113,7 +113,7 @@ comma-same (x ∷ xs) ys (u ∷ us) vs (more o p) q e =
 abbrev pub offsetPc : ℕ → List ℕ
 offsetPc o = hex4 o ++ letters "(PC)"
 
-pub record Offset (pre q : List ℕ) (p r x : ℕ) : Type 0 where
+record Offset (pre q : List ℕ) (p r x : ℕ) : Type 0 where
   pub three : (eqb p 0 ≡ false) × (eqb p 1 ≡ false) × (eqb p 2 ≡ false)
   pub pc : r ≡ 7
   pub same : pre ≡ q

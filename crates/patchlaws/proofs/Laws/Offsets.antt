@@ -32,7 +32,8 @@ use Rattle.patchline.specs.Line.{operandsAt, commaAt, firstIn, secondIn, atOf, 
 use Rattle.assembler.specs.Source.{valueOf, withLabels, lineOp}
 use Rattle.patchlaws.specs.Labels.{ReadsLine, offsetDigits, filledTwice, FirstRead, SecondRead, BothRead}
 use Rattle.patchlaws.proofs.Laws.Modes.{computed, mode-commas, comma-same, offsetPc, zeros-are, mode-end}
-use Rattle.patchlaws.proofs.Laws.Labels.{Each, each-at, unlike, zeros, offsets, isLabel, noLabel, beforeFirst, beforeSecond, second-filled, put-none, put-some, has-comma}
+use Rattle.patchlaws.proofs.Laws.Labels.{unlike, zeros, offsets, isLabel, noLabel, beforeFirst, beforeSecond, second-filled, put-none, put-some, has-comma}
+use Rattle.opcodes.proofs.Laws.Past.{Below, below}
 
 -- ---- the rows of format 10
 
@@ -46,8 +47,8 @@ record Row (j : ℕ) : Type 0 where
   second : (w : ℕ) → takes (secondOf (99 + j)) w ≡ modeTakes (w % 64)
   free : Without 44 (nameOf (99 + j) ++ (32 ∷ []))
 
-ten-rows : Each Row 12
-unfolding Each theRow rows sepText
+ten-rows : Below Row 12
+unfolding Below theRow rows sepText
 ten-rows = ((((((((((((tt, record { row = λ a b e l h. inside 99 a b (omega arith) (e, l) h; text = λ w x y. refl; first = λ w. refl; second = λ w. refl; free = computed 44 (letters "ADD ") tt }), record { row = λ a b e l h. inside 100 a b (omega arith) (e, l) h; text = λ w x y. refl; first = λ w. refl; second = λ w. refl; free = computed 44 (letters "SUB ") tt }), record { row = λ a b e l h. inside 101 a b (omega arith) (e, l) h; text = λ w x y. refl; first = λ w. refl; second = λ w. refl; free = computed 44 (letters "AND ") tt }), record { row = λ a b e l h. inside 102 a b (omega arith) (e, l) h; text = λ w x y. refl; first = λ w. refl; second = λ w. refl; free = computed 44 (letters "BIC ") tt }), record { row = λ a b e l h. inside 103 a b (omega arith) (e, l) h; text = λ w x y. refl; first = λ w. refl; second = λ w. refl; free = computed 44 (letters "BIS ") tt }), record { row = λ a b e l h. inside 104 a b (omega arith) (e, l) h; text = λ w x y. refl; first = λ w. refl; second = λ w. refl; free = computed 44 (letters "XOR ") tt }), record { row = λ a b e l h. inside 105 a b (omega arith) (e, l) h; text = λ w x y. refl; first = λ w. refl; second = λ w. refl; free = computed 44 (letters "CMP ") tt }), record { row = λ a b e l h. inside 106 a b (omega arith) (e, l) h; text = λ w x y. refl; first = λ w. refl; second = λ w. refl; free = computed 44 (letters "BIT ") tt }), record { row = λ a b e l h. inside 107 a b (omega arith) (e, l) h; text = λ w x y. refl; first = λ w. refl; second = λ w. refl; free = computed 44 (letters "MOV ") tt }), record { row = λ a b e l h. inside 108 a b (omega arith) (e, l) h; text = λ w x y. refl; first = λ w. refl; second = λ w. refl; free = computed 44 (letters "CMPB ") tt }), record { row = λ a b e l h. inside 109 a b (omega arith) (e, l) h; text = λ w x y. refl; first = λ w. refl; second = λ w. refl; free = computed 44 (letters "MOVB ") tt }), record { row = λ a b e l h. inside 110 a b (omega arith) (e, l) h; text = λ w x y. refl; first = λ w. refl; second = λ w. refl; free = computed 44 (letters "BISB ") tt })
 
 -- by the plate
@@ -78,7 +79,7 @@ unfolding opText taken
 ten w l e =
     let n = ten-number (w / 256) (omega (arith, l)) e in
     let j = numberOf (w / 256 / 16) in
-    let r = each-at Row 12 ten-rows j (n .0) in
+    let r = below Row 12 ten-rows j (n .0) in
     let q : digitOf j * 4096 + w / 64 % 64 * 64 + w % 64 ≡ w = rw (n .1) (parts w) in
     let k : rowOf w ≡ 99 + j = ap rowOf (sym q) ∙ r .row (w / 64 % 64 * 64) (w % 64) (omega arith) (omega arith) (omega arith) in
     record {

@@ -8,22 +8,23 @@ use mathlib.Core.Path.{_≡_, refl, sym, ap, _∙_}
 use lib.Dec.{eqb, leb}
 use lib.ListN.{getD}
 use borrow.Author.Tests.{leb-true}
-use Rattle.plate.specs.Plate.{formatOf, row0, row8}
+use Rattle.plate.specs.Plate.{formatOf}
+use Rattle.plate.specs.Inner.{row0, row8}
 
 -- a rule's n entries, from the high byte h on
-unfoldable pub entries : (ℕ → ℕ) → ℕ → ℕ → List ℕ
-entries f zero h = []
-entries f (suc n) h = f h ∷ entries f n (suc h)
+unfoldable pub plateEntries : (ℕ → ℕ) → ℕ → ℕ → List ℕ
+plateEntries f zero h = []
+plateEntries f (suc n) h = f h ∷ plateEntries f n (suc h)
 
-entries-at : (f : ℕ → ℕ) (n h k : ℕ) → k < n → getD (entries f n h) k 0 ≡ f (h + k)
-unfolding entries
+entries-at : (f : ℕ → ℕ) (n h k : ℕ) → k < n → getD (plateEntries f n h) k 0 ≡ f (h + k)
+unfolding plateEntries
 entries-at f zero h k l = absurd (not-suc-le-zero l)
 entries-at f (suc n) h zero l = ap f (sym (add-zero h))
 entries-at f (suc n) h (suc k) l = entries-at f n (suc h) k (le-of-suc-le-suc l) ∙ ap f (suc-add h k ∙ sym (add-suc h k))
 
 -- the sheet's plate: the rule at every one of the 256 entries, to which the program's table is held by computation
 unfoldable pub plate : List ℕ
-plate = entries formatOf 256 0
+plate = plateEntries formatOf 256 0
 
 pub plate-right : (h : ℕ) → h < 256 → getD plate h 0 ≡ formatOf h
 unfolding plate
@@ -37,8 +38,8 @@ byHalves h =
     (cond (eqb (h / 16) 15) 11
     10)))
 
-alike : entries (λ h. byHalves h) 256 0 ≡ entries formatOf 256 0
-unfolding formatOf entries
+alike : plateEntries (λ h. byHalves h) 256 0 ≡ plateEntries formatOf 256 0
+unfolding formatOf plateEntries
 alike = refl
 
 pub halves-right : (h : ℕ) → h < 256 → byHalves h ≡ formatOf h

@@ -43,8 +43,8 @@ one-more : (p : ℕ → Bool) (l : List ℕ) (i j : ℕ) → j ≡ i + 1 → i <
 one-more p l i j e h = by (p (getD l i 0)) refl
   where
     by : (q : Bool) → p (getD l i 0) ≡ q → allOf p (drop i l) ≡ q && allOf p (drop j l)
-    by true f = sym (ap (λ (n : ℕ). allOf p (drop n l)) e ∙ all-more p l i h f)
-    by false f = all-fails p l i h f
+    by true f = sym (ap (λ (n : ℕ). allOf p (drop n l)) e ∙ all-more p l i 0 h f)
+    by false f = all-fails p l i 0 h f
 
 -- ---- line words
 
@@ -77,7 +77,7 @@ none (suc o) zero zero j = absurd (omega (arith, j .both))
 none (suc o) zero (suc b) j = eqb·suc-zero o ∙ sym (eqb·suc-zero b)
 none (suc o) (suc a) b j = eqb·suc-zero o ∙ sym (ap (λ (x : Bool). x && eqb b 0) (eqb·suc-zero a))
 
-pub plain-or : (a b : ℕ) → plain (bitOr a b) ≡ plain a && plain b
+plain-or : (a b : ℕ) → plain (bitOr a b) ≡ plain a && plain b
 plain-or a b = none (unused (bitOr a b)) (unused a) (unused b) (unused-joined a b)
 
 -- a line word more, and no more

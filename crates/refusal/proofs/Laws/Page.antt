@@ -12,7 +12,7 @@ pub first-both : (why later : ℕ) → first why later ≡ 0 → (why ≡ 0) × 
 first-both zero later e = (refl, e)
 first-both (suc why) later e = absurd (omega (arith, e))
 
-pub unless-some : {A : Type 0} (why : ℕ) (a b : A) → (why ≡ 0 → ⊥) → unless why a b ≡ b
+unless-some : {A : Type 0} (why : ℕ) (a b : A) → (why ≡ 0 → ⊥) → unless why a b ≡ b
 unless-some zero a b n = absurd (n refl)
 unless-some (suc why) a b n = refl
 

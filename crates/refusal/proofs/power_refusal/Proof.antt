@@ -11,11 +11,11 @@ returns c = rw (← c .before .board-refusal .ensures) (first-some _ _ (c .if1 .
 
 returns-2 : tie.Need-returns-2
 unfolding powerRefusal
-returns-2 c = rw (← c .before .before .before .board-refusal .ensures, c .before .before .if1 .left, sym (c .before .set-up .ensures) ∙ c .if2 .taken)
+returns-2 c = rw (← c .before .before .before .board-refusal .ensures, c .before .before .if1 .left, sym (c .before .jumpers-fit .ensures) ∙ c .if2 .taken)
 
 returns-3 : tie.Need-returns-3
 unfolding powerRefusal
-returns-3 c = rw (← c .before .before .before .board-refusal .ensures, c .before .before .if1 .left, sym (c .before .set-up .ensures) ∙ c .if2 .left)
+returns-3 c = rw (← c .before .before .before .board-refusal .ensures, c .before .before .if1 .left, sym (c .before .jumpers-fit .ensures) ∙ c .if2 .left)
 
 pub power-refusal-spec : {M : Type 1} → statement M
 power-refusal-spec = tie.close (tie.spec (λ c κs. search needs) returns (λ c κs. search needs) returns-2 returns-3)

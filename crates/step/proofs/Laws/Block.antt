@@ -10,7 +10,7 @@ use lib.Dec.{eqb}
 use borrow.Author.Tests.{ne-eqb, eqb-true, eqb-false}
 use Rattle.plate.specs.Plate.{formatOf}
 use Rattle.wordmath.specs.Address.{plus, minus}
-use Rattle.board.specs.Work.{Size, value, run, fitted, writable, wordAt, get, put, _>>=_}
+use Rattle.board.specs.Work.{Size, value, run, fitted, writable, imageWord, get, put, _>>=_, sizeOf}
 use Rattle.board.proofs.Laws.Follows.{run-then, put-apart}
 use Rattle.state.specs.declared.State.{State}
 use Rattle.state.specs.declared.Outside.{Outside}
@@ -18,8 +18,8 @@ use Rattle.state.specs.State.{reg, withReg, withMark, withPc}
 use Rattle.state.specs.Registers.{regOf, setReg}
 use Rattle.state.specs.Answer.{takenWord}
 use Rattle.state.specs.Stack.{fetch}
-use Rattle.format8.specs.declared.Row.{Row}
-use Rattle.format8.specs.Format8.{moveRow, moveSize, transfer, onward, counted, again, element, format8}
+use Rattle.format8.specs.declared.BlockMove.{BlockMove}
+use Rattle.format8.specs.Format8.{moveRow, transfer, onward, registersMoved, again, element, format8}
 use Rattle.opcodes.specs.Fields.{blockSource, blockDestination}
 use Rattle.format8.specs.Page.{Plain, elementCount, along, blockMoved, imageMoved, stateMoved}
 use Rattle.format8.proofs.Laws.Moved.{onceMore, once-after, once-pc, once-count, once-source, once-destination, last-after, counted-count, past-source, past-destination}
@@ -37,10 +37,10 @@ transfer-well : (map : List ℕ) (z : Size) (a b : ℕ) (m : List ℕ) → fitte
 unfolding run transfer _>>=_
 transfer-well map z a b m e h = rw (e, h)
 
-element-well : (map : List ℕ) (r : Row) (s : State) (i j : ℕ) (m : List ℕ) → fitted map (reg s i) ≡ true → writable map (reg s j) ≡ true
-    → run map (element r s i j) m ≡ value (again s (counted r s i j)) (put (moveSize (r .bytes)) m (reg s j) (get (moveSize (r .bytes)) m (reg s i)))
+element-well : (map : List ℕ) (r : BlockMove) (s : State) (i j : ℕ) (m : List ℕ) → fitted map (reg s i) ≡ true → writable map (reg s j) ≡ true
+    → run map (element r s i j) m ≡ value (again s (registersMoved r s i j)) (put (sizeOf (r .bytes)) m (reg s j) (get (sizeOf (r .bytes)) m (reg s i)))
 unfolding run element
-element-well map r s i j m e h = run-then map (transfer (moveSize (r .bytes)) (reg s i) (reg s j)) _ m (transfer-well map (moveSize (r .bytes)) (reg s i) (reg s j) m e h)
+element-well map r s i j m e h = run-then map (transfer (sizeOf (r .bytes)) (reg s i) (reg s j)) _ m (transfer-well map (sizeOf (r .bytes)) (reg s i) (reg s j) m e h)
 
 -- 0E00 to 0FFF is format 8
 format-eight : (op : ℕ) → op / 512 ≡ 7 → formatOf (op / 256) ≡ 8
@@ -50,7 +50,7 @@ format-eight op h = elim (ℕ-discrete (op / 256) 14) [ yes e ↦ eight (op / 25
     eight : (a b : ℕ) → a ≡ b → formatOf b ≡ 8 → formatOf a ≡ 8
     eight a b e q = rw e q
 
-executes : (out : Outside) (s : State) (op : ℕ) → out .settings .blocks ≡ true → op / 512 ≡ 7 → execute out s op ≡ format8 s op
+pub executes : (out : Outside) (s : State) (op : ℕ) → out .settings .blocks ≡ true → op / 512 ≡ 7 → execute out s op ≡ format8 s op
 unfolding byFormat
 executes out s op e h = rw (format-eight op h, e)
 
@@ -59,7 +59,7 @@ pub unfitted : (out : Outside) (s : State) (op : ℕ) → out .settings .blocks 
 unfolding byFormat
 unfitted out s op e h = rw (format-eight op h, e)
 
-fetched : (map : List ℕ) (s : State) (m : List ℕ) (op : ℕ) → fitted map (s .regs .pc) ≡ true → wordAt m (s .regs .pc) ≡ op → run map (fetch s) m ≡ value (takenWord (withPc s (plus (s .regs .pc) 2)) op) m
+fetched : (map : List ℕ) (s : State) (m : List ℕ) (op : ℕ) → fitted map (s .regs .pc) ≡ true → imageWord m (s .regs .pc) ≡ op → run map (fetch s) m ≡ value (takenWord (withPc s (plus (s .regs .pc) 2)) op) m
 unfolding run fetch _>>=_
 fetched map s m op e h = rw (e, h)
 
@@ -71,22 +71,22 @@ begun-well map out s op m h = rw (ne-eqb op 5 (λ e. omega arith))
 
 -- the image with an element moved
 abbrev pub elementIn : ℕ → State → List ℕ → List ℕ
-elementIn op s m = put (moveSize (moveRow op .bytes)) m (reg s (blockDestination op)) (get (moveSize (moveRow op .bytes)) m (reg s (blockSource op)))
+elementIn op s m = put (sizeOf (moveRow op .bytes)) m (reg s (blockDestination op)) (get (sizeOf (moveRow op .bytes)) m (reg s (blockSource op)))
 
 -- R0 means that n elements are left
-pub record Left (n : ℕ) (s : State) : Type 0 where
+pub record ElementsLeft (n : ℕ) (s : State) : Type 0 where
   pub togo : reg s 0 ≡ n % 65536
   pub some : 1 ≤ n
   pub most : n ≤ 65536
 
-pub all-left : (s : State) → reg s 0 < 65536 → Left (elementCount (reg s 0)) s
+pub all-left : (s : State) → reg s 0 < 65536 → ElementsLeft (elementCount (reg s 0)) s
 all-left s h = counting (reg s 0) (eqb (reg s 0) 0) refl h refl
   where
-    counting : (c : ℕ) (b : Bool) → eqb c 0 ≡ b → c < 65536 → reg s 0 ≡ c → Left (cond b 65536 c) s
+    counting : (c : ℕ) (b : Bool) → eqb c 0 ≡ b → c < 65536 → reg s 0 ≡ c → ElementsLeft (cond b 65536 c) s
     counting c true e h i = let z = eqb-true c 0 e in record { togo = omega arith; some = omega arith; most = omega arith }
     counting c false e h i = let z = eqb-false c 0 e in record { togo = omega arith; some = omega (arith, z); most = omega arith }
 
-pub unheard-disabled : (out : Outside) → out .i3 ≡ false → Unheard false out
+unheard-disabled : (out : Outside) → out .i3 ≡ false → Unheard false out
 unfolding kindIn
 unheard-disabled out e = rw e
 
@@ -129,14 +129,14 @@ cleared-twice s v = refl
 module _ {map : List ℕ} {op : ℕ} (p : Plain (blockSource op) (blockDestination op)) (eight : op / 512 ≡ 7) (out : Outside) (fit : out .settings .blocks ≡ true) (s : State) {m : List ℕ} where
   work-well : {n : ℕ} → 1 ≤ n → Ready map op n (withMark s false) m
       → (let u = withMark s false in let t = withPc u (plus (u .regs .pc) 2) in
-      run map (opWork out s) m ≡ value (again t (counted (moveRow op) t (blockSource op) (blockDestination op))) (elementIn op u m))
+      run map (opWork out s) m ≡ value (again t (registersMoved (moveRow op) t (blockSource op) (blockDestination op))) (elementIn op u m))
   unfolding opWork carry traced run along withMark
   work-well some a =
       let u = withMark s false in
       let t = withPc u (plus (u .regs .pc) 2) in
       let from : reg t (blockSource op) ≡ reg u (blockSource op) = past-source (moveRow op) p u in
       let to : reg t (blockDestination op) ≡ reg u (blockDestination op) = past-destination (moveRow op) p u in
-      let moved : run map (execute out t op) m ≡ value (again t (counted (moveRow op) t (blockSource op) (blockDestination op))) (elementIn op t m) =
+      let moved : run map (execute out t op) m ≡ value (again t (registersMoved (moveRow op) t (blockSource op) (blockDestination op))) (elementIn op t m) =
       rw (executes out t op fit eight)
       (element-well map (moveRow op) t (blockSource op) (blockDestination op) m (rw from (a .reads 0 (omega arith))) (rw to (a .writes 0 (omega arith)))) in
       let past = withPc s (plus (s .regs .pc) 2) in
@@ -172,9 +172,9 @@ pc-past : (s : State) → withPc s (plus (s .regs .pc) 2) .regs .pc ≡ plus (s 
 unfolding withReg setReg
 pc-past s = refl
 
-once-kept : (r : Row) (i j : ℕ) (s : State) (pc v : ℕ)
-    → (withPc (counted r (withPc s v) i j) pc .mode ≡ s .mode) × (withMark (withPc (counted r (withPc s v) i j) pc) false ≡ withPc (counted r (withPc (withMark s false) v) i j) pc) × (hears (withPc (counted r (withPc s v) i j) pc) ≡ hears s)
-unfolding counted onward withReg withMark reg
+once-kept : (r : BlockMove) (i j : ℕ) (s : State) (pc v : ℕ)
+    → (withPc (registersMoved r (withPc s v) i j) pc .mode ≡ s .mode) × (withMark (withPc (registersMoved r (withPc s v) i j) pc) false ≡ withPc (registersMoved r (withPc (withMark s false) v) i j) pc) × (hears (withPc (registersMoved r (withPc s v) i j) pc) ≡ hears s)
+unfolding registersMoved onward withReg withMark reg
 once-kept r i j s pc v = (refl, refl, refl)
 
 -- the state after an element that is not the last
@@ -189,26 +189,26 @@ module _ {map : List ℕ} {op : ℕ} (p : Plain (blockSource op) (blockDestinati
   kind-is a = sym (rw (a .running) quiet)
 
   -- an element that is not the last
-  pub step-once : {k : ℕ} → Left (suc (suc k)) (withMark s false) → Ready map op (suc (suc k)) (withMark s false) m
+  pub step-once : {k : ℕ} → ElementsLeft (suc (suc k)) (withMark s false) → Ready map op (suc (suc k)) (withMark s false) m
       → stepOf map out s m ≡ after (afterOne op (withMark s false)) (elementIn op (withMark s false) m) Cause.OpCode
   unfolding workOf
   step-once {k} l a =
       let u = withMark s false in
       let t = withPc u (plus (u .regs .pc) 2) in
-      let c = counted (moveRow op) t (blockSource op) (blockDestination op) in
+      let c = registersMoved (moveRow op) t (blockSource op) (blockDestination op) in
       let more : reg c 0 ≡ 0 → ⊥ = λ z. some-left (reg u 0) (suc (suc k)) (l .togo) (omega arith) (l .most)
       (sym (counted-count (moveRow op) p u) ∙ z) in
       let there : again t c ≡ afterOne op u = again-more t c more ∙ ap (λ x. withPc c x) (ap (λ x. minus x 2) (pc-past u) ∙ back (u .regs .pc) (a .address)) in
       sym (step-well map out s m {k = OpCode} (kind-is a) (rw there at (work-well p eight out fit s (omega arith) a)) refl)
 
   -- the last
-  pub step-last : Left 1 (withMark s false) → Ready map op 1 (withMark s false) m
+  pub step-last : ElementsLeft 1 (withMark s false) → Ready map op 1 (withMark s false) m
       → stepOf map out s m ≡ after (stateMoved (moveRow op) (blockSource op) (blockDestination op) 1 (withMark s false)) (elementIn op (withMark s false) m) Cause.OpCode
   unfolding workOf
   step-last l a =
       let u = withMark s false in
       let t = withPc u (plus (u .regs .pc) 2) in
-      let c = counted (moveRow op) t (blockSource op) (blockDestination op) in
+      let c = registersMoved (moveRow op) t (blockSource op) (blockDestination op) in
       let none : plus (reg u 0) 65535 ≡ 0 = zero-left (reg u 0) 1 (l .togo) refl in
       let there : again t c ≡ stateMoved (moveRow op) (blockSource op) (blockDestination op) 1 u =
       again-last t c (counted-count (moveRow op) p u ∙ none)
@@ -226,14 +226,14 @@ module _ {map : List ℕ} {op : ℕ} (p : Plain (blockSource op) (blockDestinati
         running = once-kept (moveRow op) (blockSource op) (blockDestination op) s (s .regs .pc) (plus (s .regs .pc) 2) .0 ∙ a .running;
         address = rw pc (a .address);
         here = rw pc (a .here);
-        code = rw pc (put-apart (moveSize (moveRow op .bytes)) m (reg s (blockDestination op)) _ (s .regs .pc) (a .apart 0 (omega arith)) ∙ a .code);
+        code = rw pc (put-apart (sizeOf (moveRow op .bytes)) m (reg s (blockDestination op)) _ (s .regs .pc) (a .apart 0 (omega arith)) ∙ a .code);
         reads = λ i l. rw (once-source (moveRow op) p s) (a .reads (suc i) (omega arith));
         writes = λ i l. rw (once-destination (moveRow op) p s) (a .writes (suc i) (omega arith));
         apart = λ i l. rw (once-destination (moveRow op) p s, pc) (a .apart (suc i) (omega arith));
       }
 
 module _ (op : ℕ) (p : Plain (blockSource op) (blockDestination op)) (s : State) where
-  pub left-on : (k : ℕ) → Left (suc (suc k)) s → Left (suc k) (afterOne op s)
+  pub left-on : (k : ℕ) → ElementsLeft (suc (suc k)) s → ElementsLeft (suc k) (afterOne op s)
   left-on k l = record { togo = once-count (moveRow op) p s ∙ one-less (reg s 0) k (l .togo); some = omega arith; most = omega (arith, l .most) }
 
   pub image-on : (k : ℕ) (m : List ℕ) → imageMoved (moveRow op) (blockSource op) (blockDestination op) (suc k) (afterOne op s) (elementIn op s m) ≡ imageMoved (moveRow op) (blockSource op) (blockDestination op) (suc (suc k)) s m

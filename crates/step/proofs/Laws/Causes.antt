@@ -108,7 +108,7 @@ blank-counted map out s m {a} h =
 
 -- ---- the image after a trap differs from the one before only where it pushed: at SP - 2 and SP - 4
 
-pub trap-image : (map : List ℕ) (s : State) (ps at : ℕ) (m : List ℕ) (t : State) (n : List ℕ)
+trap-image : (map : List ℕ) (s : State) (ps at : ℕ) (m : List ℕ) (t : State) (n : List ℕ)
     → run map (trap s ps at) m ≡ value t n → n ≡ withWord (withWord m (minus (s .regs .sp) 2) ps) (minus (minus (s .regs .sp) 2) 2) (s .regs .pc)
 unfolding run trap pushBoth push fromLoc _>>=_ withReg setReg withI2 withMode
 trap-image map s ps at m t n h =

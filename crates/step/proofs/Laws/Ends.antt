@@ -19,7 +19,8 @@ use Rattle.step.specs.declared.Kind.{Kind}
 use Rattle.step.specs.declared.Kind.the-variants.{OpCode, HaltEnd, Boots, Saves, LocksUp, Restarts, Restores, NonVectored, Vectored, Waits, Stuck}
 use Rattle.step.specs.declared.Cause.{Cause}
 use Rattle.step.specs.declared.Cause.the-variants.{LockedAt}
-use Rattle.step.specs.Step.{After, after, kindIn, hears, kindOf, workOf, busError, causeOf, errorCauseOf, errorOf, stepOf, isCode, calm, running, haltOption, powerUpOption, up, orLocked, powerUpOf}
+use Rattle.step.specs.Step.{After, after, kindIn, hears, kindOf, workOf, busError, causeOf, errorCauseOf, errorOf, stepOf, isCode, haltOption, powerUpOption, up, orLocked, powerUpOf}
+use Rattle.step.specs.Inner.{calm, running}
 
 pub fresh-clear : {map m l l′ : List ℕ} → Board map (beside m l) → l′ ≡ set l 0 0 → Fresh map (beside m l′)
 fresh-clear {l = l} b e = rw e (record { board = board-fresh {l = l} b; empty = none-left l (b .whole) })

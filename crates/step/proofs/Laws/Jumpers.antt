@@ -4,7 +4,7 @@ use native.Mathlib.Omega.{arith}
 use mathlib.Core.Bool.{Bool, true, false}
 use mathlib.Core.List.{List}
 use mathlib.Core.Path.{_≡_, refl, ap}
-use Rattle.board.specs.Work.{value, run, fitted, wordAt, found, _>>=_}
+use Rattle.board.specs.Work.{value, run, fitted, imageWord, found, _>>=_}
 use Rattle.state.specs.declared.State.{State}
 use Rattle.state.specs.declared.Outside.{Outside}
 use Rattle.state.specs.declared.Settings.{Settings}
@@ -28,7 +28,7 @@ option-is : (settings : Settings) → Eleven settings → haltOption settings �
 unfolding haltOption
 option-is settings e = rw (e .halt)
 
-pub same-kind : (mode : Mode) (hearing : Bool) (out : Outside) → Eleven (out .settings) → modeNumber mode ≤ 4 → kindIn mode hearing out ≡ plainKindIn mode hearing out
+same-kind : (mode : Mode) (hearing : Bool) (out : Outside) → Eleven (out .settings) → modeNumber mode ≤ 4 → kindIn mode hearing out ≡ plainKindIn mode hearing out
 unfolding kindIn
 same-kind Running hearing out e h = rw (option-is (out .settings) e)
 same-kind Waiting hearing out e h = rw (option-is (out .settings) e)
@@ -50,4 +50,4 @@ fetched false s m = refl
 -- and nothing is written
 pub same-power : (settings : Settings) (map m : List ℕ) → Eleven settings → powerUpOf settings map m ≡ up (plainUp (run map (fromLoc cleared 0x16) m)) m
 unfolding powerUpOf powerUpOption workOf cleared withMode run fromLoc _>>=_
-same-power settings map m e = rw (e .powerup) (fetched (fitted map 0x16) (withPc cleared (wordAt m 0x16)) m)
+same-power settings map m e = rw (e .powerup) (fetched (fitted map 0x16) (withPc cleared (imageWord m 0x16)) m)

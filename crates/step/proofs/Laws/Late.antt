@@ -1,11 +1,11 @@
 -- IEN is one op code late: where it found I2 clear, exactly one more op code is executed before I0 or I1 is heard; where it found I2 set, none.
 use Prim.Native.Nat.{ℕ}
 use native.Mathlib.Omega.{arith}
-use mathlib.Core.Bool.{Bool, true, false, not, _&&_, _||_, cond}
+use mathlib.Core.Bool.{Bool, true, false, not, _&&_, _||_, cond, and-false}
 use mathlib.Core.List.{List}
 use mathlib.Core.Path.{_≡_, refl, sym, ap, _∙_}
 use lib.Dec.{eqb}
-use Rattle.board.specs.Work.{give, fitted, writable, wordAt, value, run, _>>=_}
+use Rattle.board.specs.Work.{give, fitted, writable, imageWord, value, run, _>>=_}
 use Rattle.board.proofs.Laws.Alike.{found-value}
 use Rattle.state.specs.declared.State.{State}
 use Rattle.state.specs.declared.Outside.{Outside}
@@ -27,10 +27,6 @@ use Rattle.step.specs.Late.{Comes, Asks, interruptHeard}
 
 -- ---- which kind of step it is
 
-and-no : (b : Bool) → (b && false) ≡ false
-and-no true = refl
-and-no false = refl
-
 one-asks : (one other : Bool) → (one || other) ≡ true → cond one NonVectored (cond other Vectored OpCode) ≡ cond one NonVectored Vectored
 one-asks true other e = refl
 one-asks false true e = refl
@@ -41,7 +37,7 @@ pub held : (s : State) (out : Outside) → s .mode ≡ Running → s .mark ≡ t
 unfolding kindIn
 held s out runs mark quiet =
     ap (λ z. kindIn z (hears s) out) runs
-    ∙ ap (λ z. asked z out OpCode) (ap (λ z. s .i2 && not z) mark ∙ and-no (s .i2))
+    ∙ ap (λ z. asked z out OpCode) (ap (λ z. s .i2 && not z) mark ∙ and-false (s .i2))
     ∙ ap (λ z. cond z (haltOption (out .settings)) OpCode) quiet
 
 -- An unmarked state with I2 set hears them.
@@ -114,7 +110,7 @@ module _ {map : List ℕ} {out : Outside} {s : State} {m : List ℕ} (c : Comes 
       (late next was quiet, λ runs i2 mark. unmarked-hears (stepOf map next (first .state) (first .image) .state) last runs i2 mark a)
 
   -- Such an op code is NOP: IEN, NOP, interrupt.
-  pub late-nop : (next last : Outside) → s .i2 ≡ false → next .i3 ≡ false → fitted map (plus (s .regs .pc) 2) ≡ true → wordAt m (plus (s .regs .pc) 2) ≡ 0 → Asks last
+  pub late-nop : (next last : Outside) → s .i2 ≡ false → next .i3 ≡ false → fitted map (plus (s .regs .pc) 2) ≡ true → imageWord m (plus (s .regs .pc) 2) ≡ 0 → Asks last
       → (let a = stepOf map out s m in kindOf (stepOf map next (a .state) (a .image) .state) last ≡ interruptHeard last)
   unfolding withMark withI2 withReg setReg
   late-nop next last was quiet there code a =

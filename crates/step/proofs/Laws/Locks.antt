@@ -16,7 +16,7 @@ use Rattle.step.specs.declared.Kind.{Kind}
 use Rattle.step.specs.declared.Kind.the-variants.{OpCode, HaltEnd, Boots, Saves, Restarts, Restores, NonVectored, Vectored, Waits, Stuck}
 use Rattle.step.specs.declared.Kind.the-variants as Kind
 use Rattle.step.specs.declared.Cause.the-variants.{LockedAt}
-use Rattle.step.specs.Places.{pickUp, pickUpFour, pickUpRegisters, restore}
+use Rattle.step.specs.Places.{pickUp, pickUpFour, pickUpRegisters, restorePlaces}
 use Rattle.step.specs.Step.{after, causeNumber, causeOf, hears, kindIn, kindOf, haltOption, workOf, stepOf}
 use Rattle.step.specs.Told.{workAnswered, Low}
 use Rattle.step.specs.Locks.{Fetches, haltEnd, restarts, restores, LocksUp, before, byOption}
@@ -37,7 +37,7 @@ low-page restarts = refl
 low-page restores = refl
 
 first-blank : {k : Kind} {a : ℕ} → Fetches k a → (map : List ℕ) (out : Outside) (s : State) (m : List ℕ) → fitted map a ≡ false → run map (workOf k out s) m ≡ blank a
-unfolding workOf run fromLoc restore pickUpRegisters pickUpFour pickUp _>>=_
+unfolding workOf run fromLoc restorePlaces pickUpRegisters pickUpFour pickUp _>>=_
 first-blank haltEnd map out s m e = rw e refl
 first-blank restarts map out s m e = rw e refl
 first-blank restores map out s m e = rw e refl

@@ -14,7 +14,7 @@ use Rattle.state.specs.Stack.{push, pushBoth, fromLoc, trap}
 use Rattle.step.specs.declared.Kind.{Kind}
 use Rattle.step.specs.declared.Cause.{Cause}
 use Rattle.step.specs.declared.Cause.the-variants.{LockedAt}
-use Rattle.step.specs.Places.{savePlace, pickUp, pickUpFour, pickUpRegisters, restore}
+use Rattle.step.specs.Places.{savePlace, pickUp, pickUpFour, pickUpRegisters, restorePlaces}
 use Rattle.step.specs.Step.{After, after, orAt, restart, past, kindOf, workOf, busError, errorCauseOf, errorOf, stepOf}
 use Rattle.step.proofs.Laws.Ends.{step-ill}
 use Rattle.step.specs.Told.{Low, gives, reads}
@@ -42,8 +42,8 @@ pick-up-four-low s h i j k a b c d =
     pick-up-low s k d
 
 -- the places, picked up at the end of a save and by an option of the power-up
-pub restore-low : (s : State) → Low (restore s)
-unfolding restore pickUpRegisters
+pub restore-low : (s : State) → Low (restorePlaces s)
+unfolding restorePlaces pickUpRegisters
 restore-low s =
     low-then (low-then (pick-up-four-low s 0 1 2 3 refl refl refl refl) (λ s. pick-up-four-low s 4 5 6 7 refl refl refl refl)) λ s.
     low-then (reads _ (savePlace 8) refl (λ v. gives v)) λ ps.

@@ -9,7 +9,7 @@ use lib.Dec.{eqb}
 use lib.ListN.{length, getD, set, length-set}
 use lib.Seq.{getD-set-same, getD-set-other}
 use borrow.Author.Tests.{eqb-true}
-use Rattle.board.specs.Work.{word, value, run, fitted, writable, even, wordAt, withWord, _>>=_}
+use Rattle.board.specs.Work.{word, value, run, fitted, writable, even, imageWord, withWord, _>>=_}
 use Rattle.board.proofs.Laws.{size-put}
 use Rattle.board.proofs.Laws.Follows.{put-apart}
 use Rattle.wordmath.specs.Number.{digit}
@@ -22,7 +22,7 @@ use Rattle.state.specs.State.{reg, withReg, withMode, withMark, withStatus, psO
 use Rattle.state.specs.Registers.{regOf, setReg}
 use Rattle.step.specs.declared.Kind.the-variants.{Saves, Restores, Waits}
 use Rattle.step.specs.declared.Cause.the-variants as Cause
-use Rattle.step.specs.Places.{savePlace, keep, pickUp, keepFour, pickUpFour, keepRegisters, pickUpRegisters, save, restore}
+use Rattle.step.specs.Places.{savePlace, keep, pickUp, keepFour, pickUpFour, keepRegisters, pickUpRegisters, savePlaces, restorePlaces}
 use Rattle.step.specs.Step.{after, kindIn, kindOf, workOf, stepOf}
 use Rattle.step.proofs.Laws.Ends.{step-well}
 use Rattle.step.specs.Saved.{keptIn, savedIn, Words}
@@ -38,8 +38,8 @@ kept-size (suc n) s m = size-put word (keptIn n s m) (savePlace n) (reg s n) ∙
 word-back : (v : ℕ) → v < 65536 → v % 256 + v / 256 % 256 * 256 ≡ v
 word-back v h = omega arith
 
-put-there : (m : List ℕ) (a v : ℕ) → even a + 1 < length m → v < 65536 → wordAt (withWord m a v) a ≡ v
-unfolding wordAt withWord
+put-there : (m : List ℕ) (a v : ℕ) → even a + 1 < length m → v < 65536 → imageWord (withWord m a v) a ≡ v
+unfolding imageWord withWord
 put-there m a v h l =
     rw (
       getD-set-other (set m (even a) (v % 256)) (even a + 1) (even a) (v / 256 % 256) 0 (λ e. omega arith),
@@ -56,19 +56,19 @@ places-apart : (k n : ℕ) → k < n → n ≤ 8 → savePlace n / 2 ≡ savePla
 places-apart k n h l e = omega arith
 
 -- each register stands at its place
-kept-there : {s : State} {m : List ℕ} → Words s m → (n k : ℕ) → k < n → n ≤ 8 → wordAt (keptIn n s m) (savePlace k) ≡ reg s k
+kept-there : {s : State} {m : List ℕ} → Words s m → (n k : ℕ) → k < n → n ≤ 8 → imageWord (keptIn n s m) (savePlace k) ≡ reg s k
 unfolding keptIn
 kept-there w zero k h l = absurd (omega arith)
 kept-there {s} {m} w (suc n) k h l = elim (ℕ-discrete k n) [ yes e ↦ here e | no d ↦ earlier (omega arith) (kept-there w n k (omega arith) (omega arith)) ]
   where
-    here : k ≡ n → wordAt (withWord (keptIn n s m) (savePlace n) (reg s n)) (savePlace k) ≡ reg s k
+    here : k ≡ n → imageWord (withWord (keptIn n s m) (savePlace n) (reg s n)) (savePlace k) ≡ reg s k
     here e = rw e (put-there (keptIn n s m) (savePlace n) (reg s n) (place-in n (length (keptIn n s m)) (omega arith) (rw (kept-size n s m) (w .size))) (w .registers n (omega arith)))
 
-    earlier : k < n → wordAt (keptIn n s m) (savePlace k) ≡ reg s k → wordAt (withWord (keptIn n s m) (savePlace n) (reg s n)) (savePlace k) ≡ reg s k
+    earlier : k < n → imageWord (keptIn n s m) (savePlace k) ≡ reg s k → imageWord (withWord (keptIn n s m) (savePlace n) (reg s n)) (savePlace k) ≡ reg s k
     earlier b e = put-apart word (keptIn n s m) (savePlace n) (reg s n) (savePlace k) (places-apart k n b (omega arith)) ∙ e
 
 module _ (out : Outside) {s : State} {m : List ℕ} (w : Words s m) where
-  saved-there : (k : ℕ) → k < 8 → wordAt (savedIn out s m) (savePlace k) ≡ reg s k
+  saved-there : (k : ℕ) → k < 8 → imageWord (savedIn out s m) (savePlace k) ≡ reg s k
   saved-there k h = put-apart word (keptIn 8 s m) (savePlace 8) (psOf out false s) (savePlace k) (places-apart k 8 h (omega arith)) ∙ kept-there w 8 k h (omega arith)
 
 -- ---- PS, formed and picked up again
@@ -111,8 +111,8 @@ module _ (out : Outside) (s : State) where
 
 -- page 0 can be written
 module _ (map : List ℕ) (fit : writable map 0 ≡ true) (out : Outside) (s : State) (m : List ℕ) where
-  pub save-well : run map (save out s) m ≡ value (withMode s Saved) (savedIn out s m)
-  unfolding run save keepRegisters keepFour keep _>>=_ writable keptIn
+  save-well : run map (savePlaces out s) m ≡ value (withMode s Saved) (savedIn out s m)
+  unfolding run savePlaces keepRegisters keepFour keep _>>=_ writable keptIn
   save-well = rw fit
 
 can-be-read : (map : List ℕ) → writable map 0 ≡ true → fitted map 0 ≡ true
@@ -122,12 +122,12 @@ can-be-read map e = rw (eqb-true (getD map 0 0) 1 e)
 -- the words that are picked up
 abbrev picked : State → List ℕ → State
 picked t n =
-    let at : ℕ → ℕ = λ k. wordAt n (savePlace k) in
+    let at : ℕ → ℕ = λ k. imageWord n (savePlace k) in
     let low = withReg (withReg (withReg (withReg t 0 (at 0)) 1 (at 1)) 2 (at 2)) 3 (at 3) in
     withReg (withReg (withReg (withReg low 4 (at 4)) 5 (at 5)) 6 (at 6)) 7 (at 7)
 
-restore-well : (map : List ℕ) (t : State) (n : List ℕ) → fitted map 0 ≡ true → run map (restore t) n ≡ value (withMode (withStatus (picked t n) (wordAt n (savePlace 8))) Running) n
-unfolding run restore pickUpRegisters pickUpFour pickUp _>>=_ fitted
+restore-well : (map : List ℕ) (t : State) (n : List ℕ) → fitted map 0 ≡ true → run map (restorePlaces t) n ≡ value (withMode (withStatus (picked t n) (imageWord n (savePlace 8))) Running) n
+unfolding run restorePlaces pickUpRegisters pickUpFour pickUp _>>=_ fitted
 restore-well map t n e = rw e
 
 -- a state with all registers and the PS of another differs from it in the mark at most
@@ -139,10 +139,10 @@ same-picked s t ps e h = rw (e, h)
 
 module _ (map : List ℕ) (fit : writable map 0 ≡ true) (out : Outside) {s : State} {m : List ℕ} (w : Words s m) where
   -- THE LAW: whatever the state is then, all but the mark comes back, and the mode is running
-  pub restore-saved : (t : State) → run map (restore t) (savedIn out s m) ≡ value (withMark (withMode s Running) (t .mark)) (savedIn out s m)
+  pub restore-saved : (t : State) → run map (restorePlaces t) (savedIn out s m) ≡ value (withMark (withMode s Running) (t .mark)) (savedIn out s m)
   restore-saved t =
       let n = savedIn out s m in
-      let status : wordAt n (savePlace 8) ≡ psOf out false s = put-there (keptIn 8 s m) (savePlace 8) (psOf out false s) (place-in 8 (length (keptIn 8 s m)) (omega arith) (rw (kept-size 8 s m) (w .size))) (ps-word out s) in
+      let status : imageWord n (savePlace 8) ≡ psOf out false s = put-there (keptIn 8 s m) (savePlace 8) (psOf out false s) (place-in 8 (length (keptIn 8 s m)) (omega arith) (rw (kept-size 8 s m) (w .size))) (ps-word out s) in
       restore-well map t n (can-be-read map fit)
       ∙ ap (λ u. value u n)
       (rw (

@@ -12,7 +12,7 @@ use Rattle.state.specs.State.{withMode}
 use Rattle.step.specs.declared.Kind.{Kind}
 use Rattle.step.specs.declared.Kind.the-variants.{OpCode, HaltEnd, Boots, Saves, LocksUp, Restarts, Restores, NonVectored, Vectored, Waits, Stuck}
 use Rattle.step.specs.declared.Cause.the-variants.{LockedAt}
-use Rattle.step.specs.declared.Told.the-variants.{Nowhere, At}
+use Rattle.step.specs.declared.Reached.the-variants.{Nowhere, At}
 use Rattle.step.specs.Step.{After, after, causeAddress, isBlank, causeOf, errorCauseOf, kindOf, workOf, busError, orAt, errorOf, stepOf}
 use Rattle.step.proofs.Laws.Ends.{step-well}
 use Rattle.step.proofs.Laws.Causes.{blank-error, blank-counted, value-no-blank}
@@ -107,8 +107,8 @@ module _ (map : List ℕ) (out : Outside) (s : State) (m : List ℕ) where
 
 module _ (map : List ℕ) (out : Outside) (s : State) (m : List ℕ) where
   -- the work is done: the state, the image and the cause are its own
-  pub data Done : After → Type 0 where
-    done : (t : State) (n : List ℕ) → run map (workOf (kindOf s out) out s) m ≡ value t n → Done (after t n (causeOf (kindOf s out)))
+  pub data WorkDone : After → Type 0 where
+    done : (t : State) (n : List ℕ) → run map (workOf (kindOf s out) out s) m ≡ value t n → WorkDone (after t n (causeOf (kindOf s out)))
 
   -- the work is dropped, and the first address that did not answer is told: a bus error, whose trap from the state before gives the state and the image; or, where that is not answered either, all is as before but the mode, which is locked
   pub data Dropped : After → Type 0 where
@@ -116,11 +116,11 @@ module _ (map : List ℕ) (out : Outside) (s : State) (m : List ℕ) where
         → isBlank (errorCauseOf (kindOf s out) a) ≡ true → Dropped (after t n (errorCauseOf (kindOf s out) a))
     locked : (a : ℕ) → StopsAt map a (accesses map (workOf (kindOf s out) out s) m) → trapAnswered map out s m ≡ false → Dropped (after (withMode s Locked) m (LockedAt a))
 
-  pub step-done : workAnswered map out s m ≡ true → Done (stepOf map out s m)
+  pub step-done : workAnswered map out s m ≡ true → WorkDone (stepOf map out s m)
   step-done h = came (run map (workOf (kindOf s out) out s) m) refl
     where
-      came : (c : Came State) → run map (workOf (kindOf s out) out s) m ≡ c → Done (stepOf map out s m)
-      came (value t n) r = subst (λ (x : After). Done x) (step-well map out s m refl r refl) (done t n r)
+      came : (c : Came State) → run map (workOf (kindOf s out) out s) m ≡ c → WorkDone (stepOf map out s m)
+      came (value t n) r = subst (λ (x : After). WorkDone x) (step-well map out s m refl r refl) (done t n r)
       came (blank a) r = absurd (true≢false (sym h ∙ reaches map (workOf (kindOf s out) out s) m ∙ ap isValue r))
 
   pub step-dropped : workAnswered map out s m ≡ false → Dropped (stepOf map out s m)

@@ -6,10 +6,10 @@ use mathlib.Core.Bool.{Bool, true, false, cond}
 use mathlib.Core.List.{List, [], _∷_, _++_, append-assoc, append-nil}
 use mathlib.Core.Path.{_≡_, refl, sym, ap, _∙_}
 use lib.ListN.{getD, set, length}
-use Rattle.board.specs.Work.{Work, give, readAt, writeAt, fitted, writable, get, put, wordAt, run, value, blank}
+use Rattle.board.specs.Work.{Work, give, readAt, writeAt, fitted, writable, get, put, imageWord, run, value, blank}
 use Rattle.board.specs.Exec.{Store, beside, Now, good, logCount, logRoom, note, withNote, allowed, exec, Board, Got}
 use Rattle.board.proofs.Laws.{board-noted, count-note, room-few}
-use Rattle.board.proofs.Laws.Exec.{stateOf}
+use Rattle.board.proofs.Laws.Exec.{storeOf}
 use Rattle.board.proofs.Laws.Ended.{Fresh}
 use Rattle.board.proofs.Laws.Undo.{note-address, note-below, none-left}
 use Rattle.state.specs.declared.State.{State}
@@ -54,13 +54,13 @@ write-more false r a st y xs h g = let z : _≡_ {A = ℕ} 0 1 = cc in absurd (o
 wrote : {A : Type 0} (map : List ℕ) (w : Work A) (st : Store) → Board map st → {x : A} {st₁ : Store} → exec map w st ≡ good x st₁
     → addresses (st₁ .log) ≡ addresses (st .log) ++ writtenBy map w (st .image)
 unfolding exec accesses writesOf
-wrote map (give x) st b h = ap (λ z. addresses (stateOf z .log)) (sym h) ∙ sym (append-nil (addresses (st .log)))
+wrote map (give x) st b h = ap (λ z. addresses (storeOf z .log)) (sym h) ∙ sym (append-nil (addresses (st .log)))
 wrote map (readAt z a k) st b h =
     read-more (fitted map a) a st _ (accesses map (k (get z (st .image) a)) (st .image)) h (λ e. wrote map (k (get z (st .image) a)) st b e)
 wrote map (writeAt z a v w) st b h =
     write-more (writable map a) (logRoom (st .log)) a st _ (accesses map w (put z (st .image) a v)) h (λ r e.
     wrote map w (withNote z a v st) (board-noted z a v st r b) e
-    ∙ ap (λ ws. ws ++ writesOf (accesses map w (put z (st .image) a v))) (noted-more (st .log) a (wordAt (st .image) a) (b .whole) (room-few (st .log) r)))
+    ∙ ap (λ ws. ws ++ writesOf (accesses map w (put z (st .image) a v))) (noted-more (st .log) a (imageWord (st .image) a) (b .whole) (room-few (st .log) r)))
 
 -- ---- from an empty log
 

@@ -11,8 +11,9 @@ use Rattle.state.specs.declared.State.{State}
 use Rattle.state.specs.declared.Outside.{Outside}
 use Rattle.step.specs.declared.Begun.{Begun}
 use Rattle.step.specs.declared.Begun.the-variants as Begun
-use Rattle.step.specs.Xct.{code, abort, forbidden, trapsAlone, chosen, chosenCode}
-pub use Rattle.step.specs.Xct.{begunAs, unstarted, unopened}
+use Rattle.step.specs.Xct.{code, abort, forbidden, trapsAlone, chosen}
+use Rattle.step.specs.Inner.{chosenCode}
+pub use Rattle.step.specs.Inner.{begunAs, unstarted, unopened}
 
 -- the choice is the same in the code's words and in the definition's
 pub gives-chosen : {map : List ℕ} {st : Store} {r : Begun} (out : Outside) (s : State) (op : ℕ) → r ≡ chosenCode out s op → Got map (give (chosen out s op)) st (begunAs r st)

@@ -1,6 +1,7 @@
 use mathlib.Core.Bool.{Bool, true, false, _&&_, true≢false}
 use mathlib.Core.Path.{_≡_, refl, sym, ap, _∙_}
-use Rattle.step.specs.Step.{isCode, running, calm}
+use Rattle.step.specs.Step.{isCode}
+use Rattle.step.specs.Inner.{running, calm}
 use Rattle.step.proofs.Laws.Ends.{calm-code}
 use borrow.Author.Needs.{needs}
 use Rattle.step.proofs.goes_on.Statement.{statement}

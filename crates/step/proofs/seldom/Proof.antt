@@ -22,7 +22,7 @@ returns-3 c = rw (c .before .enum-told3 .given .1)
 returns-4 : tie.Need-returns-4
 unfolding workOf
 returns-4 c = rw (c .before .before .before .before .before .before .enum-told4 .given .1, c .apart .ensures)
-    (record { got = c .before .before .before .save .ensures .got; board = c .before .before .before .save .ensures .board })
+    (record { got = c .before .before .before .save-places .ensures .got; board = c .before .before .before .save-places .ensures .board })
 
 returns-5 : tie.Need-returns-5
 unfolding workOf
@@ -37,7 +37,7 @@ returns-6 c = rw (c .before .before .enum-told6 .given .1)
 returns-7 : tie.Need-returns-7
 unfolding workOf
 returns-7 c = rw (c .before .before .before .enum-told7 .given .1, c .apart2 .ensures)
-    (record { got = c .before .restore .ensures .got; board = c .before .before .before .before .before .before .before .pre .0 })
+    (record { got = c .before .restore-places .ensures .got; board = c .before .before .before .before .before .before .before .pre .0 })
 
 returns-8 : tie.Need-returns-8
 unfolding workOf

@@ -2,6 +2,7 @@ use borrow.Author.Needs.{needs}
 use lib.ListN.{length}
 use native.Mathlib.Omega.{arith}
 use Prim.Native.Nat.{_-_}
+use Rattle.printing.proofs.Laws.Lines.{line-fits}
 use Rattle.text.proofs.answer_all.Statement.{statement}
 use Rattle.text.proofs.answer_all.Tie as tie
 
@@ -14,9 +15,6 @@ abbrev μ-loop : tie.MeasureT-loop
 loop-holds : tie.Need-loop-holds Inv-loop μ-loop
 loop-holds c = tt
 
-line-end-requires : tie.Need-line-end-requires Inv-loop μ-loop
-line-end-requires c κs = omega arith
-
 sub-answer : tie.Need-sub-answer Inv-loop μ-loop
 sub-answer c = omega arith
 
@@ -24,7 +22,7 @@ part-answer-start : tie.Need-part-answer-start Inv-loop μ-loop
 part-answer-start c = omega arith
 
 part-answer-end : tie.Need-part-answer-end Inv-loop μ-loop
-part-answer-end c = omega arith
+part-answer-end c = omega (arith, line-fits (c .before .before .before .before .args .input .now) (c .before .before .loop .at) (omega arith))
 
 answer-requires : tie.Need-answer-requires Inv-loop μ-loop
 answer-requires c κs = search needs
@@ -54,7 +52,7 @@ answer-all-spec =
     Inv-loop
     μ-loop
     loop-holds
-    line-end-requires
+    (λ c κs. search needs)
     sub-answer
     part-answer-start
     part-answer-end

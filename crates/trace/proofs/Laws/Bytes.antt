@@ -9,12 +9,12 @@ use lib.Dec.{leb, eqb}
 use lib.Seq.{drop-cons, drop-length, getD-append-add}
 use borrow.Author.Tests.{le-leb, eq-eqb, eqb-true}
 use Rattle.wordbytes.specs.Words.{byteAt, wordAt, low, high, bytesIn}
-use Rattle.wordbytes.proofs.Laws.{word-again, low-of, high-of}
+use Rattle.wordbytes.proofs.Laws.{word-again, low-of, high-of, bytes-length}
 use Rattle.state.specs.declared.State.{State}
 use Rattle.step.specs.Step.{After}
 use Rattle.refusal.specs.Numbers.{traceCut}
 use Rattle.refusal.proofs.Laws.Page.{first-both}
-use Rattle.trace.specs.Trace.{entryOf, entriesOf, joined, traceBytes, wordsFrom, entriesFrom, toldIn, whyTrace}
+use Rattle.trace.specs.Trace.{entryOf, entriesOf, joined, traceBytes, fieldsFrom, entriesFrom, toldIn, whyTrace}
 
 -- ---- words and their bytes
 
@@ -22,13 +22,9 @@ pub bytes-append : (xs ys : List ℕ) → bytesIn (xs ++ ys) ≡ bytesIn xs ++ b
 bytes-append [] ys = refl
 bytes-append (x ∷ xs) ys = ap (λ z. low x ∷ high x ∷ z) (bytes-append xs ys)
 
-pub bytes-length : (xs : List ℕ) → length (bytesIn xs) ≡ length xs * 2
-bytes-length [] = omega arith
-bytes-length (x ∷ xs) = omega (arith, bytes-length xs)
-
 -- what stands behind p stands there from its length on
-words-after : (p t : List ℕ) (at n : ℕ) → wordsFrom (p ++ t) (length p + at) n ≡ wordsFrom t at n
-unfolding wordsFrom
+words-after : (p t : List ℕ) (at n : ℕ) → fieldsFrom (p ++ t) (length p + at) n ≡ fieldsFrom t at n
+unfolding fieldsFrom
 words-after p t at zero = refl
 words-after p t at (suc n) =
     let second : length p + at + 1 ≡ length p + (at + 1) = omega arith in
@@ -42,8 +38,8 @@ entries-after p t at (suc n) =
     let next : length p + at + 20 ≡ length p + (at + 20) = omega arith in
     rw (next, words-after p t at 10, entries-after p t (at + 20) n)
 
-words-again : (ws rest : List ℕ) → wordsFrom (bytesIn ws ++ rest) 0 (length ws) ≡ ws
-unfolding wordsFrom
+words-again : (ws rest : List ℕ) → fieldsFrom (bytesIn ws ++ rest) 0 (length ws) ≡ ws
+unfolding fieldsFrom
 words-again [] rest = refl
 words-again (w ∷ ws) rest = rw (word-again w, words-after (low w ∷ high w ∷ []) (bytesIn ws ++ rest) 0 (length ws), words-again ws rest)
 
@@ -53,12 +49,12 @@ pub right-ten : (s : State) → length (entryOf s) ≡ 10
 unfolding entryOf
 right-ten s = refl
 
-pub words-length : (t : List ℕ) (at n : ℕ) → length (wordsFrom t at n) ≡ n
-unfolding wordsFrom
+pub words-length : (t : List ℕ) (at n : ℕ) → length (fieldsFrom t at n) ≡ n
+unfolding fieldsFrom
 words-length t at zero = refl
 words-length t at (suc n) = ap suc (words-length t (at + 2) n)
 
-pub joined-length : (rs : List After) → length (joined (entriesOf rs)) ≡ length (entriesOf rs) * 10
+joined-length : (rs : List After) → length (joined (entriesOf rs)) ≡ length (entriesOf rs) * 10
 unfolding joined entriesOf
 joined-length [] = omega arith
 joined-length (a ∷ rs) = length-append (entryOf (a .state)) (joined (entriesOf rs)) ∙ omega (arith, right-ten (a .state), joined-length rs)
@@ -69,7 +65,7 @@ entries-again [] rest = refl
 entries-again (a ∷ rs) rest =
     let e = entryOf (a .state) in
     let behind = bytesIn (joined (entriesOf rs)) ++ rest in
-    let here : wordsFrom (bytesIn e ++ behind) 0 10 ≡ e = rw (right-ten (a .state)) at (words-again e behind) in
+    let here : fieldsFrom (bytesIn e ++ behind) 0 10 ≡ e = rw (right-ten (a .state)) at (words-again e behind) in
     let size : length (bytesIn e) + 0 ≡ 20 = omega (arith, bytes-length e, right-ten (a .state)) in
     let later : entriesFrom (bytesIn e ++ behind) 20 (length (entriesOf rs)) ≡ entriesFrom behind 0 (length (entriesOf rs)) = rw size at (entries-after (bytesIn e) behind 0 (length (entriesOf rs))) in
     rw (bytes-append e (joined (entriesOf rs)), append-assoc (bytesIn e) (bytesIn (joined (entriesOf rs))) rest, here, later, entries-again rs rest)
@@ -99,8 +95,8 @@ taken-again rs =
 -- ---- from a lent trace to its entries and back
 
 module _ (t : List ℕ) (bytes : (i : ℕ) → byteAt t i < 256) where
-  words-back : (n at : ℕ) → at + n * 2 ≤ length t → drop at t ≡ bytesIn (wordsFrom t at n) ++ drop (at + n * 2) t
-  unfolding wordsFrom
+  words-back : (n at : ℕ) → at + n * 2 ≤ length t → drop at t ≡ bytesIn (fieldsFrom t at n) ++ drop (at + n * 2) t
+  unfolding fieldsFrom
   words-back zero at h = let e : at + 0 * 2 ≡ at = omega arith in rw e
   words-back (suc n) at h =
       let one : suc at ≡ at + 1 = omega arith in
@@ -117,7 +113,7 @@ module _ (t : List ℕ) (bytes : (i : ℕ) → byteAt t i < 256) where
   entries-back (suc n) at h =
       let far : at + 20 + n * 20 ≡ at + suc n * 20 = omega arith in
       words-back 10 at (omega arith)
-      ∙ rw (entries-back n (at + 20) (omega arith), bytes-append (wordsFrom t at 10) (joined (entriesFrom t (at + 20) n)), ← append-assoc (bytesIn (wordsFrom t at 10)) (bytesIn (joined (entriesFrom t (at + 20) n))) (drop (at + 20 + n * 20) t), far)
+      ∙ rw (entries-back n (at + 20) (omega arith), bytes-append (fieldsFrom t at 10) (joined (entriesFrom t (at + 20) n)), ← append-assoc (bytesIn (fieldsFrom t at 10)) (bytesIn (joined (entriesFrom t (at + 20) n))) (drop (at + 20 + n * 20) t), far)
 
   entries-length : (n at : ℕ) → length (entriesFrom t at n) ≡ n
   unfolding entriesFrom
@@ -135,7 +131,7 @@ module _ (t : List ℕ) (bytes : (i : ℕ) → byteAt t i < 256) where
 
   -- THE BYTES COME BACK
   pub bytes-back : whyTrace t ≡ 0 → t ≡ traceBytes (toldIn t)
-  unfolding toldIn traceBytes wordsFrom
+  unfolding toldIn traceBytes fieldsFrom
   bytes-back e =
       let size = size-taken e in
       let c = wordAt t 0 in

@@ -11,7 +11,7 @@ use borrow.Author.Tests.{eqb-true, eqb-false}
 use Rattle.step.specs.Step.{After}
 use Rattle.trace.specs.declared.Verdict.{Verdict}
 use Rattle.trace.specs.declared.Verdict.the-variants.{Accepted, Wrong, Missing, Extra}
-use Rattle.trace.specs.Trace.{entryOf, entriesOf, stepsOf, rightTrace, wordsFrom, entriesFrom, toldIn, orElse, firstWrong, compared, verdictOf}
+use Rattle.trace.specs.Trace.{entryOf, entriesOf, stepsOf, rightTrace, fieldsFrom, entriesFrom, toldIn, orElse, firstWrong, compared, verdictOf}
 use Rattle.trace.proofs.Laws.Bytes.{right-ten, words-length}
 use Rattle.trace.proofs.Laws.Right.{differ-same}
 use Rattle.trace.specs.First.{AtField, AtStep, EndsAt, Says}
@@ -99,7 +99,7 @@ compared-says step [] t at zero = refl
 compared-says step [] t at (suc n) = let none : step - step ≡ 0 = omega arith in (omega arith, rw none (record { all = refl; more = omega arith }))
 compared-says step (a ∷ rs) t at zero = let none : step - step ≡ 0 = omega arith in (omega arith, rw none (record { all = refl; more = omega arith }))
 compared-says step (a ∷ rs) t at (suc n) =
-    says-here step (entryOf (a .state)) (wordsFrom t at 10) (entriesOf rs) (entriesFrom t (at + 20) n) (firstWrong step 0 (entryOf (a .state)) (wordsFrom t at 10)) (compared (step + 1) (entriesOf rs) (entriesFrom t (at + 20) n))
+    says-here step (entryOf (a .state)) (fieldsFrom t at 10) (entriesOf rs) (entriesFrom t (at + 20) n) (firstWrong step 0 (entryOf (a .state)) (fieldsFrom t at 10)) (compared (step + 1) (entriesOf rs) (entriesFrom t (at + 20) n))
     (right-ten (a .state) ∙ sym (words-length t at 10)) refl (compared-says (step + 1) rs t (at + 20) n)
 
 -- THE VERDICT SAYS WHAT IS SO: the entries are the same; or the told step and field are the first that differ; or the told step is the first missing or extra one

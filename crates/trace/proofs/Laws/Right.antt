@@ -20,7 +20,7 @@ use Rattle.trace.specs.declared.Checked.{Checked}
 use Rattle.trace.specs.declared.Checked.the-variants as Checked
 use Rattle.trace.specs.declared.Made.{Made}
 use Rattle.trace.specs.declared.Made.the-variants as Made
-use Rattle.trace.specs.Trace.{entryOf, entriesOf, stepsOf, rightTrace, traceBytes, wordsFrom, entriesFrom, toldIn, whyTrace, orElse, firstWrong, compared, verdictOf, VerdictPage, accepted, wrong, missing, extra, verdictPage, checkedPage, whyCheck, buffersAfter, checkOf, madePage, whyMake, madeOf, makeOf}
+use Rattle.trace.specs.Trace.{entryOf, entriesOf, stepsOf, rightTrace, traceBytes, fieldsFrom, entriesFrom, toldIn, whyTrace, orElse, firstWrong, compared, verdictOf, VerdictPage, accepted, wrong, missing, extra, verdictPage, checkedPage, whyCheck, buffersAfter, checkOf, madePage, whyMake, madeOf, makeOf}
 use Rattle.trace.proofs.Laws.Bytes.{right-ten, words-length, told-again, taken-again, bytes-back}
 
 -- ---- entries that are the same, and only those, are accepted
@@ -58,8 +58,8 @@ compared-same step [] t at zero e = refl
 compared-same step [] t at (suc n) e = let z : _≡_ {A = ℕ} 0 1 = cc in absurd (omega arith)
 compared-same step (a ∷ rs) t at zero e = let z : _≡_ {A = ℕ} 0 1 = cc in absurd (omega arith)
 compared-same step (a ∷ rs) t at (suc n) e =
-    let both = both-accepted (firstWrong step 0 (entryOf (a .state)) (wordsFrom t at 10)) _ e in
-    let here : entryOf (a .state) ≡ wordsFrom t at 10 = differ-same step 0 _ _ (right-ten (a .state) ∙ sym (words-length t at 10)) (both .0) in
+    let both = both-accepted (firstWrong step 0 (entryOf (a .state)) (fieldsFrom t at 10)) _ e in
+    let here : entryOf (a .state) ≡ fieldsFrom t at 10 = differ-same step 0 _ _ (right-ten (a .state) ∙ sym (words-length t at 10)) (both .0) in
     let later = compared-same (step + 1) rs t (at + 20) n (both .1) in
     cc
 

@@ -1,6 +1,6 @@
 use mathlib.Core.Path.{refl}
 use Rattle.board.proofs.Laws.{got-give, did}
-use borrow.Author.Tests.{ne-eqb}
+use Rattle.formats2to4.proofs.Laws.Last.{format2-last}
 use Rattle.formats2to4.specs.Format2.{format2}
 use borrow.Author.Needs.{needs}
 use Rattle.formats2to4.proofs.format2.format2.Statement.{statement}
@@ -28,7 +28,7 @@ returns-4 : tie.Need-returns-4
 unfolding format2
 returns-4 c =
     rw (← c .before .before .before .before .only-register .ensures, ← c .before .before .before .format2-code .ensures)
-    (rw (ne-eqb _ _ (c .before .before .match .rest .0 .0 .1), ne-eqb _ _ (c .before .before .match .rest .0 .1), ne-eqb _ _ (c .before .before .match .rest .1)) (record { got = c .prtn .ensures .got; board = c .before .before .before .before .before .before .before .pre }))
+    (rw (format2-last _ _ _ _ (c .before .before .match .rest .0 .0 .1) (c .before .before .match .rest .0 .1) (c .before .before .match .rest .1) (search needs)) (record { got = c .prtn .ensures .got; board = c .before .before .before .before .before .before .before .pre }))
 
 pub format2-spec : {M : Type 1} → statement M
 format2-spec =

@@ -7,9 +7,9 @@ use Rattle.machine.proofs.early.stride.Tie as tie
 returns : tie.Need-returns
 returns c = record {
   step = c .before .before .before .before .before .step .ensures .same;
-  tally = rw (c .before .blank-at .ensures) at (c .noted .ensures .0);
+  tally = rw (c .before .blank-at .ensures) at (c .blank-noted .ensures .0);
   next = refl;
-  few = omega (arith, c .noted .ensures .1, c .before .before .before .before .before .before .before .before .before .before .before .before .before .before .pre .3);
+  few = omega (arith, c .blank-noted .ensures .1, c .before .before .before .before .before .before .before .before .before .before .before .before .before .before .pre .3);
   board = c .before .before .before .before .before .step .ensures .board;
 }
 

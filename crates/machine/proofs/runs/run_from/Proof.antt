@@ -7,7 +7,8 @@ use borrow.Author.Needs.{needs}
 use Rattle.board.specs.Exec.{beside, Board}
 use Rattle.state.specs.State.{heard}
 use Rattle.step.specs.declared.Cause.the-variants as Cause
-use Rattle.step.specs.Step.{after, calm, stepOf, Stepped, isCode}
+use Rattle.step.specs.Step.{after, stepOf, isCode}
+use Rattle.step.specs.Inner.{calm, DidStep}
 use Rattle.machine.specs.Run.{restOfRun, runOf, lastCause}
 use Rattle.machine.proofs.Laws.Run.{rest-more, rest-none, cause-more, cause-none, Hearing, hearing-new, hearing-old}
 use Rattle.machine.proofs.Laws.Turn.{turned-code, turned-blank, turned-other}
@@ -48,8 +49,8 @@ error-requires c κs = c .before .before .before .before .before .before .before
 other-requires : tie.Need-other-requires Inv-loop μ-loop
 other-requires c κs = (c .before .before .before .before .before .before .before .before .loop .inv .4, c .kind-of .ensures, ap isCode (c .kind-of .ensures) ∙ sym (c .before .before .before .before .goes-on .ensures) ∙ c .before .before .before .if2 .left)
 
-noted-requires : tie.Need-noted-requires Inv-loop μ-loop
-noted-requires c κs = omega (arith, c .before .before .before .before .before .loop-test .taken, c .before .before .before .before .before .before .loop .inv .1, c .before .before .before .before .before .before .before .before .before .before .before .before .pre .1)
+blank-noted-requires : tie.Need-blank-noted-requires Inv-loop μ-loop
+blank-noted-requires c κs = omega (arith, c .before .before .before .before .before .loop-test .taken, c .before .before .before .before .before .before .loop .inv .1, c .before .before .before .before .before .before .before .before .before .before .before .before .pre .1)
 
 add-i : tie.Need-add-i Inv-loop μ-loop
 add-i c = omega (arith, c .before .before .before .before .before .before .loop-test .taken, c .before .before .before .before .before .before .before .before .before .before .before .before .before .pre .1)
@@ -61,7 +62,7 @@ loop-again : tie.Need-loop-again Inv-loop μ-loop
 loop-again c =
     let h : Hearing (c .before .before .before .before .before .before .before .before .before .before .before .before .before .args .settings) (getD (c .before .before .before .before .before .before .before .before .before .before .before .before .before .args .lines .now) (c .before .before .before .before .before .before .before .loop .i) 0) (c .before .before .before .before .if1 .line) (c .before .before .before .before .if1 .out) (c .before .before .before .before .if1 .quiet) =
     ⊎-elim (λ w. hearing-new (w .3) (w .4) (w .5) (w .1 .ensures) (w .2 .ensures)) (λ w. hearing-old (w .1) (w .2) (w .3) (omega (arith, w .0 .left)) (c .before .before .before .before .before .before .before .loop .inv .5) (c .before .before .before .before .before .before .before .loop .inv .6)) (c .before .before .before .before .if1 .came) in
-    let p : Stepped (c .before .before .before .before .before .before .before .before .before .before .before .before .before .args .map .now) (stepOf (c .before .before .before .before .before .before .before .before .before .before .before .before .before .args .map .now) (c .before .before .before .before .if1 .out) (c .before .before .before .before .before .before .before .loop .state) (c .before .before .before .before .before .before .before .loop .image)) (record { state = c .before .before .if2 .state; cause = c .before .before .if2 .cause }) (beside (c .before .before .if2 .image) (c .before .before .if2 .log)) =
+    let p : DidStep (c .before .before .before .before .before .before .before .before .before .before .before .before .before .args .map .now) (stepOf (c .before .before .before .before .before .before .before .before .before .before .before .before .before .args .map .now) (c .before .before .before .before .if1 .out) (c .before .before .before .before .before .before .before .loop .state) (c .before .before .before .before .before .before .before .loop .image)) (record { state = c .before .before .if2 .state; cause = c .before .before .if2 .cause }) (beside (c .before .before .if2 .image) (c .before .before .if2 .log)) =
     ⊎-elim
     (λ w. turned-code (sym (c .before .before .before .goes-on .ensures) ∙ w .0 .taken) (w .3 .ensures) (w .7 .given .1) (w .9) (w .10) (w .11) (w .12))
     (λ v. ⊎-elim
@@ -72,8 +73,8 @@ loop-again c =
     let e : after (c .before .before .if2 .state) (c .before .before .if2 .image) (c .before .before .if2 .cause) ≡ stepOf (c .before .before .before .before .before .before .before .before .before .before .before .before .before .args .map .now) (heard (c .before .before .before .before .before .before .before .before .before .before .before .before .before .args .settings) (getD (c .before .before .before .before .before .before .before .before .before .before .before .before .before .args .lines .now) (c .before .before .before .before .before .before .before .loop .i) 0)) (c .before .before .before .before .before .before .before .loop .state) (c .before .before .before .before .before .before .before .loop .image) =
     p .turn ∙ ap (λ o. stepOf (c .before .before .before .before .before .before .before .before .before .before .before .before .before .args .map .now) o (c .before .before .before .before .before .before .before .loop .state) (c .before .before .before .before .before .before .before .loop .image)) (h .parted ∙ ap (λ l. heard (c .before .before .before .before .before .before .before .before .before .before .before .before .before .args .settings) l) (h .word)) in (
       omega (arith, c .before .before .before .before .before .before .loop-test .taken),
-      omega (arith, c .noted .ensures .1, c .before .before .before .before .before .before .before .loop .inv .1),
-      rest-more _ _ _ _ _ _ _ _ _ (c .before .before .before .before .before .before .loop-test .taken) e (rw (c .before .blank-at .ensures) at (c .noted .ensures .0)) ∙ c .before .before .before .before .before .before .before .loop .inv .2,
+      omega (arith, c .blank-noted .ensures .1, c .before .before .before .before .before .before .before .loop .inv .1),
+      rest-more _ _ _ _ _ _ _ _ _ (c .before .before .before .before .before .before .loop-test .taken) e (rw (c .before .blank-at .ensures) at (c .blank-noted .ensures .0)) ∙ c .before .before .before .before .before .before .before .loop .inv .2,
       cause-more _ _ _ _ _ _ _ _ (c .before .before .before .before .before .before .loop-test .taken) e ∙ c .before .before .before .before .before .before .before .loop .inv .3,
       p .board,
       h .parted,
@@ -109,7 +110,7 @@ run-from-spec =
     (λ c κs. search needs)
     other-requires
     (λ c κs. search needs)
-    noted-requires
+    blank-noted-requires
     add-i
     loop-less
     loop-again

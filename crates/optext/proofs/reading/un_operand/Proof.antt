@@ -51,7 +51,6 @@ un-operand-spec =
     (λ c. search needs)
     (λ c κs. search needs)
     (λ c κs. search needs)
-    (λ c κs. search needs)
     (λ c. (rw (c .before .enum-told .given .1) (c .read-as .ensures), rw (c .read-as .ensures) (omega arith)))
     (λ c. (rw (c .before .before .enum-told2 .given .1, ← c .before .un-hex4 .ensures) (c .read-as2 .ensures), rw (c .read-as2 .ensures) (omega arith)))
     (λ c. (rw (c .before .before .enum-told3 .given .1, ← c .before .un-hex2 .ensures .0) (c .read-as3 .ensures), rw (c .read-as3 .ensures) (omega arith)))
@@ -64,4 +63,4 @@ un-operand-spec =
     (λ c. (rw (c .before .enum-told10 .given .1) (c .un-mode .ensures .0), omega arith))
     (λ c. (rw (c .before .enum-told11 .given .1) (c .un-addr .ensures .0), omega arith))
     (λ c. (rw (c .before .enum-told12 .given .1) (c .un-src .ensures .0), omega arith))
-    (λ c. (rw (c .before .before .before .enum-told13 .given .1, ← c .before .before .un-hex42 .ensures, ← c .before .reserved-from .ensures) (c .read-as10 .ensures), rw (c .read-as10 .ensures) (omega arith))))
+    (λ c. (rw (c .before .before .enum-told13 .given .1, ← c .before .un-word .ensures) (c .read-as10 .ensures), rw (c .read-as10 .ensures) (omega arith))))

@@ -2,6 +2,7 @@ use mathlib.Core.Path.{ap, _∙_}
 use Prim.Native.Nat.{_+_, _-_, _*_}
 use native.Mathlib.Omega.{arith}
 use lib.ListN.{length}
+use Rattle.optext.specs.Rows.{rowWidth}
 use Rattle.optext.proofs.Laws.Table.{flat-length, name-part}
 use borrow.Author.Needs.{needs}
 use Rattle.optext.proofs.rows.name_of.Statement.{statement}
@@ -15,7 +16,7 @@ part-result-end c =
 returns : tie.Need-returns
 returns c =
     let k = c .before .before .before .args .k in
-    name-part k (k * 11 + c .before .name-len .result - k * 11) _ (c .before .before .before .pre .1) (c .before .before .before .pre .0) (omega (arith, c .before .name-len .ensures .0))
+    name-part k (k * rowWidth + c .before .name-len .result - k * rowWidth) _ (c .before .before .before .pre .1) (c .before .before .before .pre .0) (omega (arith, c .before .name-len .ensures .0))
 
 pub name-of-spec : {M : Type 1} → statement M
 name-of-spec =

@@ -3,16 +3,16 @@ use Rattle.shift.proofs.turning.turn.Statement.{statement}
 use Rattle.shift.proofs.turning.turn.Tie as tie
 
 returns : tie.Need-returns
-returns c = rw (c .before .enum-told .given .1) (c .right .ensures)
+returns c = rw (c .before .enum-told .given .1) (c .right-one .ensures)
 
 returns-2 : tie.Need-returns-2
-returns-2 c = rw (c .before .enum-told2 .given .1) (c .left .ensures)
+returns-2 c = rw (c .before .enum-told2 .given .1) (c .left-one .ensures)
 
 returns-3 : tie.Need-returns-3
-returns-3 c = rw (c .before .enum-told3 .given .1) (c .right2 .ensures)
+returns-3 c = rw (c .before .enum-told3 .given .1) (c .right-one2 .ensures)
 
 returns-4 : tie.Need-returns-4
-returns-4 c = rw (c .before .enum-told4 .given .1) (c .left2 .ensures)
+returns-4 c = rw (c .before .enum-told4 .given .1) (c .left-one2 .ensures)
 
 pub turn-spec : {M : Type 1} → statement M
 turn-spec =

@@ -1,4 +1,4 @@
-use Rattle.step.specs.Xct.{unopened}
+use Rattle.step.specs.Inner.{unopened}
 use mathlib.Core.Path.{sym, ap}
 use borrow.Author.Needs.{needs}
 use Rattle.step.proofs.xct.unopened.Statement.{statement}

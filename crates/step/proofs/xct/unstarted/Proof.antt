@@ -1,4 +1,4 @@
-use Rattle.step.specs.Xct.{unstarted}
+use Rattle.step.specs.Inner.{unstarted}
 use mathlib.Core.Path.{sym, ap}
 use borrow.Author.Needs.{needs}
 use Rattle.step.proofs.xct.unstarted.Statement.{statement}

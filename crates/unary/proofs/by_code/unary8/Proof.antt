@@ -2,42 +2,6 @@ use borrow.Author.Needs.{needs}
 use Rattle.unary.proofs.by_code.unary8.Statement.{statement}
 use Rattle.unary.proofs.by_code.unary8.Tie as tie
 
-returns : tie.Need-returns
-returns c = rw (c .before .enum-told .given .1) (c .one-bit8 .ensures)
-
-returns-2 : tie.Need-returns-2
-returns-2 c = rw (c .before .enum-told2 .given .1) (c .one-bit82 .ensures)
-
-returns-3 : tie.Need-returns-3
-returns-3 c = rw (c .before .enum-told3 .given .1) (c .mov8 .ensures)
-
-returns-4 : tie.Need-returns-4
-returns-4 c = rw (c .before .enum-told4 .given .1) (c .one-bit83 .ensures)
-
-returns-5 : tie.Need-returns-5
-returns-5 c = rw (c .before .enum-told5 .given .1) (c .mov82 .ensures)
-
-returns-6 : tie.Need-returns-6
-returns-6 c = rw (c .before .enum-told6 .given .1) (c .clr .ensures)
-
-returns-7 : tie.Need-returns-7
-returns-7 c = rw (c .before .enum-told7 .given .1) (c .one-bit84 .ensures)
-
-returns-8 : tie.Need-returns-8
-returns-8 c = rw (c .before .enum-told8 .given .1) (c .swad .ensures)
-
-returns-9 : tie.Need-returns-9
-returns-9 c = rw (c .before .enum-told9 .given .1) (c .com .ensures)
-
-returns-10 : tie.Need-returns-10
-returns-10 c = rw (c .before .enum-told10 .given .1) (c .neg .ensures)
-
-returns-11 : tie.Need-returns-11
-returns-11 c = rw (c .before .enum-told11 .given .1) (c .inc .ensures)
-
-returns-12 : tie.Need-returns-12
-returns-12 c = rw (c .before .enum-told12 .given .1) (c .dec .ensures)
-
 pub unary8-spec : {M : Type 1} → statement M
 unary8-spec =
     tie.close
@@ -66,15 +30,15 @@ unary8-spec =
     (λ c κs. search needs)
     (λ c. search needs)
     (λ c κs. search needs)
-    returns
-    returns-2
-    returns-3
-    returns-4
-    returns-5
-    returns-6
-    returns-7
-    returns-8
-    returns-9
-    returns-10
-    returns-11
-    returns-12)
+    (λ c. rw (c .before .enum-told .given .1) (c .one-bit8 .ensures))
+    (λ c. rw (c .before .enum-told2 .given .1) (c .one-bit82 .ensures))
+    (λ c. rw (c .before .enum-told3 .given .1) (c .mov8 .ensures))
+    (λ c. rw (c .before .enum-told4 .given .1) (c .one-bit83 .ensures))
+    (λ c. rw (c .before .enum-told5 .given .1) (c .mov82 .ensures))
+    (λ c. rw (c .before .enum-told6 .given .1) (c .clr .ensures))
+    (λ c. rw (c .before .enum-told7 .given .1) (c .one-bit84 .ensures))
+    (λ c. rw (c .before .enum-told8 .given .1) (c .swad .ensures))
+    (λ c. rw (c .before .enum-told9 .given .1) (c .com .ensures))
+    (λ c. rw (c .before .enum-told10 .given .1) (c .neg .ensures))
+    (λ c. rw (c .before .enum-told11 .given .1) (c .inc .ensures))
+    (λ c. rw (c .before .enum-told12 .given .1) (c .dec .ensures)))
