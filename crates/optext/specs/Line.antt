@@ -5,11 +5,11 @@ use Prim.Native.Nat.{ℕ, _+_, _*_, _/_, _%_}
 use Prim.Native.Char.{code}
 use lib.Dec.{leb, eqb}
 use lib.ListN.{getD}
-use Rattle.optext.specs.declared.rows.Kind.{Kind}
-use Rattle.optext.specs.declared.rows.Kind.the-variants.{None, Mask, Disp, Reg, Arg4, Arg6, Count, High, Mid, Dst, Addr, Src, Word}
+use Rattle.optext.specs.declared.rows.OperandKind.{OperandKind}
+use Rattle.optext.specs.declared.rows.OperandKind.the-variants.{None, Mask, Disp, Reg, Arg4, Arg6, Count, High, Mid, Dst, Addr, Src, Word}
 use Rattle.optext.specs.First.{firstFrom}
 use Rattle.hexdigits.specs.Digits.{letters, hexOf, hex4, hex2}
-use Rattle.optext.specs.Rows.{Place, placeOf, wordRow, baseOf, firstOf, secondOf, nameOf}
+use Rattle.optext.specs.Rows.{OperandPlace, placeOf, wordRow, baseOf, firstOf, secondOf, nameOf}
 
 -- a register's name, R0 to R5, SP, PC
 unfoldable pub registers : List ℕ
@@ -53,7 +53,7 @@ unfoldable pub modeTakes : ℕ → ℕ
 modeTakes f = cond (eqb (f / 16) 3) 1 (cond (eqb (f / 16) 1) (cond (eqb (f % 8) 7) 1 0) 0)
 
 -- the operand of a kind in the first word w, where x is the operand's own word
-abbrev pub operandText : Kind → ℕ → ℕ → List ℕ
+abbrev pub operandText : OperandKind → ℕ → ℕ → List ℕ
 operandText None w x = []
 operandText Mask w x = hex4 x
 operandText Disp w x = hex2 (w % 256)
@@ -68,7 +68,7 @@ operandText Addr w x = modeText (w % 64) x
 operandText Src w x = modeText (w / 64 % 64) x
 operandText Word w x = hex4 w
 
-abbrev pub takes : Kind → ℕ → ℕ
+abbrev pub takes : OperandKind → ℕ → ℕ
 takes None w = 0
 takes Mask w = 1
 takes Disp w = 0
@@ -84,10 +84,10 @@ takes Src w = modeTakes (w / 64 % 64)
 takes Word w = 0
 
 -- the bits of the first word w that the operand stands for
-abbrev pub bitsOf : Place → ℕ → ℕ
+abbrev pub bitsOf : OperandPlace → ℕ → ℕ
 bitsOf p w = cond (eqb (p .size) 1) 0 (cond (eqb (p .unit) 1) (w % p .size) (w / p .unit % p .size * p .unit))
 
-abbrev pub fieldOf : Kind → ℕ → ℕ
+abbrev pub fieldOf : OperandKind → ℕ → ℕ
 fieldOf k w = bitsOf (placeOf k) w
 
 -- reserved and illegal first words: format 11 (F0 to FF), and JSR and LEA (70 to 73) with mode 0
@@ -102,7 +102,7 @@ unfoldable pub rowOf : ℕ → ℕ
 rowOf w = cond (isReserved w) wordRow (firstFrom (fitsRow w) wordRow 0)
 
 -- the separator and the operand, if there is one
-abbrev pub isShown : Kind → Bool
+abbrev pub isShown : OperandKind → Bool
 isShown None = false
 isShown Mask = true
 isShown Disp = true
@@ -117,7 +117,7 @@ isShown Addr = true
 isShown Src = true
 isShown Word = true
 
-unfoldable pub sepText : ℕ → Kind → ℕ → ℕ → List ℕ
+unfoldable pub sepText : ℕ → OperandKind → ℕ → ℕ → List ℕ
 sepText s k w x = cond (isShown k) (s ∷ operandText k w x) []
 
 -- the line of the first word w in the row k, where x and y are the first and the second operand's own words

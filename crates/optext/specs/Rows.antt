@@ -6,19 +6,19 @@ use Prim.Native.Char.{code}
 use Prim.Native.String.{String}
 use lib.Dec.{eqb}
 use lib.ListN.{getD}
-use Rattle.optext.specs.declared.rows.Kind.{Kind}
-use Rattle.optext.specs.declared.rows.Kind.the-variants.{None, Mask, Disp, Reg, Arg4, Arg6, Count, High, Mid, Dst, Addr, Src, Word}
+use Rattle.optext.specs.declared.rows.OperandKind.{OperandKind}
+use Rattle.optext.specs.declared.rows.OperandKind.the-variants.{None, Mask, Disp, Reg, Arg4, Arg6, Count, High, Mid, Dst, Addr, Src, Word}
 use Rattle.hexdigits.specs.Digits.{letters, hex4}
 
 -- the operands are in the order of the manual's FORMAT
 pub record Row : Type 0 where
   pub name : List ℕ
   pub base : ℕ
-  pub first : Kind
-  pub second : Kind
+  pub first : OperandKind
+  pub second : OperandKind
 
 -- rows with the same operands, whose base op codes begin at b and are d apart
-abbrev pub run : ℕ → ℕ → Kind → Kind → List String → List Row
+abbrev pub run : ℕ → ℕ → OperandKind → OperandKind → List String → List Row
 run b d f s [] = []
 run b d f s (n ∷ ns) = record { name = letters n; base = b; first = f; second = s } ∷ run (b + d) d f s ns
 
@@ -83,21 +83,21 @@ nameOf k = theRow k .name
 abbrev pub baseOf : ℕ → ℕ
 baseOf k = theRow k .base
 
-abbrev pub firstOf : ℕ → Kind
+abbrev pub firstOf : ℕ → OperandKind
 firstOf k = theRow k .first
 
-abbrev pub secondOf : ℕ → Kind
+abbrev pub secondOf : ℕ → OperandKind
 secondOf k = theRow k .second
 
 -- where an operand stands in the first word: in the bits from the one that is worth `unit` on, as a number below `size`
-pub record Place : Type 0 where
+pub record OperandPlace : Type 0 where
   pub unit : ℕ
   pub size : ℕ
 
-abbrev pub place : ℕ → ℕ → Place
+abbrev pub place : ℕ → ℕ → OperandPlace
 place u n = record { unit = u; size = n }
 
-abbrev pub placeOf : Kind → Place
+abbrev pub placeOf : OperandKind → OperandPlace
 placeOf None = place 1 1
 placeOf Mask = place 1 1
 placeOf Disp = place 1 256
@@ -116,7 +116,7 @@ placeOf Word = place 1 65536
 abbrev pub rowWidth : ℕ
 rowWidth = 12
 
-abbrev pub letterOf : Kind → ℕ
+abbrev pub letterOf : OperandKind → ℕ
 letterOf None = code "-"
 letterOf Mask = code "M"
 letterOf Disp = code "8"
@@ -131,7 +131,7 @@ letterOf Addr = code "J"
 letterOf Src = code "S"
 letterOf Word = code "W"
 
-unfoldable pub kindAs : ℕ → Kind
+unfoldable pub kindAs : ℕ → OperandKind
 kindAs c =
     cond (eqb c (code "M")) Mask
     (cond (eqb c (code "8")) Disp

@@ -11,8 +11,8 @@ use lib.Dec.{ltb, leb, eqb, eqb→eq, leb→le, ltb→lt}
 use borrow.Author.Tests.{eq-eqb, ne-eqb, lt-ltb, le-ltb}
 use lib.ListN.{length, getD, drop}
 use lib.Seq.{drop-drop}
-use Rattle.optext.specs.declared.rows.Kind.{Kind}
-use Rattle.optext.specs.declared.rows.Kind.the-variants.{None, Mask, Disp, Reg, Arg4, Arg6, Count, High, Mid, Dst, Addr, Src, Word}
+use Rattle.optext.specs.declared.rows.OperandKind.{OperandKind}
+use Rattle.optext.specs.declared.rows.OperandKind.the-variants.{None, Mask, Disp, Reg, Arg4, Arg6, Count, High, Mid, Dst, Addr, Src, Word}
 use Rattle.hexdigits.specs.Digits.{digits, hexOf, hex4, hex2}
 use Rattle.optext.specs.Digits.{unHex, unHex4, unHex2}
 use Rattle.optext.specs.Rows.{rowCount, rowWidth, rows, tableBytes, theRow, baseOf}
@@ -31,7 +31,7 @@ ownOf n x = cond (eqb n 1) x 0
 abbrev plainTakes : ℕ → ℕ → ℕ
 plainTakes p r = cond (eqb p 3) 1 (cond (eqb p 1) (cond (eqb r 7) 1 0) 0)
 
-abbrev pub wordOf : Kind → ℕ → ℕ → ℕ
+abbrev pub wordOf : OperandKind → ℕ → ℕ → ℕ
 wordOf k w x = ownOf (takes k w) x
 
 -- digits
@@ -50,7 +50,7 @@ digit-high d h = ltb→lt (hexOf d) 71 (at (λ d. ltb (hexOf d) 71) 16 tt d h)
 noSign : ℕ → Bool
 noSign d = cond (eqb (hexOf d) 64) false true
 
-pub digit-sign : (d : ℕ) → d < 16 → hexOf d ≡ 64 → ⊥
+digit-sign : (d : ℕ) → d < 16 → hexOf d ≡ 64 → ⊥
 unfolding noSign hexOf digits
 digit-sign d h e = rw (eq-eqb (hexOf d) 64 e) at (at noSign 16 tt d h)
 
@@ -127,7 +127,7 @@ pc-back : (x : ℕ) (t : List ℕ) → x < 65536 → unPlain (plainText 1 7 x ++
 unfolding plainText literalText unPlain ownOf hex4
 pc-back x t l = ap (λ (y : ℕ). operandRead 23 y 5) (hex4-back x t l)
 
-pub plain-back : (p r x : ℕ) (t : List ℕ) → p < 4 → r < 8 → x < 65536
+plain-back : (p r x : ℕ) (t : List ℕ) → p < 4 → r < 8 → x < 65536
     → unPlain (plainText p r x ++ t) ≡ operandRead (p * 16 + r) (ownOf (plainTakes p r) x) (length (plainText p r x))
 unfolding plainText regText upText literalText downText offsetText unPlain ownOf hex4 notPc
 plain-back zero r x t h g l =
@@ -156,7 +156,7 @@ plain-sign p r x t g l =
     other : (n : ℕ) → n < 64 → n ≡ 64 → ⊥
     other n h e = omega arith
 
-pub mode-back : (f x : ℕ) (t : List ℕ) → f < 64 → x < 65536 → unMode (modeText f x ++ t) ≡ operandRead f (ownOf (modeTakes f) x) (length (modeText f x))
+mode-back : (f x : ℕ) (t : List ℕ) → f < 64 → x < 65536 → unMode (modeText f x ++ t) ≡ operandRead f (ownOf (modeTakes f) x) (length (modeText f x))
 unfolding modeTakes unMode
 mode-back f x t h l =
     let p : f / 16 < 4 = omega arith in
@@ -172,7 +172,7 @@ pub addressed-same : (f : ℕ) → 8 ≤ f → addressed f ≡ f
 unfolding addressed
 addressed-same f h = rw (le-ltb f 8 h) refl
 
-pub op-back : (k : Kind) (w x : ℕ) (t : List ℕ) → w < 65536 → x < 65536 → Allowed k w
+pub op-back : (k : OperandKind) (w x : ℕ) (t : List ℕ) → w < 65536 → x < 65536 → Allowed k w
     → unOp k (operandText k w x ++ t) ≡ operandRead (fieldOf k w) (wordOf k w x) (length (operandText k w x))
 unfolding hex4 hex2 regText ownOf
 op-back None w x t g l a = refl
@@ -207,7 +207,7 @@ mode-ignores : (f x y : ℕ) → f < 64 → modeTakes f ≡ 0 → modeText f x �
 unfolding modeText modeTakes
 mode-ignores f x y h e = rw (plain-ignores (f / 16) (f % 8) x y (omega arith) e) refl
 
-pub op-ignores : (k : Kind) (w x y : ℕ) → takes k w ≡ 0 → operandText k w x ≡ operandText k w y
+pub op-ignores : (k : OperandKind) (w x y : ℕ) → takes k w ≡ 0 → operandText k w x ≡ operandText k w y
 op-ignores None w x y e = refl
 op-ignores Mask w x y e = absurd (omega arith)
 op-ignores Disp w x y e = refl
@@ -222,6 +222,6 @@ op-ignores Addr w x y e = mode-ignores (w % 64) x y (omega arith) e
 op-ignores Src w x y e = mode-ignores (w / 64 % 64) x y (omega arith) e
 op-ignores Word w x y e = refl
 
-pub word-taken : (k : Kind) (w x : ℕ) → takes k w ≡ 1 → wordOf k w x ≡ x
+pub word-taken : (k : OperandKind) (w x : ℕ) → takes k w ≡ 1 → wordOf k w x ≡ x
 unfolding ownOf
 word-taken k w x e = rw e refl

@@ -10,7 +10,7 @@ use lib.ListN.{length, take, drop, getD, length-take, List·getD-eq-default}
 use lib.Seq.{take-append-seam, length-take-le, getD-take}
 use borrow.Author.Tests.{ltb-false, le-ltb}
 use Rattle.hexdigits.specs.Over.{inFrontOf}
-use Rattle.optext.specs.declared.rows.Kind.{Kind}
+use Rattle.optext.specs.declared.rows.OperandKind.{OperandKind}
 use Rattle.optext.specs.declared.Written.{Written}
 use Rattle.optext.specs.declared.Written.the-variants.{Line}
 use Rattle.optext.specs.declared.ReadBack.{ReadBack}
@@ -30,7 +30,7 @@ use Rattle.optext.proofs.Laws.Theorems.{reads-text, written-one, read-o
 
 -- ---- words lent past those taken
 
-same-op : (k : Kind) (w x y : ℕ) → (takes k w ≡ 1 → x ≡ y) → operandText k w x ≡ operandText k w y
+same-op : (k : OperandKind) (w x y : ℕ) → (takes k w ≡ 1 → x ≡ y) → operandText k w x ≡ operandText k w y
 same-op k w x y f = go (takes k w) refl
   where
     go : (n : ℕ) → takes k w ≡ n → operandText k w x ≡ operandText k w y
@@ -43,7 +43,7 @@ unfolding opText sepText
 line-same w x y x′ y′ f g = rw (same-op (firstOf (rowOf w)) w x x′ f, same-op (secondOf (rowOf w)) w y y′ g) refl
 
 -- the text is that of the words taken
-pub text-taken : (ws : List ℕ) → textOf (take (taken (getD ws 0 0)) ws) ≡ textOf ws
+text-taken : (ws : List ℕ) → textOf (take (taken (getD ws 0 0)) ws) ≡ textOf ws
 unfolding textOf taken
 text-taken ws =
     let w = getD ws 0 0 in

@@ -69,10 +69,10 @@ at f (suc n) t k h =
     (λ e. at f n (both-right (f n) (allBelow f n) t) k (omega arith)) (eq-cases k n)
 
 -- the first place that passes a test
-pub first-here : (f : ℕ → Bool) (n i : ℕ) → f i ≡ true → firstFrom f (suc n) i ≡ i
+first-here : (f : ℕ → Bool) (n i : ℕ) → f i ≡ true → firstFrom f (suc n) i ≡ i
 first-here f n i e = rw e refl
 
-pub first-step : (f : ℕ → Bool) (n i : ℕ) → f i ≡ false → firstFrom f (suc n) i ≡ firstFrom f n (suc i)
+first-step : (f : ℕ → Bool) (n i : ℕ) → f i ≡ false → firstFrom f (suc n) i ≡ firstFrom f n (suc i)
 first-step f n i e = rw e refl
 
 pub first-le : (f : ℕ → Bool) (n i : ℕ) → firstFrom f n i ≤ i + n

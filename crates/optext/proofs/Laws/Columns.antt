@@ -37,7 +37,7 @@ module _ (t : List ℕ) where
   near-text vs h = nearest t (getD vs 0 0) (getD vs 1 0) (getD vs (1 + takes (firstOf (rowOf (getD vs 0 0))) (getD vs 0 0)) 0) (h .words 0) (h .words 1) (h .words (1 + takes (firstOf (rowOf (getD vs 0 0))) (getD vs 0 0)))
 
   -- it is a text that the writer makes
-  pub guess-text : IsText (guessLine t)
+  guess-text : IsText (guessLine t)
   unfolding guessLine
   guess-text = record {
     words = wordsOf (guessOf t .w) (guessOf t .x) (guessOf t .y);
@@ -59,7 +59,7 @@ module _ (t : List ℕ) where
   }
 
   -- no line is longer than 24, so no column is further
-  pub column-le : agree t (guessLine t) ≤ 24
+  column-le : agree t (guessLine t) ≤ 24
   unfolding guessLine
   column-le =
       let l : length (guessLine t) ≤ 24 = line-le (guessOf t .w) (guessOf t .x) (guessOf t .y) in
@@ -71,7 +71,7 @@ module _ (t : List ℕ) where
   own-line i = subst (λ (s : List ℕ). agree t s ≡ length s → guessLine t ≡ s) (i .text) (near-text (i .words) (i .whole) .whole) (subst (λ (s : List ℕ). agree s t ≡ length t) (append-nil t) (agree-self t []))
 
   -- and where the line of the guess goes on after the column, no text ends there
-  pub not-whole : agree t (guessLine t) < length (guessLine t) → IsText (take (agree t (guessLine t)) t) → ⊥
+  not-whole : agree t (guessLine t) < length (guessLine t) → IsText (take (agree t (guessLine t)) t) → ⊥
   not-whole l i =
       let c : ℕ = agree t (guessLine t) in
       let k : length (take c t) ≡ c = length-take-le c t (agree-le-text t (guessLine t)) in
@@ -81,7 +81,7 @@ module _ (t : List ℕ) where
       omega arith
 
   -- but where it ends at the column, the text up to there is it
-  pub whole-there : agree t (guessLine t) ≡ length (guessLine t) → IsText (take (agree t (guessLine t)) t)
+  whole-there : agree t (guessLine t) ≡ length (guessLine t) → IsText (take (agree t (guessLine t)) t)
   whole-there e = record {
     words = guess-text .words;
     whole = guess-text .whole;

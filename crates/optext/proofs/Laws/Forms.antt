@@ -9,8 +9,8 @@ use lib.Dec.{eqb}
 use borrow.Author.Tests.{ne-eqb}
 use lib.ListN.{length}
 use Rattle.optext.proofs.Laws.Choose.{choose}
-use Rattle.optext.specs.declared.rows.Kind.{Kind}
-use Rattle.optext.specs.declared.rows.Kind.the-variants.{None, Mask, Disp, Reg, Arg4, Arg6, Count, High, Mid, Dst, Addr, Src, Word}
+use Rattle.optext.specs.declared.rows.OperandKind.{OperandKind}
+use Rattle.optext.specs.declared.rows.OperandKind.the-variants.{None, Mask, Disp, Reg, Arg4, Arg6, Count, High, Mid, Dst, Addr, Src, Word}
 use Rattle.hexdigits.specs.Digits.{hex4, hex2}
 use Rattle.optext.specs.Line.{regText, upText, literalText, downText, offsetText, plainText, modeText, modeTakes, operandText, takes, isShown, sepText}
 
@@ -42,11 +42,11 @@ pub mode-at : (f x : ℕ) → (f / 8 % 2 ≡ 0 → ⊥) → modeText f x ≡ cod
 unfolding modeText
 mode-at f x h = rw (ne-eqb (f / 8 % 2) 0 h) refl
 
-pub sep-none : (s : ℕ) (k : Kind) (w x : ℕ) → isShown k ≡ false → sepText s k w x ≡ []
+pub sep-none : (s : ℕ) (k : OperandKind) (w x : ℕ) → isShown k ≡ false → sepText s k w x ≡ []
 unfolding sepText
 sep-none s k w x h = rw h refl
 
-pub sep-some : (s : ℕ) (k : Kind) (w x : ℕ) → isShown k ≡ true → sepText s k w x ≡ s ∷ operandText k w x
+pub sep-some : (s : ℕ) (k : OperandKind) (w x : ℕ) → isShown k ≡ true → sepText s k w x ≡ s ∷ operandText k w x
 unfolding sepText
 sep-some s k w x h = rw h refl
 
@@ -65,7 +65,7 @@ mode-le f x =
     let h = plain-le (f / 16) (f % 8) x in
     choose (λ (s : List ℕ). length s ≤ 9) (eqb (f / 8 % 2) 0) _ _ (omega arith) (omega arith)
 
-pub operand-le : (k : Kind) (w x : ℕ) → length (operandText k w x) ≤ 9
+pub operand-le : (k : OperandKind) (w x : ℕ) → length (operandText k w x) ≤ 9
 unfolding hex4 hex2 regText
 operand-le None w x = omega arith
 operand-le Mask w x = omega arith
@@ -81,7 +81,7 @@ operand-le Addr w x = mode-le (w % 64) x
 operand-le Src w x = mode-le (w / 64 % 64) x
 operand-le Word w x = omega arith
 
-pub sep-le : (s : ℕ) (k : Kind) (w x : ℕ) → length (sepText s k w x) ≤ 10
+pub sep-le : (s : ℕ) (k : OperandKind) (w x : ℕ) → length (sepText s k w x) ≤ 10
 unfolding sepText
 sep-le s k w x =
     let h = operand-le k w x in
@@ -95,7 +95,7 @@ pub mode-takes-le : (f : ℕ) → modeTakes f ≤ 1
 unfolding modeTakes
 mode-takes-le f = choose One (eqb (f / 16) 3) _ _ (omega arith) (choose One (eqb (f / 16) 1) _ _ (choose One (eqb (f % 8) 7) _ _ (omega arith) (omega arith)) (omega arith))
 
-pub takes-le : (k : Kind) (w : ℕ) → takes k w ≤ 1
+pub takes-le : (k : OperandKind) (w : ℕ) → takes k w ≤ 1
 takes-le None w = omega arith
 takes-le Mask w = omega arith
 takes-le Disp w = omega arith

@@ -8,8 +8,8 @@ use native.Mathlib.Omega.{arith}
 use lib.Dec.{ltb, eqb}
 use lib.ListN.{length, drop, getD, length-append}
 use lib.Seq.{drop-drop}
-use Rattle.optext.specs.declared.rows.Kind.{Kind}
-use Rattle.optext.specs.declared.rows.Kind.the-variants.{None, Mask, Disp, Reg, Arg4, Arg6, Count, High, Mid, Dst, Addr, Src, Word}
+use Rattle.optext.specs.declared.rows.OperandKind.{OperandKind}
+use Rattle.optext.specs.declared.rows.OperandKind.the-variants.{None, Mask, Disp, Reg, Arg4, Arg6, Count, High, Mid, Dst, Addr, Src, Word}
 use Rattle.optext.specs.declared.reading.Operand.{Operand}
 use Rattle.optext.specs.First.{agree}
 use Rattle.optext.specs.Rows.{rowCount, nameOf, baseOf, firstOf, secondOf}
@@ -41,7 +41,7 @@ mode-word : (t : List ℕ) → unMode t .word < 65536
 unfolding unMode
 mode-word t = choose IsWord (eqb (getD t 0 0) 64) _ _ (plain-word (drop 1 t)) (plain-word t)
 
-op-word : (k : Kind) (t : List ℕ) → unOp k t .word < 65536
+op-word : (k : OperandKind) (t : List ℕ) → unOp k t .word < 65536
 op-word None t = omega arith
 op-word Mask t = hex4-lt t
 op-word Disp t = omega arith
@@ -65,7 +65,7 @@ module _ (t : List ℕ) where
   unfolding guessB
   ok-2 = part-ok (secondOf (rowFor t)) (drop (length (nameOf (rowFor t)) + 1 + guessA t .len + 1) t)
 
-  pub guess-w : guessOf t .w ≡ baseOf (rowFor t) + guessA t .part + guessB t .part
+  guess-w : guessOf t .w ≡ baseOf (rowFor t) + guessA t .part + guessB t .part
   unfolding guessOf
   guess-w = let h = guess-lt (rowFor t) (guessA t .part) (guessB t .part) (rowAt-lt t) ok-1 ok-2 in omega arith
 
@@ -80,11 +80,11 @@ module _ (t : List ℕ) where
   unfolding guessOf guessB
   lt-y = op-word (secondOf (rowFor t)) (drop (length (nameOf (rowFor t)) + 1 + guessA t .len + 1) t)
 
-  pub row-same : rowOf (guessOf t .w) ≡ rowFor t
+  row-same : rowOf (guessOf t .w) ≡ rowFor t
   row-same = rw guess-w (inside (rowFor t) (guessA t .part) (guessB t .part) (rowAt-lt t) ok-1 ok-2)
 
   -- the second operand with the comma, as it was read
-  abbrev sepAgain : Kind → Operand → List ℕ
+  abbrev sepAgain : OperandKind → Operand → List ℕ
   sepAgain k o = cond (isShown k) (44 ∷ again k o) []
 
   guess-line : opText (guessOf t .w) (guessOf t .x) (guessOf t .y) ≡ headOf (rowFor t) ++ (again (firstOf (rowFor t)) (guessA t) ++ sepAgain (secondOf (rowFor t)) (guessB t))
@@ -94,7 +94,7 @@ module _ (t : List ℕ) where
       ∙ rw (row-same, guess-w, part-1 (rowFor t) (guessA t .part) (guessB t .part) (guessA t .word) (rowAt-lt t) ok-1 ok-2, part-2 (rowFor t) (guessA t .part) (guessB t .part) (guessB t .word) (rowAt-lt t) ok-1 ok-2) refl
 
 -- the second operand, after the comma
-near-sep : (s : Kind) (v : List ℕ) (w y : ℕ) → w < 65536 → y < 65536 → Allowed s w
+near-sep : (s : OperandKind) (v : List ℕ) (w y : ℕ) → w < 65536 → y < 65536 → Allowed s w
     → Near v (sepText 44 s w y) (cond (isShown s) (44 ∷ again s (unOp s (drop 1 v))) [])
 near-sep s v w y lw ly a =
     ⊎-elim (λ e. rw (sep-none 44 s w y e, e) (near-nil v))
@@ -103,7 +103,7 @@ near-sep s v w y lw ly a =
     (bool-cases (isShown s))
 
 -- the operands
-near-operands : (f s : Kind) (u : List ℕ) (w x y : ℕ) → w < 65536 → x < 65536 → y < 65536 → Allowed f w → Allowed s w
+near-operands : (f s : OperandKind) (u : List ℕ) (w x y : ℕ) → w < 65536 → x < 65536 → y < 65536 → Allowed f w → Allowed s w
     → Near u (operandText f w x ++ sepText 44 s w y) (again f (unOp f u) ++ cond (isShown s) (44 ∷ again s (unOp s (drop (unOp f u .len + 1) u))) [])
 near-operands f s u w x y lw lx ly a b =
     near-seq u (operandText f w x) (sepText 44 s w y) (again f (unOp f u)) (cond (isShown s) (44 ∷ again s (unOp s (drop (unOp f u .len + 1) u))) [])

@@ -46,7 +46,7 @@ unfolding bestBelow
 best-old f i b v m c u e p q l x y = rw (x, y, add-one i, ← e, le-ltb (f b) (f i) (omega arith)) (refl, p)
 
 -- a rule of each pair of rows
-abbrev pub allIn : (Row → Bool) → List Row → Bool
+abbrev allIn : (Row → Bool) → List Row → Bool
 allIn f [] = true
 allIn f (r ∷ rs) = both (f r) (allIn f rs)
 
@@ -103,7 +103,7 @@ unfolding rowFor
 rowAt-lt t = let h = best-lt (headFar t) wordRow in omega arith
 
 -- no mnemonic agrees further with the text
-pub head-far : (t : List ℕ) (k : ℕ) → k < rowCount → agree t (headOf k) ≤ agree t (headOf (rowFor t))
+head-far : (t : List ℕ) (k : ℕ) → k < rowCount → agree t (headOf k) ≤ agree t (headOf (rowFor t))
 unfolding rowFor
 head-far t k h = best-le (headFar t) rowCount k h
 

@@ -8,9 +8,9 @@ use lib.Dec.{T, ltb, leb, eqb, eqb→eq, leb→le, ltb→lt}
 use borrow.Author.Tests.{eq-eqb, eqb-true}
 use lib.Seq.{getD-take}
 use Rattle.optext.specs.First.{firstFrom}
-use Rattle.optext.specs.declared.rows.Kind.{Kind}
-use Rattle.optext.specs.declared.rows.Kind.the-variants.{None, Mask, Disp, Reg, Arg4, Arg6, Count, High, Mid, Dst, Addr, Src, Word}
-use Rattle.optext.specs.Rows.{Row, Place, placeOf, rowCount, wordRow, rows, theRow, noRow, baseOf, firstOf, secondOf}
+use Rattle.optext.specs.declared.rows.OperandKind.{OperandKind}
+use Rattle.optext.specs.declared.rows.OperandKind.the-variants.{None, Mask, Disp, Reg, Arg4, Arg6, Count, High, Mid, Dst, Addr, Src, Word}
+use Rattle.optext.specs.Rows.{Row, OperandPlace, placeOf, rowCount, wordRow, rows, theRow, noRow, baseOf, firstOf, secondOf}
 use Rattle.optext.specs.Line.{bitsOf, isReserved, fieldOf, fitsRow, rowOf, operandText}
 use Rattle.optext.proofs.Laws.Choose.{no, lt-cases, bool-cases, allBelow, at, both, both-left, both-right, either, either-elim, first-at, first-hit}
 use Rattle.optext.proofs.Laws.Table.{isKind, is-kind}
@@ -28,10 +28,10 @@ Legal true w a P = (8 ≤ a) × P
 Legal false true a P = (isReserved a ≡ true) × P
 Legal false false a P = P
 
-abbrev pub PartOk : Kind → ℕ → Type 0
+abbrev pub PartOk : OperandKind → ℕ → Type 0
 PartOk k a = Legal (isKind Addr k) (isKind Word k) a (PartIn (placeOf k) a)
 
-part-in : (k : Kind) (a : ℕ) → PartOk k a → PartIn (placeOf k) a
+part-in : (k : OperandKind) (a : ℕ) → PartOk k a → PartIn (placeOf k) a
 part-in k a = go (isKind Addr k) (isKind Word k)
   where
     go : (b c : Bool) → Legal b c a (PartIn (placeOf k) a) → PartIn (placeOf k) a
@@ -69,17 +69,17 @@ guess-lt k a b h p q =
     omega arith
 
 -- two rows have no word in common: their words lie apart, or have the same bits for operands and other bits else
-abbrev samePlace : Place → Place → Bool
+abbrev samePlace : OperandPlace → OperandPlace → Bool
 samePlace p q = both (eqb (p .unit) (q .unit)) (eqb (p .size) (q .size))
 
-same-bits : (p q : Place) (w : ℕ) → T (samePlace p q) → bitsOf p w ≡ bitsOf q w
+same-bits : (p q : OperandPlace) (w : ℕ) → T (samePlace p q) → bitsOf p w ≡ bitsOf q w
 same-bits p q w t =
     rw (eqb→eq (p .unit) (q .unit) (both-left (eqb (p .unit) (q .unit)) _ t), eqb→eq (p .size) (q .size) (both-right (eqb (p .unit) (q .unit)) _ t)) refl
 
-abbrev samePlaces : Place → Place → Place → Place → Bool
+abbrev samePlaces : OperandPlace → OperandPlace → OperandPlace → OperandPlace → Bool
 samePlaces p q p' q' = either (both (samePlace p p') (samePlace q q')) (both (samePlace p q') (samePlace q p'))
 
-same-sum : (p q p' q' : Place) (w : ℕ) → T (samePlaces p q p' q') → bitsOf p w + bitsOf q w ≡ bitsOf p' w + bitsOf q' w
+same-sum : (p q p' q' : OperandPlace) (w : ℕ) → T (samePlaces p q p' q') → bitsOf p w + bitsOf q w ≡ bitsOf p' w + bitsOf q' w
 same-sum p q p' q' w =
     either-elim (both (samePlace p p') (samePlace q q')) (both (samePlace p q') (samePlace q p')) _
     (λ t. rw (same-bits p p' w (both-left (samePlace p p') _ t), same-bits q q' w (both-right (samePlace p p') _ t)) refl)
@@ -120,12 +120,12 @@ fits-twice w i j l g p q =
     (rw (getD-take wordRow rows i noRow (omega arith), getD-take wordRow rows j noRow g) at (pairs-at rowsApart codes allApart i j l (rw few g)))
 
 -- the words of JSR and LEA, where mode 0 is illegal; and .WORD's row is the last
-abbrev legal : (ℕ → Kind) → ℕ → Bool
+abbrev legal : (ℕ → OperandKind) → ℕ → Bool
 legal of k =
     both (cond (isKind Addr (of k)) (both (leb 0x7000 (baseOf k)) (ltb (top (theRow k)) 0x7400)) true) (cond (isKind Word (of k)) (eqb k wordRow) true)
 
 -- what a first word must be, beside its row's base op code, to have an operand of a kind
-abbrev pub Allowed : Kind → ℕ → Type 0
+abbrev pub Allowed : OperandKind → ℕ → Type 0
 Allowed k w = (T (isKind Addr k) → 8 ≤ w % 64) × (T (isKind Word k) → isReserved w ≡ true)
 
 mode-0 : (w : ℕ) → w % 64 < 8 → w / 8 % 8 ≡ 0
@@ -135,7 +135,7 @@ not-last : {k : ℕ} → k ≡ wordRow → 0x7000 ≤ baseOf k → ⊥
 unfolding theRow rows
 not-last e = subst (λ (k : ℕ). 0x7000 ≤ baseOf k → ⊥) (sym e) (λ h. omega arith)
 
-module _ (of : ℕ → Kind) (all : T (allBelow (legal of) rowCount)) (w : ℕ) (h : w < 65536) where
+module _ (of : ℕ → OperandKind) (all : T (allBelow (legal of) rowCount)) (w : ℕ) (h : w < 65536) where
   if-so : (b c : Bool) → T (cond b c true) → T b → T c
   if-so true c t u = t
   if-so false c t u = absurd u
@@ -203,8 +203,8 @@ early k a b l p q =
     row-found w r
     ∙ ⊎-elim (λ n. absurd (fits-twice w (firstFrom (fitsRow w) wordRow 0) k n l (eqb-true _ w (first-hit (fitsRow w) wordRow 0 (omega arith))) e)) (λ n. omega arith) (lt-cases (firstFrom (fitsRow w) wordRow 0) k)
   where
-    address : (s : Kind) (w : ℕ) → s ≡ Addr → fieldOf s w ≡ b → PartOk s b → 8 ≤ w % 64
-    address s w e = subst (λ (s : Kind). fieldOf s w ≡ b → PartOk s b → 8 ≤ w % 64) (sym e) (λ f q. rw f (q .0))
+    address : (s : OperandKind) (w : ℕ) → s ≡ Addr → fieldOf s w ≡ b → PartOk s b → 8 ≤ w % 64
+    address s w e = subst (λ (s : OperandKind). fieldOf s w ≡ b → PartOk s b → 8 ≤ w % 64) (sym e) (λ f q. rw f (q .0))
 
 pub inside : (k a b : ℕ) → k < rowCount → PartOk (firstOf k) a → PartOk (secondOf k) b → rowOf (baseOf k + a + b) ≡ k
 inside k a b h p q =
@@ -214,7 +214,7 @@ inside k a b h p q =
     last e = subst (λ (k : ℕ). PartOk (firstOf k) a → PartOk (secondOf k) b → rowOf (baseOf k + a + b) ≡ k) (sym e) (late a b)
 
 -- the text of an operand shows its own bits of the word alone
-op-field : (k : Kind) (w x : ℕ) → w < 65536 → operandText k w x ≡ operandText k (fieldOf k w) x
+op-field : (k : OperandKind) (w x : ℕ) → w < 65536 → operandText k w x ≡ operandText k (fieldOf k w) x
 op-field None w x h = refl
 op-field Mask w x h = refl
 op-field Disp w x h = let e : w % 256 % 256 ≡ w % 256 = omega arith in rw e refl

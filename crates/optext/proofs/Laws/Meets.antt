@@ -7,7 +7,7 @@ use native.Mathlib.Omega.{arith}
 use borrow.Author.Tests.{ne-eqb, lt-ltb, le-ltb}
 use lib.ListN.{length, take, drop, getD}
 use Rattle.optext.specs.declared.reading.Operand.{Operand}
-use Rattle.optext.specs.declared.rows.Kind.{Kind}
+use Rattle.optext.specs.declared.rows.OperandKind.{OperandKind}
 use Rattle.optext.specs.declared.Written.{Written}
 use Rattle.optext.specs.declared.Written.the-variants.{Line, TextShort, NoWords, WordMissing}
 use Rattle.hexdigits.specs.Over.{Wrote}
@@ -62,7 +62,7 @@ module _ (w : ℕ) (b : List ℕ) where
   word-line e n h u = rw (le-ltb (length b) 32 h, u .count, u .bytes) refl
 
 -- what the code of the guess computes, step by step
-pub decode-is : (t : List ℕ) (k n b v w : ℕ) (f s : Kind) (A B : Operand) → k ≡ rowFor t → n ≡ length (nameOf k) → f ≡ firstOf k → s ≡ secondOf k → b ≡ baseOf k
+pub decode-is : (t : List ℕ) (k n b v w : ℕ) (f s : OperandKind) (A B : Operand) → k ≡ rowFor t → n ≡ length (nameOf k) → f ≡ firstOf k → s ≡ secondOf k → b ≡ baseOf k
     → A ≡ unOp f (drop (n + 1) t) → B ≡ unOp s (drop (n + 1 + A .len + 1) t) → v ≡ (b + A .part) % 2 ^ 16 → w ≡ (v + B .part) % 2 ^ 16
     → guess w (A .word) (B .word) ≡ guessOf t
 unfolding guessOf guessB guessA
@@ -102,7 +102,7 @@ pub by-taken : (w : ℕ) (P : Type 0)
 by-taken w P a b c d =
     ⊎-elim (λ e. ⊎-elim (a e) (b e) (none-or-one (secondOf (rowOf w)))) (λ e. ⊎-elim (c e) (d e) (none-or-one (secondOf (rowOf w)))) (none-or-one (firstOf (rowOf w)))
   where
-    none-or-one : (k : Kind) → (takes k w ≡ 0) ⊎ (takes k w ≡ 1)
+    none-or-one : (k : OperandKind) → (takes k w ≡ 0) ⊎ (takes k w ≡ 1)
     none-or-one k = let l = takes-le k w in ⊎-elim inl (λ e. inr (omega arith)) (eq-cases (takes k w) 0)
 
 module _ (w x y : ℕ) (lw : w < 65536) where

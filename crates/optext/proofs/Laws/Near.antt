@@ -18,7 +18,7 @@ pub record Near (t p q : List ℕ) : Type 0 where
   pub far : agree t p ≤ agree t q
   pub whole : agree t p ≡ length p → q ≡ p
 
-pub agree-nil : (t : List ℕ) → agree t [] ≡ 0
+agree-nil : (t : List ℕ) → agree t [] ≡ 0
 agree-nil [] = refl
 agree-nil (x ∷ t) = refl
 
@@ -54,10 +54,10 @@ agree-whole (x ∷ t) (y ∷ p) s h = go (λ k. agree-whole t p s k) (eqb x y) h
     go r true h = let e = r (omega arith) in omega arith
     go r false h = absurd (omega arith)
 
-pub whole-or : (t p : List ℕ) → (agree t p < length p) ⊎ (agree t p ≡ length p)
+whole-or : (t p : List ℕ) → (agree t p < length p) ⊎ (agree t p ≡ length p)
 whole-or t p = let l = agree-le t p in ⊎-elim (λ h. inl h) (λ h. inr (omega arith)) (lt-cases (agree t p) (length p))
 
-pub agree-more : (t p s : List ℕ) → agree t p ≤ agree t (p ++ s)
+agree-more : (t p s : List ℕ) → agree t p ≤ agree t (p ++ s)
 agree-more t p s =
     ⊎-elim (λ e. let q = agree-short t p s e in omega arith) (λ e. let q = agree-whole t p s e in omega arith) (whole-or t p)
 
@@ -146,7 +146,7 @@ pub near-nil : (t : List ℕ) → Near t [] []
 near-nil t = record { far = omega arith; whole = λ e. refl }
 
 -- only a text that begins as p does matters
-pub near-first : (t : List ℕ) (a : ℕ) (s q : List ℕ) → ((u : List ℕ) → t ≡ a ∷ u → Near t (a ∷ s) q) → Near t (a ∷ s) q
+near-first : (t : List ℕ) (a : ℕ) (s q : List ℕ) → ((u : List ℕ) → t ≡ a ∷ u → Near t (a ∷ s) q) → Near t (a ∷ s) q
 near-first [] a s q h = record { far = omega arith; whole = λ e. absurd (omega arith) }
 near-first (x ∷ t) a s q h = go (eqb x a) refl
   where

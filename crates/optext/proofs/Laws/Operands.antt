@@ -10,8 +10,8 @@ use borrow.Author.Tests.{eq-eqb, ne-eqb, lt-ltb, le-ltb}
 use lib.ListN.{length, drop, getD}
 use lib.Seq.{getD-drop}
 use Rattle.hexdigits.specs.Digits.{hexOf, hex4}
-use Rattle.optext.specs.declared.rows.Kind.{Kind}
-use Rattle.optext.specs.declared.rows.Kind.the-variants.{None, Mask, Disp, Reg, Arg4, Arg6, Count, High, Mid, Dst, Addr, Src, Word}
+use Rattle.optext.specs.declared.rows.OperandKind.{OperandKind}
+use Rattle.optext.specs.declared.rows.OperandKind.the-variants.{None, Mask, Disp, Reg, Arg4, Arg6, Count, High, Mid, Dst, Addr, Src, Word}
 use Rattle.optext.specs.declared.reading.Operand.{Operand}
 use Rattle.optext.specs.Digits.{unHex, unHex2, unHex4}
 use Rattle.optext.specs.Line.{regA, regB, regText, upText, literalText, downText, offsetText, plainText, modeText, operandText}
@@ -24,7 +24,7 @@ use Rattle.optext.proofs.Laws.Inside.{Allowed, PartOk}
 use Rattle.optext.proofs.Laws.Pieces.{unHex-lt, near-hex1, near-digits, near-count, near-hex4, near-word, word-ok, near-reg, near-up, unReg-lt}
 
 -- the text of the operand that is read
-abbrev pub again : Kind → Operand → List ℕ
+abbrev pub again : OperandKind → Operand → List ℕ
 again k o = operandText k (o .part) (o .word)
 
 notPc-lt : (r : ℕ) → r < 8 → notPc r < 7
@@ -129,7 +129,7 @@ below-7 : (r : ℕ) → r < 8 → (r ≡ 7 → ⊥) → r < 7
 below-7 r h n = omega arith
 
 -- the forms without @
-pub near-plain : (t : List ℕ) (p r x : ℕ) → p < 4 → r < 8 → x < 65536 → Near t (plainText p r x) (plainOf (unPlain t))
+near-plain : (t : List ℕ) (p r x : ℕ) → p < 4 → r < 8 → x < 65536 → Near t (plainText p r x) (plainOf (unPlain t))
 near-plain t p r x h g l =
     ⊎-elim (λ e. rw (plain-reg p r x e) (near-form-reg t r g)) (λ n0.
     ⊎-elim (λ e. ⊎-elim (λ f. rw (plain-pc p r x e f) (near-form-literal t x l)) (λ f. rw (plain-up p r x e f) (near-form-up t r (below-7 r g f))) (eq-cases r 7)) (λ n1.
@@ -143,7 +143,7 @@ Even o = (o .part / 8 % 2 ≡ 0) × (o .part < 56)
 even : (g : ℕ) → g < 8 → (p : ℕ) → p < 4 → ((p * 16 + g) / 8 % 2 ≡ 0) × (p * 16 + g < 56)
 even g h p k = (omega arith, omega arith)
 
-pub plain-even : (t : List ℕ) → Even (unPlain t)
+plain-even : (t : List ℕ) → Even (unPlain t)
 unfolding unPlain
 plain-even t =
     let a = notPc-lt (unReg (getD t 1 0) (getD t 2 0)) (unReg-lt (getD t 1 0) (getD t 2 0)) in
@@ -183,7 +183,7 @@ plain-some p r x = plain-elim (λ (s : List ℕ). 0 < length s) p r x (omega ari
 plain-first : (p r x : ℕ) → r < 8 → x < 65536 → getD (plainText p r x) 0 0 ≡ 64 → ⊥
 plain-first p r x g l e = plain-sign p r x [] g l (rw append-nil e)
 
-pub near-mode : (t : List ℕ) (f x : ℕ) → f < 64 → x < 65536 → Near t (modeText f x) (modeText (unMode t .part) (unMode t .word))
+near-mode : (t : List ℕ) (f x : ℕ) → f < 64 → x < 65536 → Near t (modeText f x) (modeText (unMode t .part) (unMode t .word))
 near-mode t f x h l =
     let p : f / 16 < 4 = omega arith in
     let r : f % 8 < 8 = omega arith in
@@ -228,7 +228,7 @@ mode-8 : (t : List ℕ) → getD t 0 0 < 71 → 8 ≤ unMode t .part
 unfolding unMode
 mode-8 t h = choose From8 (eqb (getD t 0 0) 64) _ _ (omega arith) (plain-8 t h)
 
-pub near-addr : (t : List ℕ) (f x : ℕ) → 8 ≤ f → f < 64 → x < 65536 → Near t (modeText f x) (modeText (addressed (unMode t .part)) (unMode t .word))
+near-addr : (t : List ℕ) (f x : ℕ) → 8 ≤ f → f < 64 → x < 65536 → Near t (modeText f x) (modeText (addressed (unMode t .part)) (unMode t .word))
 near-addr t f x g h l =
     near-off t (modeText f x) (modeText (addressed (unMode t .part)) (unMode t .word)) (mode-some f x)
     (λ e. rw (addressed-same (unMode t .part) (mode-8 t (rw e (mode-low f x g l)))) (near-mode t f x h l))
@@ -255,11 +255,11 @@ mode-lt t =
     let b = plain-even t .1 in
     ⊎-elim (λ e. rw (eq-eqb (getD t 0 0) 64 e) (omega arith)) (λ e. rw (ne-eqb (getD t 0 0) 64 e) (omega arith)) (eq-cases (getD t 0 0) 64)
 
-pub addressed-ok : (f : ℕ) → f < 64 → (8 ≤ addressed f) × (addressed f < 64)
+addressed-ok : (f : ℕ) → f < 64 → (8 ≤ addressed f) × (addressed f < 64)
 unfolding addressed
 addressed-ok f h = ⊎-elim (λ l. rw (lt-ltb f 8 l) (omega arith, omega arith)) (λ l. rw (le-ltb f 8 l) (l, h)) (lt-cases f 8)
 
-pub part-ok : (k : Kind) (t : List ℕ) → PartOk k (unOp k t .part)
+pub part-ok : (k : OperandKind) (t : List ℕ) → PartOk k (unOp k t .part)
 part-ok None t = refl
 part-ok Mask t = refl
 part-ok Disp t = hex2-lt t
@@ -274,7 +274,7 @@ part-ok Addr t = addressed-ok (unMode t .part) (mode-lt t)
 part-ok Src t = let a = mode-lt t in (omega arith, omega arith)
 part-ok Word t = word-ok t
 
-pub near-operand : (k : Kind) (t : List ℕ) (w x : ℕ) → w < 65536 → x < 65536 → Allowed k w → Near t (operandText k w x) (again k (unOp k t))
+pub near-operand : (k : OperandKind) (t : List ℕ) (w x : ℕ) → w < 65536 → x < 65536 → Allowed k w → Near t (operandText k w x) (again k (unOp k t))
 near-operand None t w x g l a = near-nil t
 near-operand Mask t w x g l a = near-hex4 t x l
 near-operand Disp t w x g l a =

@@ -7,12 +7,12 @@ use native.Mathlib.Nat.{zero-mul, mul-one, div-one, zero-div, mod-lt, mul-assoc,
 use lib.Arith.{digits-div, digits-mod, mod-mul}
 use lib.Dec.{T, ltb, leb, eqb, eqb→eq, leb→le, ltb→lt}
 use borrow.Author.Tests.{eqb-true}
-use Rattle.optext.specs.Rows.{Place, placeOf, rowCount, rows, theRow, baseOf, firstOf, secondOf}
+use Rattle.optext.specs.Rows.{OperandPlace, placeOf, rowCount, rows, theRow, baseOf, firstOf, secondOf}
 use Rattle.optext.specs.Line.{bitsOf}
 use Rattle.optext.proofs.Laws.Choose.{at, both, both-left, both-right, either, either-elim}
 
 -- whatever the place, its bits are a quotient's remainder, moved back to where they stood
-pub bits-are : (p : Place) (w : ℕ) → bitsOf p w ≡ w / p .unit % p .size * p .unit
+bits-are : (p : OperandPlace) (w : ℕ) → bitsOf p w ≡ w / p .unit % p .size * p .unit
 bits-are p w = go (eqb (p .size) 1) refl (eqb (p .unit) 1) refl
   where
     none : p .size ≡ 1 → 0 ≡ w / p .unit % p .size * p .unit
@@ -34,11 +34,11 @@ PartBy true b u n a = a ≡ 0
 PartBy false true u n a = a < n
 PartBy false false u n a = (a / u * u ≡ a) × (a < n * u)
 
-abbrev pub PartIn : Place → ℕ → Type 0
+abbrev pub PartIn : OperandPlace → ℕ → Type 0
 PartIn p a = PartBy (eqb (p .size) 1) (eqb (p .unit) 1) (p .unit) (p .size) a
 
 -- each is a number below the size, moved to where the place stands
-pub part-value : (p : Place) (a : ℕ) → PartIn p a → (a / p .unit * p .unit ≡ a) × (a / p .unit < p .size)
+part-value : (p : OperandPlace) (a : ℕ) → PartIn p a → (a / p .unit * p .unit ≡ a) × (a / p .unit < p .size)
 part-value p a = go (eqb (p .size) 1) refl (eqb (p .unit) 1) refl
   where
     go : (b : Bool) → eqb (p .size) 1 ≡ b → (c : Bool) → eqb (p .unit) 1 ≡ c → PartBy b c (p .unit) (p .size) a → (a / p .unit * p .unit ≡ a) × (a / p .unit < p .size)
@@ -47,16 +47,16 @@ part-value p a = go (eqb (p .size) 1) refl (eqb (p .unit) 1) refl
     go false e false f h = (h .0, lt-of-mul-lt-mul-right (p .unit) (rw (h .0) (h .1)))
 
 -- the most that a place's bits can be
-abbrev pub most : Place → ℕ
+abbrev pub most : OperandPlace → ℕ
 most p = (p .size - 1) * p .unit
 
-value-le : (p : Place) (v : ℕ) → v < p .size → v * p .unit ≤ most p
+value-le : (p : OperandPlace) (v : ℕ) → v < p .size → v * p .unit ≤ most p
 value-le p v h = mul-le-mul-right (p .unit) (omega arith)
 
-pub bits-le : (p : Place) (w : ℕ) → 0 < p .size → bitsOf p w ≤ most p
+pub bits-le : (p : OperandPlace) (w : ℕ) → 0 < p .size → bitsOf p w ≤ most p
 bits-le p w h = rw (bits-are p w) (value-le p (w / p .unit % p .size) (mod-lt (w / p .unit) h))
 
-pub part-le : (p : Place) (a : ℕ) → PartIn p a → a ≤ most p
+pub part-le : (p : OperandPlace) (a : ℕ) → PartIn p a → a ≤ most p
 part-le p a h = let v = part-value p a h in rw (v .0) at (value-le p (a / p .unit) (v .1))
 
 -- a multiple of z and a number below z
@@ -94,11 +94,11 @@ two-fields z t y n u v r lu lv = (
         ap (λ (x : ℕ). x / t) s ∙ digits-div (n / t) (omega arith)
 
 -- the two places of a row, the low one first
-abbrev room : Place → Place → ℕ → Bool
+abbrev room : OperandPlace → OperandPlace → ℕ → Bool
 room p q n =
     both (eqb (p .unit) 1) (both (eqb (n % p .size) 0) (both (eqb (q .unit % p .size) 0) (both (eqb (n / q .unit % q .size) 0) (leb (n % q .unit + p .size) (q .unit)))))
 
-module _ (p q : Place) (n : ℕ) (t : T (room p q n)) where
+module _ (p q : OperandPlace) (n : ℕ) (t : T (room p q n)) where
   has-room : (p .unit ≡ 1) × Room (p .size) (q .unit) (q .size) n
   has-room =
       let t1 = both-right (eqb (p .unit) 1) _ t in
@@ -124,28 +124,28 @@ module _ (p q : Place) (n : ℕ) (t : T (room p q n)) where
       (low-bits (n + a + b) ∙ rw (v .0) at (h .0), bits-are q (n + a + b) ∙ ap (λ (x : ℕ). x * q .unit) (rw (v .0) at (h .1)) ∙ v .0)
 
 -- the base op code leaves room for both operands, whichever is the low one
-abbrev pub fit : Place → Place → ℕ → Bool
+abbrev pub fit : OperandPlace → OperandPlace → ℕ → Bool
 fit p q n = both (both (ltb 0 (p .size)) (ltb 0 (q .size))) (either (room p q n) (room q p n))
 
-pub fields : (p q : Place) (n : ℕ) → T (fit p q n) → (a b : ℕ) → PartIn p a → PartIn q b → (bitsOf p (n + a + b) ≡ a) × (bitsOf q (n + a + b) ≡ b)
+pub fields : (p q : OperandPlace) (n : ℕ) → T (fit p q n) → (a b : ℕ) → PartIn p a → PartIn q b → (bitsOf p (n + a + b) ≡ a) × (bitsOf q (n + a + b) ≡ b)
 fields p q n t a b f g =
     either-elim (room p q n) (room q p n) _ (λ r. fields-in p q n r a b f g)
     (λ r. let h = fields-in q p n r b a g f in let e : n + b + a ≡ n + a + b = omega arith in (rw e at (h .1), rw e at (h .0)))
     (both-right (both (ltb 0 (p .size)) (ltb 0 (q .size))) _ t)
 
-pub sizes : (p q : Place) (n : ℕ) → T (fit p q n) → (0 < p .size) × (0 < q .size)
+pub sizes : (p q : OperandPlace) (n : ℕ) → T (fit p q n) → (0 < p .size) × (0 < q .size)
 sizes p q n t =
     let s = both-left (both (ltb 0 (p .size)) (ltb 0 (q .size))) _ t in
     (ltb→lt 0 (p .size) (both-left (ltb 0 (p .size)) _ s), ltb→lt 0 (q .size) (both-right (ltb 0 (p .size)) _ s))
 
 -- The words of a row stand in blocks. A block begins at a multiple of its size, and the row that makes its first word makes all of it: the size is the low place's, or both places' where one follows the other.
-abbrev grain : Place → Place → ℕ
+abbrev grain : OperandPlace → OperandPlace → ℕ
 grain p q = cond (eqb (q .unit) (p .size)) (q .size * p .size) (p .size)
 
-abbrev Grows : Place → Place → ℕ → ℕ → Type 0
+abbrev Grows : OperandPlace → OperandPlace → ℕ → ℕ → Type 0
 Grows p q n g = (z d : ℕ) → z % g ≡ 0 → d < g → n + bitsOf p z + bitsOf q z ≡ z → n + bitsOf p (z + d) + bitsOf q (z + d) ≡ z + d
 
-module _ (p q : Place) (n : ℕ) (t : T (room p q n)) (s : (0 < p .size) × (0 < q .size)) where
+module _ (p q : OperandPlace) (n : ℕ) (t : T (room p q n)) (s : (0 < p .size) × (0 < q .size)) where
   grows-in : Grows p q n (grain p q)
   grows-in = go (eqb (q .unit) (p .size)) refl
     where
@@ -183,10 +183,10 @@ module _ (p q : Place) (n : ℕ) (t : T (room p q n)) (s : (0 < p .size) × (0 <
       go true e = one (eqb-true (q .unit) (p .size) e)
       go false e = two
 
-abbrev pub block : Place → Place → ℕ → ℕ
+abbrev pub block : OperandPlace → OperandPlace → ℕ → ℕ
 block p q n = cond (room p q n) (grain p q) (grain q p)
 
-pub grows : (p q : Place) (n : ℕ) → T (fit p q n) → Grows p q n (block p q n)
+pub grows : (p q : OperandPlace) (n : ℕ) → T (fit p q n) → Grows p q n (block p q n)
 grows p q n t = go (room p q n) refl (both-right (both (ltb 0 (p .size)) (ltb 0 (q .size))) _ t)
   where
     turned : (z x y : ℕ) → n + x + y ≡ z → n + y + x ≡ z

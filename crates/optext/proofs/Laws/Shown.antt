@@ -7,8 +7,8 @@ use native.Mathlib.Omega.{arith}
 use lib.Dec.{T, eqb}
 use lib.ListN.{length, getD, length-append}
 use Rattle.hexdigits.specs.Digits.{letters, digits, hexOf, hex4, hex2}
-use Rattle.optext.specs.declared.rows.Kind.{Kind}
-use Rattle.optext.specs.declared.rows.Kind.the-variants.{None, Mask, Disp, Reg, Arg4, Arg6, Count, High, Mid, Dst, Addr, Src, Word}
+use Rattle.optext.specs.declared.rows.OperandKind.{OperandKind}
+use Rattle.optext.specs.declared.rows.OperandKind.the-variants.{None, Mask, Disp, Reg, Arg4, Arg6, Count, High, Mid, Dst, Addr, Src, Word}
 use Rattle.optext.specs.Rows.{rowCount, rows, theRow, nameOf, firstOf, secondOf}
 use Rattle.optext.specs.Line.{registers, regA, regB, regText, upText, literalText, downText, offsetText, plainText, modeText, rowOf, sepText, rowText, wordText, opText, textOf}
 use Rattle.optext.proofs.Laws.Choose.{choose, both, both-left, both-right, at}
@@ -119,7 +119,7 @@ module _ (s : ℕ) (o : T (other 58 s)) where
   after : {t : List ℕ} → Plain t → Behind (s ∷ t)
   after p = record { colon = more (record { is = o }) (p .colon); ending = λ d h. p .ending s }
 
-  behind : (k : Kind) (w x : ℕ) → Behind (sepText s k w x)
+  behind : (k : OperandKind) (w x : ℕ) → Behind (sepText s k w x)
   unfolding sepText
   behind None w x = record { colon = none; ending = λ d h. h }
   behind Mask w x = after (four-digits x)

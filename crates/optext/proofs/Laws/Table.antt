@@ -9,8 +9,8 @@ use lib.Dec.{T, ltb, leb, eqb, eqb→eq, leb→le, ltb→lt}
 use borrow.Author.Tests.{eq-eqb}
 use lib.ListN.{length, getD, take, drop, List·getD-append, List·getD-eq-default}
 use lib.Seq.{getD-drop, drop-append-add}
-use Rattle.optext.specs.declared.rows.Kind.{Kind}
-use Rattle.optext.specs.declared.rows.Kind.the-variants.{None, Mask, Disp, Reg, Arg4, Arg6, Count, High, Mid, Dst, Addr, Src, Word}
+use Rattle.optext.specs.declared.rows.OperandKind.{OperandKind}
+use Rattle.optext.specs.declared.rows.OperandKind.the-variants.{None, Mask, Disp, Reg, Arg4, Arg6, Count, High, Mid, Dst, Addr, Src, Word}
 use Rattle.hexdigits.specs.Digits.{hex4}
 use Rattle.optext.specs.Rows.{Row, rowCount, rowWidth, rows, theRow, noRow, nameOf, baseOf, firstOf, secondOf, rowBytes, tableBytes, letterOf, kindAs}
 use Rattle.optext.specs.Line.{isShown}
@@ -42,7 +42,7 @@ table-at k i h g =
     ∙ List·getD-append (rowBytes (getD rows k noRow)) (drop (k * rowWidth + rowWidth) (tableBytes rows)) 0 i g
 
 -- the five places of a mnemonic
-pub line-name : (r : Row) (i : ℕ) → i < 5 → getD (rowBytes r) i 0 ≡ getD (r .name) i 32
+line-name : (r : Row) (i : ℕ) → i < 5 → getD (rowBytes r) i 0 ≡ getD (r .name) i 32
 line-name r zero h = refl
 line-name r (suc zero) h = refl
 line-name r (suc (suc zero)) h = refl
@@ -51,7 +51,7 @@ line-name r (suc (suc (suc (suc zero)))) h = refl
 line-name r (suc (suc (suc (suc (suc i))))) h = absurd (omega arith)
 
 -- the letters of the operands
-pub kind-back : (k : Kind) → kindAs (letterOf k) ≡ k
+pub kind-back : (k : OperandKind) → kindAs (letterOf k) ≡ k
 unfolding kindAs
 kind-back None = refl
 kind-back Mask = refl
@@ -67,14 +67,14 @@ kind-back Addr = refl
 kind-back Src = refl
 kind-back Word = refl
 
-abbrev pub isKind : Kind → Kind → Bool
+abbrev pub isKind : OperandKind → OperandKind → Bool
 isKind z k = eqb (letterOf k) (letterOf z)
 
-pub is-kind : (z k : Kind) → T (isKind z k) → k ≡ z
+pub is-kind : (z k : OperandKind) → T (isKind z k) → k ≡ z
 is-kind z k t = sym (kind-back k) ∙ ap kindAs (eqb→eq (letterOf k) (letterOf z) t) ∙ kind-back z
 
 -- what is not shown is none
-pub none-is : (k : Kind) → isShown k ≡ false → k ≡ None
+pub none-is : (k : OperandKind) → isShown k ≡ false → k ≡ None
 none-is None e = refl
 none-is Mask e = absurd (no e)
 none-is Disp e = absurd (no e)

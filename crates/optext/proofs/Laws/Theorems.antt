@@ -46,7 +46,7 @@ take-three (a ∷ b ∷ c ∷ d ∷ l) h = absurd (omega arith)
 pub words-of : (n : ℕ) (l : List ℕ) → length l ≡ n → n ≤ 3 → take n (getD l 0 0 ∷ getD l 1 0 ∷ getD l 2 0 ∷ []) ≡ l
 words-of n l e h = subst (λ (m : ℕ). take m (getD l 0 0 ∷ getD l 1 0 ∷ getD l 2 0 ∷ []) ≡ l) e (take-three l (omega arith))
 
-pub guess-words : (vs : List ℕ) → Whole vs → wordsIn (guessOf (textOf vs)) ≡ vs
+guess-words : (vs : List ℕ) → Whole vs → wordsIn (guessOf (textOf vs)) ≡ vs
 unfolding textOf wordsIn wordsOf own taken
 guess-words vs h =
     by-taken w (wordsIn (guessOf (textOf vs)) ≡ vs)

@@ -7,7 +7,7 @@ use Prim.Native.Nat.{ℕ, suc, _+_, _%_, _^_, _<_}
 use native.Mathlib.Omega.{arith}
 use lib.ListN.{length, drop}
 use lib.Seq.{drop-append-add}
-use Rattle.optext.specs.declared.rows.Kind.{Kind}
+use Rattle.optext.specs.declared.rows.OperandKind.{OperandKind}
 use Rattle.optext.specs.Rows.{nameOf, baseOf, firstOf, secondOf}
 use Rattle.optext.specs.Line.{fieldOf, rowOf, isShown, operandText, sepText, opText}
 use Rattle.optext.specs.Guess.{headOf, rowFor, operandRead, unOp, guess, guessA, guessB, guessOf}
@@ -22,10 +22,10 @@ use Rattle.optext.proofs.Laws.Back.{ownOf, wordOf}
 use Rattle.optext.proofs.Laws.Back.{op-back}
 
 -- an operand that is not shown
-pub none-text : (k : Kind) (w x : ℕ) → isShown k ≡ false → operandText k w x ≡ []
+pub none-text : (k : OperandKind) (w x : ℕ) → isShown k ≡ false → operandText k w x ≡ []
 none-text k w x e = rw (none-is k e) refl
 
-none-back : (k : Kind) (t : List ℕ) (w x : ℕ) → isShown k ≡ false → unOp k t ≡ operandRead (fieldOf k w) (wordOf k w x) (length (operandText k w x))
+none-back : (k : OperandKind) (t : List ℕ) (w x : ℕ) → isShown k ≡ false → unOp k t ≡ operandRead (fieldOf k w) (wordOf k w x) (length (operandText k w x))
 unfolding ownOf
 none-back k t w x e = rw (none-is k e) refl
 
@@ -48,7 +48,7 @@ module _ (w x y : ℕ) (lw : w < 65536) (lx : x < 65536) (ly : y < 65536) where
       (λ n. rw (line-some n, n) (sym (append-assoc (nameOf (rowOf w)) (32 ∷ []) (operandText (firstOf (rowOf w)) w x ++ sepText 44 (secondOf (rowOf w)) w y))))
       (bool-cases (isShown (firstOf (rowOf w))))
 
-  pub row-back : rowFor (opText w x y) ≡ rowOf w
+  row-back : rowFor (opText w x y) ≡ rowOf w
   row-back =
       head-own (opText w x y) (rowOf w) (row-lt w)
       (rw line-head (agree-self (headOf (rowOf w)) (operandText (firstOf (rowOf w)) w x ++ sepText 44 (secondOf (rowOf w)) w y)))
