@@ -272,7 +272,7 @@ record UntilDone (b m map w lines : List ℕ) (asked : ℕ) (b′ t′ m′ : Li
   stop : Stop
   answer : left (stoppedPage (Stopped.Done stop)) m′ ≡ runUntilPage (settingsFrom w) m map lines (untilFrom asked) (stateFrom b)
   state : b′ ≡ stateBytes (statePage (stop .turn .state)) (causeNumber (stop .turn .cause)) (toldOf (causeAddress (stop .turn .cause)))
-  tally : t′ ≡ stopBytes (stop .tally .blanks) (placePage (stop .tally .first)) (stop .steps)
+  tally : t′ ≡ stopBytes (stop .tally .blanks) (firstPage (stop .tally .first)) (stop .steps)
 
 until-answered : (b t m map w lines : List ℕ) (asked : ℕ) (b′ t′ m′ : List ℕ) → refusedUntil b t w asked ≡ false → runWhy (settingsFrom w) m map lines ≡ 0
     → told 0 (b′, t′, m′) ≡ runUntilCall b t m map w lines asked → UntilDone b m map w lines asked b′ t′ m′
@@ -314,9 +314,9 @@ wd16-run-early b t m map w lines asked b′ t′ m′ e =
     let stop = d .stop in
     let is = run-early settings map lines (untilFrom asked) s m (Stopped.Done stop) m′ (free .1) (d .answer) in
     let early : Early settings map lines (untilFrom asked) s m (stopPage stop) m′ = subst (λ (p : StopPage). Early settings map lines (untilFrom asked) s m p m′) (sym (answered-one (is .1))) (is .2) in
-    let tally = stop-tally (stop .tally .blanks) (stop .steps) (placePage (stop .tally .first)) in
+    let tally = stop-tally (stop .tally .blanks) (stop .steps) (firstPage (stop .tally .first)) in
     let steps : wordAt t′ 6 ≡ stop .steps = ap (λ (z : List ℕ). wordAt z 6) (d .tally) ∙ tally .1 in
-    let six : take 6 t′ ≡ tallyBytes (stop .tally .blanks) (placePage (stop .tally .first)) = ap (λ (z : List ℕ). take 6 z) (d .tally) ∙ tally .0 in
+    let six : take 6 t′ ≡ tallyBytes (stop .tally .blanks) (firstPage (stop .tally .first)) = ap (λ (z : List ℕ). take 6 z) (d .tally) ∙ tally .0 in
     let plainState : uncaused b′ ≡ stateBytes (statePage (stop .turn .state)) 0 nowhere = ap uncaused (d .state) ∙ sym (uncaused-bytes (stop .turn .state) (stop .turn .cause)) in
     record {
       page = stopPage stop;
