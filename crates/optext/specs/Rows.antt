@@ -18,9 +18,9 @@ pub record Row : Type 0 where
   pub second : OperandKind
 
 -- rows with the same operands, whose base op codes begin at b and are d apart
-abbrev pub run : ℕ → ℕ → OperandKind → OperandKind → List String → List Row
-run b d f s [] = []
-run b d f s (n ∷ ns) = record { name = letters n; base = b; first = f; second = s } ∷ run (b + d) d f s ns
+abbrev pub rowsFrom : ℕ → ℕ → OperandKind → OperandKind → List String → List Row
+rowsFrom b d f s [] = []
+rowsFrom b d f s (n ∷ ns) = record { name = letters n; base = b; first = f; second = s } ∷ rowsFrom (b + d) d f s ns
 
 abbrev pub rowCount : ℕ
 rowCount = 112
@@ -32,44 +32,44 @@ wordRow = rowCount - 1
 unfoldable pub rows : List Row
 rows =
     -- Format 1: no operand; SAVS has its mask in the next word.
-    run 0x0000 1 None None ("NOP" ∷ "RESET" ∷ "IEN" ∷ "IDS" ∷ "HALT" ∷ "XCT" ∷ "BPT" ∷ "WFI" ∷ "RSVC" ∷ "RRTT" ∷ "SAVE" ∷ [])
-    ++ run 0x000B 1 Mask None ("SAVS" ∷ [])
-    ++ run 0x000C 1 None None ("REST" ∷ "RRTN" ∷ "RSTS" ∷ "RTT" ∷ [])
+    rowsFrom 0x0000 1 None None ("NOP" ∷ "RESET" ∷ "IEN" ∷ "IDS" ∷ "HALT" ∷ "XCT" ∷ "BPT" ∷ "WFI" ∷ "RSVC" ∷ "RRTT" ∷ "SAVE" ∷ [])
+    ++ rowsFrom 0x000B 1 Mask None ("SAVS" ∷ [])
+    ++ rowsFrom 0x000C 1 None None ("REST" ∷ "RRTN" ∷ "RSTS" ∷ "RTT" ∷ [])
     -- Format 2: REG.
-    ++ run 0x0010 0x8 Reg None ("IAK" ∷ "RTN" ∷ "MSKO" ∷ "PRTN" ∷ [])
+    ++ rowsFrom 0x0010 0x8 Reg None ("IAK" ∷ "RTN" ∷ "MSKO" ∷ "PRTN" ∷ [])
     -- Format 3: ARG, one digit.
-    ++ run 0x0030 0x10 Arg4 None ("LCC" ∷ [])
+    ++ rowsFrom 0x0030 0x10 Arg4 None ("LCC" ∷ [])
     -- Format 4: ARG, two digits.
-    ++ run 0x0040 0x40 Arg6 None ("SVCA" ∷ "SVCB" ∷ "SVCC" ∷ [])
+    ++ rowsFrom 0x0040 0x40 Arg6 None ("SVCA" ∷ "SVCB" ∷ "SVCC" ∷ [])
     -- Format 5: the displacement.
-    ++ run 0x0100 0x100 Disp None ("BR" ∷ "BNE" ∷ "BEQ" ∷ "BGE" ∷ "BLT" ∷ "BGT" ∷ "BLE" ∷ [])
-    ++ run 0x8000 0x100 Disp None ("BPL" ∷ "BMI" ∷ "BHI" ∷ "BLOS" ∷ "BVC" ∷ "BVS" ∷ "BCC" ∷ "BCS" ∷ [])
+    ++ rowsFrom 0x0100 0x100 Disp None ("BR" ∷ "BNE" ∷ "BEQ" ∷ "BGE" ∷ "BLT" ∷ "BGT" ∷ "BLE" ∷ [])
+    ++ rowsFrom 0x8000 0x100 Disp None ("BPL" ∷ "BMI" ∷ "BHI" ∷ "BLOS" ∷ "BVC" ∷ "BVS" ∷ "BCC" ∷ "BCS" ∷ [])
     -- Format 6: NUMBER,REG and REG,COUNT.
-    ++ run 0x0800 0x10 Count High ("ADDI" ∷ "SUBI" ∷ "BICI" ∷ "MOVI" ∷ [])
-    ++ run 0x8800 0x10 High Count ("SSRR" ∷ "SSLR" ∷ "SSRA" ∷ "SSLA" ∷ [])
-    ++ run 0x8E00 0x10 High Count ("SDRR" ∷ "SDLR" ∷ "SDRA" ∷ "SDLA" ∷ [])
+    ++ rowsFrom 0x0800 0x10 Count High ("ADDI" ∷ "SUBI" ∷ "BICI" ∷ "MOVI" ∷ [])
+    ++ rowsFrom 0x8800 0x10 High Count ("SSRR" ∷ "SSLR" ∷ "SSRA" ∷ "SSLA" ∷ [])
+    ++ rowsFrom 0x8E00 0x10 High Count ("SDRR" ∷ "SDLR" ∷ "SDRA" ∷ "SDLA" ∷ [])
     -- Format 7: DST.
-    ++ run 0x0A00 0x40 Dst None ("ROR" ∷ "ROL" ∷ "TST" ∷ "ASL" ∷ [])
-    ++ run 0x0B00 0x40 Dst None ("SET" ∷ "CLR" ∷ "ASR" ∷ "SWAB" ∷ [])
-    ++ run 0x0C00 0x40 Dst None ("COM" ∷ "NEG" ∷ "INC" ∷ "DEC" ∷ [])
-    ++ run 0x0D00 0x40 Dst None ("IW2" ∷ "SXT" ∷ "TCALL" ∷ "TJMP" ∷ [])
-    ++ run 0x8A00 0x40 Dst None ("RORB" ∷ "ROLB" ∷ "TSTB" ∷ "ASLB" ∷ [])
-    ++ run 0x8B00 0x40 Dst None ("SETB" ∷ "CLRB" ∷ "ASRB" ∷ "SWAD" ∷ [])
-    ++ run 0x8C00 0x40 Dst None ("COMB" ∷ "NEGB" ∷ "INCB" ∷ "DECB" ∷ [])
-    ++ run 0x8D00 0x40 Dst None ("LSTS" ∷ "SSTS" ∷ "ADC" ∷ "SBC" ∷ [])
+    ++ rowsFrom 0x0A00 0x40 Dst None ("ROR" ∷ "ROL" ∷ "TST" ∷ "ASL" ∷ [])
+    ++ rowsFrom 0x0B00 0x40 Dst None ("SET" ∷ "CLR" ∷ "ASR" ∷ "SWAB" ∷ [])
+    ++ rowsFrom 0x0C00 0x40 Dst None ("COM" ∷ "NEG" ∷ "INC" ∷ "DEC" ∷ [])
+    ++ rowsFrom 0x0D00 0x40 Dst None ("IW2" ∷ "SXT" ∷ "TCALL" ∷ "TJMP" ∷ [])
+    ++ rowsFrom 0x8A00 0x40 Dst None ("RORB" ∷ "ROLB" ∷ "TSTB" ∷ "ASLB" ∷ [])
+    ++ rowsFrom 0x8B00 0x40 Dst None ("SETB" ∷ "CLRB" ∷ "ASRB" ∷ "SWAD" ∷ [])
+    ++ rowsFrom 0x8C00 0x40 Dst None ("COMB" ∷ "NEGB" ∷ "INCB" ∷ "DECB" ∷ [])
+    ++ rowsFrom 0x8D00 0x40 Dst None ("LSTS" ∷ "SSTS" ∷ "ADC" ∷ "SBC" ∷ [])
     -- Format 8: the source and the destination register of a block move.
-    ++ run 0x0E00 0x40 Mid Reg ("MBWU" ∷ "MBWD" ∷ "MBBU" ∷ "MBBD" ∷ [])
-    ++ run 0x0F00 0x40 Mid Reg ("MBWA" ∷ "MBBA" ∷ "MABW" ∷ "MABB" ∷ [])
+    ++ rowsFrom 0x0E00 0x40 Mid Reg ("MBWU" ∷ "MBWD" ∷ "MBBU" ∷ "MBBD" ∷ [])
+    ++ rowsFrom 0x0F00 0x40 Mid Reg ("MBWA" ∷ "MBBA" ∷ "MABW" ∷ "MABB" ∷ [])
     -- Format 9: REG,DST; JSR and LEA have no mode 0; SOB has an offset.
-    ++ run 0x7000 0x200 High Addr ("JSR" ∷ "LEA" ∷ [])
-    ++ run 0x7400 0x200 High Dst ("ASH" ∷ [])
-    ++ run 0x7600 0x200 High Arg6 ("SOB" ∷ [])
-    ++ run 0x7800 0x200 High Dst ("XCH" ∷ "ASHC" ∷ "MUL" ∷ "DIV" ∷ [])
+    ++ rowsFrom 0x7000 0x200 High Addr ("JSR" ∷ "LEA" ∷ [])
+    ++ rowsFrom 0x7400 0x200 High Dst ("ASH" ∷ [])
+    ++ rowsFrom 0x7600 0x200 High Arg6 ("SOB" ∷ [])
+    ++ rowsFrom 0x7800 0x200 High Dst ("XCH" ∷ "ASHC" ∷ "MUL" ∷ "DIV" ∷ [])
     -- Format 10: SRC,DST.
-    ++ run 0x1000 0x1000 Src Dst ("ADD" ∷ "SUB" ∷ "AND" ∷ "BIC" ∷ "BIS" ∷ "XOR" ∷ [])
-    ++ run 0x9000 0x1000 Src Dst ("CMP" ∷ "BIT" ∷ "MOV" ∷ "CMPB" ∷ "MOVB" ∷ "BISB" ∷ [])
+    ++ rowsFrom 0x1000 0x1000 Src Dst ("ADD" ∷ "SUB" ∷ "AND" ∷ "BIC" ∷ "BIS" ∷ "XOR" ∷ [])
+    ++ rowsFrom 0x9000 0x1000 Src Dst ("CMP" ∷ "BIT" ∷ "MOV" ∷ "CMPB" ∷ "MOVB" ∷ "BISB" ∷ [])
     -- Any other word.
-    ++ run 0x0000 1 Word None (".WORD" ∷ [])
+    ++ rowsFrom 0x0000 1 Word None (".WORD" ∷ [])
 
 abbrev pub noRow : Row
 noRow = record { name = []; base = 0; first = None; second = None }
