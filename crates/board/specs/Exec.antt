@@ -4,9 +4,7 @@ use Rattle.board.specs.Work.{Work, give, read_at, write_at, Size, fitted, writab
 use Rattle.board.specs.declared.Word.{Word}
 use Rattle.board.specs.declared.Word.TheVariants.{Value, Blank}
 use Rattle.board.specs.declared.Byte.{Byte}
-use Rattle.board.specs.declared.Byte.TheVariants as Byte
 use Rattle.board.specs.declared.Stored.{Stored}
-use Rattle.board.specs.declared.Stored.TheVariants as Stored
 
 pub record Store : Type 0 where
   pub image : List ℕ

@@ -1,4 +1,6 @@
 // The board: the lent image, the page map, and the log of what a step wrote over.
+#![tactic(auto)]
+
 ghost use Rattle.std.specs.Prelude.{◌&&◌, ◌≡◌, ◌+◌, ◌*◌, ◌≤◌, ◌<◌, ◌%◌, ◌/◌, length, get_or, set};
 ghost use Rattle.board.specs.Work as Work;
 ghost use Rattle.board.specs.Work.{image_word, with_word};
@@ -8,21 +10,21 @@ ghost use Rattle.board.specs.Exec.{beside, log_count, Lent, Board, Saw, Did, wor
 use wordbytes::{high, low};
 
 // What a read answers: the value, or the address where nothing is fitted.
-#[derive(Drop)]
+#[derive(Clone, Copy)]
 pub enum Word {
     Value(u16),
     Blank(u16),
 }
 
 // What a read of a byte answers.
-#[derive(Drop)]
+#[derive(Clone, Copy)]
 pub enum Byte {
     Value(u8),
     Blank(u16),
 }
 
 // What a write answers.
-#[derive(Drop)]
+#[derive(Clone, Copy)]
 pub enum Stored {
     Done,
     Blank(u16),

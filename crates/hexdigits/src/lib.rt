@@ -1,4 +1,6 @@
 // What the writers of text share: the letters of hex digits, upper case.
+#![tactic(auto)]
+
 ghost use Rattle.std.specs.Prelude.{◌≡◌};
 ghost use Rattle.hexdigits.specs.Digits.{hex_of, hex4};
 ghost use Rattle.hexdigits.specs.Over.{text_left, written};

@@ -1,11 +1,13 @@
 // What the number in a field of an op code chooses: a kind of shift, an op code of its format.
+#![tactic(auto)]
+
 ghost use Rattle.std.specs.Prelude.{◌≡◌};
 ghost use Rattle.opcodes.specs.Codes.{immediate_at, way_at, unary_at, binary_at, byte_binary_at};
 
 pub mod fields;
 
 // The op codes of format 6 with a number, in the order of bits 5 and 4.
-#[derive(Drop)]
+#[derive(Clone, Copy)]
 pub enum Immediate {
     Addi,
     Subi,
@@ -14,7 +16,7 @@ pub enum Immediate {
 }
 
 // The four kinds of shift, in the order of bits 5 and 4 of format 6.
-#[derive(Drop)]
+#[derive(Clone, Copy)]
 pub enum Way {
     RightRotate,
     LeftRotate,
@@ -23,7 +25,7 @@ pub enum Way {
 }
 
 // The op codes 0A00 to 0CC0 and 8A00 to 8CC0 of format 7, in their order; Swap is SWAB and SWAD.
-#[derive(Drop)]
+#[derive(Clone, Copy)]
 pub enum Unary {
     Ror,
     Rol,
@@ -40,7 +42,7 @@ pub enum Unary {
 }
 
 // The op codes of format 10 on words.
-#[derive(Drop)]
+#[derive(Clone, Copy)]
 pub enum Binary {
     Add,
     Sub,
@@ -54,7 +56,7 @@ pub enum Binary {
 }
 
 // The op codes of format 10 on bytes.
-#[derive(Drop)]
+#[derive(Clone, Copy)]
 pub enum ByteBinary {
     Cmpb,
     Movb,

@@ -1,4 +1,6 @@
 // The service sheet's plate: the format of an op code by its high byte. 1 stands for formats 1 to 4.
+#![tactic(auto)]
+
 ghost use Rattle.std.specs.Prelude.{◌≡◌, ◌/◌};
 ghost use Rattle.plate.specs.Plate as Spec;
 ghost use Rattle.plate.specs.Inner as Inner;

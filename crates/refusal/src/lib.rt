@@ -1,4 +1,6 @@
 // The refusals 1 to 5 and 35 of what the processor is lent, and 0 for none.
+#![tactic(auto)]
+
 ghost use Rattle.std.specs.Prelude.{◌≡◌, ◌+◌, ◌*◌, ◌/◌, ◌%◌, ◌<◌, ◌≤◌, ◌&&◌, length, nat_lt, slice_index};
 ghost use Rattle.refusal.specs.Refusal as Spec;
 

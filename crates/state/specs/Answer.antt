@@ -3,12 +3,10 @@ use Rattle.std.specs.Prelude.{ℕ, List}
 use Rattle.board.specs.Work.{Work}
 use Rattle.board.specs.Exec.{Store, beside, Now, good, gone, Did}
 use Rattle.board.specs.declared.Stored.{Stored}
-use Rattle.board.specs.declared.Stored.TheVariants as Stored
 use Rattle.state.specs.declared.State.{State}
 use Rattle.state.specs.declared.Went.{Went}
 use Rattle.state.specs.declared.Went.TheVariants.{Done, Blank}
 use Rattle.state.specs.declared.Took.{Took}
-use Rattle.state.specs.declared.Took.TheVariants as Took
 
 abbrev pub went_as : Went → Store → Now State
 went_as (Done s) st = good s st

@@ -1,4 +1,6 @@
 // Bytes and words of lent bytes. A word has its low byte first.
+#![tactic(auto)]
+
 ghost use Rattle.std.specs.Prelude.{◌≡◌};
 ghost use Rattle.wordbytes.specs.Words as Spec;
 

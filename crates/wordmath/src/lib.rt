@@ -1,10 +1,12 @@
 // The numbers of the processor: a result with its indicators, the processor status word, and sums of addresses.
+#![tactic(auto)]
+
 pub mod address;
 pub mod result;
 pub mod status;
 
 // The indicators.
-#[derive(Drop)]
+#[derive(Clone, Copy)]
 pub struct Flags {
     pub n: bool,
     pub z: bool,
@@ -13,14 +15,14 @@ pub struct Flags {
 }
 
 // A result and the indicators after it. A byte's result is below 256.
-#[derive(Drop)]
+#[derive(Clone, Copy)]
 pub struct Done {
     pub value: u16,
     pub flags: Flags,
 }
 
 // Two registers, REG and REG+1, and the indicators after an op code on both.
-#[derive(Drop)]
+#[derive(Clone, Copy)]
 pub struct Pair {
     pub low: u16,
     pub high: u16,

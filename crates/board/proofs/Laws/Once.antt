@@ -6,11 +6,8 @@ use Rattle.board.specs.Work.{Work}
 use Rattle.board.specs.Exec.{Store, beside, Now, good, gone, Did, Saw, word_as, byte_as, stored_as}
 use Rattle.board.proofs.Laws.Exec.{store_of}
 use Rattle.board.specs.declared.Word.{Word}
-use Rattle.board.specs.declared.Word.TheVariants as Word
 use Rattle.board.specs.declared.Byte.{Byte}
-use Rattle.board.specs.declared.Byte.TheVariants as Byte
 use Rattle.board.specs.declared.Stored.{Stored}
-use Rattle.board.specs.declared.Stored.TheVariants as Stored
 
 -- an answer's meaning tells the answer and the store
 abbrev pub OneToOne : {R A : Type 0} → (R → Store → Now A) → Type 0

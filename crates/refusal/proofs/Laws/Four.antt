@@ -1,6 +1,6 @@
 -- Numbers that are joined by |: a test that each of them passes is a test of them all. Four bytes side by side.
-use Rattle.std.proofs.Common.{◌≡◌, ℕ, zero, suc, ◌+◌, ◌*◌, ◌/◌, ◌%◌, ◌^◌, ◌<◌, ◌≤◌, Bool, true, false, ◌&&◌, eqb, ltb, List, length, get_or, drop, sym, refl, ap, ◌∙◌, ap₂, arith, ltb-false, ltb-true, le-ltb, lt-ltb, eq-eqb, ne_eqb}
-use lib.Bits.{bit_or, bit_and, or_add_and, and_le_l, and_le_r, or_shr, or_mod, or_lt}
+use Rattle.std.proofs.Common.{◌≡◌, ℕ, zero, suc, ◌+◌, ◌*◌, ◌/◌, ◌%◌, ◌^◌, ◌<◌, ◌≤◌, Bool, true, false, ◌&&◌, eqb, ltb, List, length, get_or, drop, sym, refl, ap, ◌∙◌, ap₂, arith, ltb-false, ltb-true, le-ltb, lt-ltb}
+use lib.Bits.{bit_or, or_add_and, and_le_l, and_le_r, or_shr, or_mod, or_lt}
 use lib.Dec.{eqb-suc-zero}
 use Rattle.refusal.specs.Refusal.{all_of, plain, flat}
 use Rattle.refusal.proofs.Laws.Refusal.{all_more, all-fails, all_end}

@@ -3,7 +3,6 @@ use mathlib.Core.Path.{◌≡◌, refl}
 use Rattle.board.specs.Exec.{Store, stored_as}
 use Rattle.board.proofs.Laws.Exec.{store_of}
 use Rattle.board.specs.declared.Stored.{Stored}
-use Rattle.board.specs.declared.Stored.TheVariants as Stored
 use Rattle.state.specs.declared.Went.{Went}
 use Rattle.state.specs.declared.Went.TheVariants.{Done, Blank}
 pub use Rattle.state.specs.Answer.{went_as, took_as, unwritten, untaken}

@@ -5,9 +5,7 @@ use Rattle.board.proofs.Laws.Exec.{store_of}
 use Rattle.board.proofs.Laws.Once.{OneToOne, tells-back}
 use Rattle.state.specs.declared.State.{State}
 use Rattle.state.specs.declared.Went.{Went}
-use Rattle.state.specs.declared.Went.TheVariants as Went
 use Rattle.state.specs.declared.Took.{Took}
-use Rattle.state.specs.declared.Took.TheVariants as Took
 use Rattle.state.specs.Answer.{went_as, Taken, took_as}
 
 abbrev went_of : Now State → Went

@@ -1,0 +1,15 @@
+use mathlib.Core.Path.{refl}
+use Rattle.board.proofs.Laws.{got-then, got-gone, got-give, unread-at, word_as, means}
+use Rattle.state.specs.Stack.{pop_reg}
+use Rattle.state.proofs.State.pop_reg.Goals as goal
+
+pub returns-in_default : goal.returns-in_default
+unfolding pop_reg
+returns-in_default c = record { got = got-gone _ c.load.ensures.got (unread-at c.load.ensures.got (means word_as c.in_default.is)) refl }
+
+pub returns : goal.returns
+unfolding pop_reg
+returns c = record {
+  got = got-then _ c.load.ensures.got (means word_as c.in-Value.is)
+      (got-give (rw (c.with_sp.ensures, c.plus.ensures, c.with_reg-s.ensures)));
+}

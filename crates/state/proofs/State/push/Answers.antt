@@ -1,0 +1,15 @@
+use mathlib.Core.Path.{refl}
+use Rattle.board.proofs.Laws.{got-then, got-gone, got-give, did, unwritten_at, stored_as, means}
+use Rattle.state.specs.Stack.{push}
+use Rattle.state.proofs.State.push.Goals as goal
+
+pub returns-in_default : goal.returns-in_default
+unfolding push
+returns-in_default c = let kept = (rw c.minus-sp.ensures at c.store.ensures).got in
+    did refl c.requires (got-gone _ kept (unwritten_at kept (means stored_as c.in_default.is)) (rw c.minus-sp.ensures))
+
+pub returns : goal.returns
+unfolding push
+returns c = did refl c.requires
+    (got-then _ (rw c.minus-sp.ensures at c.store.ensures).got (means stored_as c.in-Done.is)
+    (got-give cc))
