@@ -8,7 +8,7 @@ use Rattle.arith.specs.Binary.{binary_of, byte_binary_of}
 use Rattle.opcodes.specs.Codes.{binary_at, byte_binary_at}
 use Rattle.opcodes.specs.Fields.{high_digit, source_mode, source_register, destination_register}
 use Rattle.arith.specs.Ops.{extended}
-use Rattle.board.specs.Work.{Work, give, Size, word, byte, ◌>>=◌, ◌>>◌}
+use Rattle.board.specs.Work.{Work, give, Size, word, byte, ◌>>=◌}
 use Rattle.state.specs.declared.State.{State}
 use Rattle.state.specs.State.{with_reg, with_flags}
 use Rattle.wordmath.specs.Address.{plus, minus}

@@ -4,7 +4,7 @@ use Rattle.opcodes.specs.declared.Binary.{Binary}
 use Rattle.opcodes.specs.declared.ByteBinary.{ByteBinary}
 use Rattle.arith.specs.Binary.{binary_of, byte_binary_of}
 use Rattle.opcodes.specs.Fields.{destination_register}
-use Rattle.board.specs.Work.{Work, Size, word, byte, ◌>>=◌, ◌>>◌}
+use Rattle.board.specs.Work.{Work, Size, word, byte, ◌>>=◌}
 use Rattle.state.specs.declared.State.{State}
 use Rattle.operand.specs.declared.Place.{Place}
 use Rattle.operand.specs.Destination.{destination}

@@ -7,7 +7,7 @@ use Rattle.opcodes.specs.declared.Unary.TheVariants.{Ror, Rol, Tst, Asl, Set, Cl
 use Rattle.unary.specs.Ops.{iw2_of, sxt_of, adc_of, sbc_of}
 use Rattle.unary.specs.Unary.{unary_of}
 use Rattle.opcodes.specs.Fields.{destination_mode, destination_register}
-use Rattle.board.specs.Work.{Work, give, Size, word, byte, ◌>>=◌, ◌>>◌}
+use Rattle.board.specs.Work.{Work, give, Size, word, byte, ◌>>=◌}
 use Rattle.state.specs.declared.State.{State}
 use Rattle.state.specs.declared.Outside.{Outside}
 use Rattle.state.specs.State.{with_flags, with_status, ps_of}

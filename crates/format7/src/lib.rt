@@ -1,4 +1,6 @@
 // Format 7: one operand.
+#![tactic(auto)]
+
 ghost use Rattle.std.specs.Prelude.{◌≡◌};
 ghost use Rattle.board.specs.Work.{word, byte, size_of};
 ghost use Rattle.board.specs.Exec.{beside, Lent, Board, Saw};

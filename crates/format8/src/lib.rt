@@ -1,4 +1,6 @@
 // Format 8: the block moves. One element is one step.
+#![tactic(auto)]
+
 ghost use Rattle.std.specs.Prelude.{◌≡◌};
 ghost use Rattle.board.specs.Work.{size_of};
 ghost use Rattle.board.specs.Exec.{beside, Board, Did, stored_as};
@@ -11,7 +13,7 @@ use state::{State, Went, unwritten};
 use wordmath::address::{minus, plus};
 
 // Words or bytes; what is added to the source's register after an element, and what to the destination's.
-#[derive(Drop)]
+#[derive(Clone, Copy)]
 pub struct BlockMove {
     pub bytes: bool,
     pub source: u16,

@@ -3,7 +3,7 @@ use Rattle.std.specs.Prelude.{ℕ, ◌*◌, ◌%◌, cond, List, [], ◌∷◌, 
 use Rattle.opcodes.specs.Fields.{destination_mode, destination_register, register, format9_code, offset}
 use Rattle.shift.specs.Shifted.{ash_of, ashc_of, preset}
 use Rattle.arith.specs.Wide.{mul_of, div_of}
-use Rattle.board.specs.Work.{Work, give, word, byte, ◌>>=◌, ◌>>◌}
+use Rattle.board.specs.Work.{Work, give, word, byte, ◌>>=◌}
 use Rattle.state.specs.declared.State.{State}
 use Rattle.state.specs.declared.Outside.{Outside}
 use Rattle.state.specs.State.{reg, with_reg, with_pc, with_flags, next}

@@ -1,7 +1,7 @@
 -- Format 4, 0040 to 00FF: supervisor calls with a number n of 6 bits. All keep I2.
 use Rattle.std.specs.Prelude.{ℕ, false, List, [], ◌∷◌, get_or}
 use Rattle.opcodes.specs.Fields.{format4_code, argument}
-use Rattle.board.specs.Work.{Work, load, ◌>>=◌, ◌>>◌}
+use Rattle.board.specs.Work.{Work, load, ◌>>=◌}
 use Rattle.state.specs.declared.State.{State}
 use Rattle.state.specs.declared.Outside.{Outside}
 use Rattle.state.specs.State.{with_reg, ps_of}

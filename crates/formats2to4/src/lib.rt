@@ -1,4 +1,6 @@
 // Formats 1 to 4: the op codes whose high byte is 00.
+#![tactic(auto)]
+
 ghost use Rattle.std.specs.Prelude.{◌≡◌};
 ghost use Rattle.board.specs.Exec.{beside, Lent, Board, Saw};
 ghost use Rattle.state.specs.Answer.{Works, went_as};

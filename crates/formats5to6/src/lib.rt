@@ -1,4 +1,6 @@
 // Format 6: immediates and shifts of registers; format 5 beside it: the op codes without an operand in memory.
+#![tactic(auto)]
+
 ghost use Rattle.std.specs.Prelude.{◌≡◌};
 ghost use Rattle.formats5to6.specs.Format6 as Spec;
 

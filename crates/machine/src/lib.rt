@@ -1,4 +1,6 @@
 // The processor: power-up, one step, and a run over a list of line words.
+#![tactic(auto)]
+
 ghost use Rattle.std.specs.Prelude.{◌≡◌, ◌≤◌, length};
 ghost use Rattle.refusal.specs.Page.{left};
 ghost use Rattle.machine.specs.Entry as Spec;
@@ -14,35 +16,35 @@ mod runs;
 mod same;
 
 // The first blank step of a run: its place, and the address that it tells.
-#[derive(Drop)]
+#[derive(Clone, Copy)]
 pub enum First {
     At(u16, u16),
     Never,
 }
 
 // The blank steps of a run: how many, and the first.
-#[derive(Drop)]
+#[derive(Clone, Copy)]
 pub struct Tally {
     pub blanks: u16,
     pub first: First,
 }
 
 // The state after a run, and its blank steps.
-#[derive(Drop)]
+#[derive(Clone, Copy)]
 pub struct Ran {
     pub state: State,
     pub tally: Tally,
 }
 
 // A run, and the cause of its last step.
-#[derive(Drop)]
+#[derive(Clone, Copy)]
 pub(crate) struct Last {
     pub ran: Ran,
     pub cause: Cause,
 }
 
 // Where a run stands: before the step at a place, with the tally so far and the cause of the step before.
-#[derive(Drop)]
+#[derive(Clone, Copy)]
 pub(crate) struct Stage {
     pub state: State,
     pub tally: Tally,
@@ -51,7 +53,7 @@ pub(crate) struct Stage {
 }
 
 // What a run may be asked to end after: an interrupt taken, a blank, a lock-up, the halt switch taken.
-#[derive(Drop)]
+#[derive(Clone, Copy)]
 pub struct Until {
     pub interrupt: bool,
     pub blank: bool,
@@ -60,32 +62,32 @@ pub struct Until {
 }
 
 // A run that may have ended early: the state and the cause after its last step, its blank steps, and how many steps it made.
-#[derive(Drop)]
+#[derive(Clone, Copy)]
 pub struct Stop {
     pub turn: Turn,
     pub tally: Tally,
     pub steps: u16,
 }
 
-#[derive(Drop)]
+#[derive(Clone, Copy)]
 pub enum Powered {
     Up(State),
     Refused(u8),
 }
 
-#[derive(Drop)]
+#[derive(Clone, Copy)]
 pub enum Stepped {
     Done(Turn),
     Refused(u8),
 }
 
-#[derive(Drop)]
+#[derive(Clone, Copy)]
 pub enum Finished {
     Done(Ran),
     Refused(u8),
 }
 
-#[derive(Drop)]
+#[derive(Clone, Copy)]
 pub enum Stopped {
     Done(Stop),
     Refused(u8),

@@ -1,17 +1,14 @@
 -- A decoded operand and its value, for the op codes that read one.
 use Rattle.std.specs.Prelude.{ℕ}
 use Rattle.opcodes.specs.Fields.{destination_mode, destination_register}
-use Rattle.board.specs.Work.{Work, give, Size, ◌>>=◌, ◌>>◌}
+use Rattle.board.specs.Work.{Work, give, Size, ◌>>=◌}
 use Rattle.board.specs.Exec.{Store, Now, good, gone}
 use Rattle.state.specs.declared.State.{State}
 use Rattle.state.specs.declared.Went.{Went}
-use Rattle.state.specs.declared.Went.TheVariants as Went
 use Rattle.operand.specs.declared.Place.{Place}
 use Rattle.operand.specs.declared.Found.{Found}
-use Rattle.operand.specs.declared.Found.TheVariants as Found
 use Rattle.operand.specs.Operand.{decode, value, address_of}
 use Rattle.operand.specs.declared.Held.{Held}
-use Rattle.operand.specs.declared.Held.TheVariants as Held
 
 -- the state after decoding, the operand's place, and its value
 pub record Holding : Type 0 where

@@ -6,13 +6,11 @@ use Rattle.board.specs.Work as Work
 use Rattle.board.specs.Exec.{Store, Now, good, gone}
 use Rattle.state.specs.declared.State.{State}
 use Rattle.state.specs.declared.Went.{Went}
-use Rattle.state.specs.declared.Went.TheVariants as Went
 use Rattle.state.specs.State.{reg, with_reg}
 use Rattle.wordmath.specs.Address.{plus, minus}
 use Rattle.operand.specs.declared.Place.{Place}
 use Rattle.operand.specs.declared.Place.TheVariants.{Reg, Mem}
 use Rattle.operand.specs.declared.Found.{Found}
-use Rattle.operand.specs.declared.Found.TheVariants as Found
 
 -- An increment or decrement is 2, but 1 for a byte unless the register is SP or PC.
 abbrev pub increment_of : Size → ℕ → ℕ

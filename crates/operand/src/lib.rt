@@ -1,4 +1,6 @@
 // Operands: the eight addressing modes, and reading and writing what they point to.
+#![tactic(auto)]
+
 ghost use Rattle.std.specs.Prelude.{◌≡◌, ◌%◌, ◌<◌};
 ghost use Rattle.board.specs.Work.{word, byte, size_of};
 ghost use Rattle.board.specs.Exec.{beside, Lent, Board, Saw, word_as, byte_as};
@@ -13,7 +15,7 @@ use wordbytes::low;
 use wordmath::address::{minus, plus};
 
 // Where an operand stands: in its register; or in memory, at an address, with a register moved to a value.
-#[derive(Drop)]
+#[derive(Clone, Copy)]
 pub enum Place {
     Reg,
     Mem(u16, u16, u16),
@@ -21,14 +23,14 @@ pub enum Place {
 
 pub mod destination;
 
-#[derive(Drop)]
+#[derive(Clone, Copy)]
 pub enum Found {
     At(Place),
     Blank(u16),
 }
 
 // The state after decoding, the place of the operand, its value; or the address where nothing is fitted.
-#[derive(Drop)]
+#[derive(Clone, Copy)]
 pub enum Held {
     At(State, Place, u16),
     Blank(u16),

@@ -1,4 +1,6 @@
 // Shifts of a register, a byte or a pair of registers, and what they leave. low is REG, high is REG+1.
+#![tactic(auto)]
+
 pub mod counted;
 pub mod one_bit;
 mod shifted;
@@ -6,7 +8,7 @@ pub mod signed;
 mod turning;
 
 // A number that is being shifted and the C flag beside it.
-#[derive(Drop)]
+#[derive(Clone, Copy)]
 pub(crate) struct BitsAndC {
     pub x: u32,
     pub c: bool,

@@ -1,4 +1,6 @@
 // One step, and power-up.
+#![tactic(auto)]
+
 ghost use Rattle.std.specs.Prelude.{cond, false, ◌≡◌};
 ghost use Rattle.board.specs.Exec.{beside, Lent, Board, Saw, undone};
 ghost use Rattle.state.specs.Answer.{Works, went_as};
@@ -16,7 +18,7 @@ mod places;
 mod xct;
 
 // What is to be done after an op code's fetch: an op code to execute, traced or not; an XCT that is aborted.
-#[derive(Drop)]
+#[derive(Clone, Copy)]
 pub(crate) enum Begun {
     Code(State, u16, bool),
     Abort(State),
@@ -24,7 +26,7 @@ pub(crate) enum Begun {
 }
 
 // What a line word makes of a step: an op code; the end of a halt on power fail; bootstrap, save, lock-up, a fetch from 16, the end of a save; I1, I0; nothing is done; locked.
-#[derive(Drop)]
+#[derive(Clone, Copy)]
 pub enum Kind {
     OpCode,
     HaltEnd,
@@ -40,7 +42,7 @@ pub enum Kind {
 }
 
 // What a step was. The blanks and a lock-up that is newly met tell the address that the dropped work was not answered at.
-#[derive(Drop)]
+#[derive(Clone, Copy)]
 pub enum Cause {
     OpCode,
     Switch,
@@ -55,14 +57,14 @@ pub enum Cause {
 }
 
 // An address that is told, or none.
-#[derive(Drop)]
+#[derive(Clone, Copy)]
 pub enum Reached {
     Nowhere,
     At(u16),
 }
 
 // The state after a step, and its cause.
-#[derive(Drop)]
+#[derive(Clone, Copy)]
 pub struct Turn {
     pub state: State,
     pub cause: Cause,

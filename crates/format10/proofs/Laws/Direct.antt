@@ -6,15 +6,11 @@ use mathlib.Core.List.{List}
 use mathlib.Core.Path.{◌≡◌, refl, sym, ap, ◌∙◌}
 use lib.Dec.{ltb}
 use borrow.Author.Tests.{le-ltb}
-use Rattle.opcodes.specs.declared.Binary.{Binary}
 use Rattle.opcodes.specs.declared.Binary.TheVariants.{Mov}
-use Rattle.opcodes.specs.declared.ByteBinary.{ByteBinary}
 use Rattle.opcodes.specs.declared.ByteBinary.TheVariants.{Movb}
-use Rattle.opcodes.specs.Codes.{binary_at, byte_binary_at}
-use Rattle.wordmath.specs.Address.{minus}
-use Rattle.board.specs.Work.{Work, give, Size, word, byte, fitted, writable, get, ◌>>=◌, ◌>>◌}
+use Rattle.board.specs.Work.{Work, Size, word, byte, fitted, get, ◌>>=◌}
 use Rattle.board.specs.Exec.{Store, Now, good, gone, exec, Got}
-use Rattle.board.proofs.Laws.{got-then, got-gone, got-as, got-give, got_read, got-unread, got-lost}
+use Rattle.board.proofs.Laws.{got-then, got-gone, got-give, got_read, got-unread, got-lost}
 use Rattle.board.proofs.Laws.Alike.{unfitted-unwritable}
 use Rattle.state.specs.declared.State.{State}
 use Rattle.operand.specs.declared.Place.{Place}
@@ -22,7 +18,7 @@ use Rattle.operand.specs.declared.Place.TheVariants.{Reg, Mem}
 use Rattle.operand.specs.Operand.{decode, decoded_to, read_of, write_to}
 use Rattle.operand.proofs.Laws.Operand.{not_left}
 use Rattle.operand.specs.Destination.{Holding, holding, operand_of}
-use Rattle.format10.specs.Format10.{binary_number, binary_code, byte_code, move_byte}
+use Rattle.format10.specs.Format10.{binary_code, byte_code, move_byte}
 
 -- a write to an operand in memory whose page isn't fitted
 unwritten : (map : List ℕ) (z : Size) (s : State) (k a which w v : ℕ) {st : Store} → fitted map a ≡ false → exec map (write_to z s k (Mem a which w) v) st ≡ gone a st

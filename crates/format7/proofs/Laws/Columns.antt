@@ -1,19 +1,19 @@
 -- The two columns of format 7 and the way in which the code tells their rows apart are the same.
-use Prim.Native.Nat.{ℕ, ◌+◌, ◌-◌, ◌/◌, ◌%◌, ◌<◌, ◌≤◌}
+use Prim.Native.Nat.{ℕ, ◌+◌, ◌-◌, ◌/◌, ◌%◌, ◌≤◌}
 use mathlib.Core.Bool.{Bool, true, false, cond}
-use mathlib.Core.Path.{◌≡◌, refl, sym, ap, ◌∙◌}
+use mathlib.Core.Path.{◌≡◌, refl, ap, ◌∙◌}
 use native.Mathlib.Omega.{arith}
 use native.Mathlib.Decide.{dec_lt}
-use lib.Dec.{eqb, ltb}
+use lib.Dec.{ltb}
 use lib.ListN.{get_or}
 use borrow.Author.Tests.{lt-ltb, le-ltb, ne_eqb}
 use Rattle.unary.specs.Ops.{sbc_of}
 use Rattle.opcodes.proofs.Laws.Past.{from_last, Below, below}
-use Rattle.board.specs.Work.{Work, word, byte, ◌>>=◌}
+use Rattle.board.specs.Work.{Work, word, byte}
 use Rattle.state.specs.declared.State.{State}
 use Rattle.state.specs.declared.Outside.{Outside}
-use Rattle.format7.specs.Format7.{modify, test, tcall, tjmp, lsts, ssts, column0_a, column8_a, column_row, format7}
-use Rattle.format7.specs.Rows.{further_at, result_at, stored_at, modify_at, status_at, no_result_at, on_word_at}
+use Rattle.format7.specs.Format7.{modify, test, tjmp, column0_a, column8_a, column_row, format7}
+use Rattle.format7.specs.Rows.{result_at, stored_at, modify_at, status_at, no_result_at, on_word_at}
 
 abbrev pub by_row : Outside → State → ℕ → ℕ → Work State
 by_row out s op row =

@@ -8,7 +8,6 @@ use Rattle.board.proofs.Laws.{got-then, got-gone, got-give}
 use Rattle.state.specs.declared.State.{State}
 use Rattle.operand.specs.declared.Place.{Place}
 use Rattle.operand.specs.declared.Found.{Found}
-use Rattle.operand.specs.declared.Found.TheVariants as Found
 use Rattle.state.specs.State.{reg}
 use Rattle.operand.specs.Operand.{increment_of, locate, moved, read_of, address_of, found_as}
 use Rattle.operand.proofs.Laws.Operand.{located, decoded, undecoded, unread-operand}

@@ -5,9 +5,7 @@ use Rattle.board.proofs.Laws.Exec.{store_of}
 use Rattle.board.proofs.Laws.Once.{OneToOne, tells-back}
 use Rattle.operand.specs.declared.Place.{Place}
 use Rattle.operand.specs.declared.Found.{Found}
-use Rattle.operand.specs.declared.Found.TheVariants as Found
 use Rattle.operand.specs.declared.Held.{Held}
-use Rattle.operand.specs.declared.Held.TheVariants as Held
 use Rattle.operand.specs.Operand.{found_as}
 use Rattle.operand.specs.Destination.{Holding, held_as}
 

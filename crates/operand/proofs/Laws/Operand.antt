@@ -12,7 +12,6 @@ use Rattle.state.specs.State.{reg}
 use Rattle.operand.specs.declared.Place.{Place}
 use Rattle.operand.specs.declared.Place.TheVariants.{Reg, Mem}
 use Rattle.operand.specs.declared.Found.{Found}
-use Rattle.operand.specs.declared.Found.TheVariants as Found
 use Rattle.operand.specs.Operand.{increment_of, locate, moved, decoded_to, decode, read_of, with_part, write_to, address_of}
 pub use Rattle.operand.specs.Operand.{found_as, unfound}
 

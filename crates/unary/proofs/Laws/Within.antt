@@ -1,5 +1,5 @@
 -- A byte's result is a byte.
-use Prim.Native.Nat.{ℕ, ◌-◌, ◌<◌}
+use Prim.Native.Nat.{ℕ, ◌<◌}
 use mathlib.Core.Bool.{Bool}
 use native.Mathlib.Omega.{arith}
 use Rattle.wordmath.specs.declared.Flags.{Flags}

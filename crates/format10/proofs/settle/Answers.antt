@@ -1,0 +1,12 @@
+use mathlib.Core.Path.{refl, sym, ◌∙◌}
+use Rattle.board.proofs.Laws.{got-give, did}
+use Rattle.format10.proofs.Laws.Format10.{settle-yes, settle-no}
+use Rattle.format10.proofs.settle.Goals as goal
+
+pub returns-then-stores : goal.returns-then-stores
+returns-then-stores c = rw (settle-yes c.args.b c.args.s c.args.k c.args.place c.args.v (sym c.stores.ensures ∙ c.if-stores.true))
+    c.write.ensures
+
+pub returns : goal.returns
+returns c = rw (settle-no c.args.b c.args.s c.args.k c.args.place c.args.v (sym c.stores.ensures ∙ c.if-stores.false))
+    (did refl c.requires (got-give refl))

@@ -1,0 +1,22 @@
+use mathlib.Core.Path.{refl}
+use Rattle.board.proofs.Laws.{got-then, got-gone, did, passes}
+use Rattle.state.proofs.Laws.Answer.{went_store, went_as}
+use Rattle.operand.proofs.Laws.Operand.{decoded, undecoded, unfound}
+use Rattle.board.specs.Work.{word}
+use Rattle.format9.specs.Format9.{lea}
+use Rattle.format9.proofs.lea.Goals as goal
+
+pub returns-in_default : goal.returns-in_default
+unfolding lea
+returns-in_default c = rw (← c.destination_register-k.ensures, ← c.destination_mode-mode.ensures, ← c.register-r.ensures)
+    (did (went_store c.unfound.result) c.requires
+    (got-gone _ (undecoded word _ _ _ (rw c.reg.ensures at c.locate-found.ensures).got c.in_default.is) refl (passes went_as unfound c.unfound.ensures c.in_default.is)))
+
+pub returns : goal.returns
+unfolding lea
+returns c = rw (← c.destination_register-k.ensures, ← c.destination_mode-mode.ensures, ← c.register-r.ensures)
+    (record {
+      got = got-then _ (decoded word _ _ _ (rw c.reg.ensures at c.locate-found.ensures).got c.in-At.is c.moved-t.ensures) refl
+          c.lea_to.ensures.got;
+      board = c.lea_to.ensures.board;
+    })
