@@ -1,4 +1,6 @@
 // The assembler for patches: a source of lines of 32 bytes in, the word section of a job out.
+#![tactic(auto)]
+
 ghost use Rattle.std.specs.Prelude.{◌≡◌, ◌≤◌, length};
 ghost use Rattle.assembler.specs.Source.{line_count, most_lines};
 ghost use Rattle.assembler.specs.Answer.{faults, assembled_page, source_why, section_written, checked, assembled, asm_of, longest_section};
@@ -29,7 +31,7 @@ pub const LONGEST_SECTION: usize = 12290;
 pub const MOST_LABELS: usize = 4096;
 
 // What the assembler answers: the length of the section, or why the source is refused.
-#[derive(Drop)]
+#[derive(Clone, Copy)]
 pub enum Assembled {
     Section(u16),
     // 10 or 36.
@@ -39,7 +41,7 @@ pub enum Assembled {
 }
 
 // What is answered of the labels: the number of bytes written, or why the source is refused.
-#[derive(Drop)]
+#[derive(Clone, Copy)]
 pub enum Labelled {
     Bytes(u16),
     // 10 or 36.

@@ -10,7 +10,7 @@ use patchline::oneline::{How, Said, first, label_in, meaning, reach, second, wit
 use patchline::text::{gives, label, rest};
 
 // Why a line is refused.
-#[derive(Drop)]
+#[derive(Clone, Copy)]
 pub(crate) enum Fault {
     // 24: unknown text.
     Text,

@@ -1,4 +1,6 @@
 // The assembler for C, over plain lent bytes. c/hitchbriar.h has the answer's layout.
+#![tactic(auto)]
+
 ghost use Rattle.std.specs.Prelude.{◌≡◌};
 ghost use Rattle.refusal.specs.Page.{told};
 ghost use Rattle.assembler_c.specs.Call as Spec;

@@ -1,4 +1,6 @@
 // A listing of a stretch of an image, a line at a time.
+#![tactic(auto)]
+
 ghost use Rattle.std.specs.Prelude.{◌≡◌, [], ◌∷◌, ◌+◌, ◌*◌, ◌≤◌, ◌<◌, length, take, get_or};
 ghost use Rattle.hexdigits.specs.Over.{Wrote, WroteAt};
 ghost use Rattle.wordbytes.specs.Words.{word_at};
@@ -16,7 +18,7 @@ use refusal::number::{NO_STRETCH, TEXT_SHORT};
 use wordbytes::{byte_at, word_at};
 
 // What stands at an address: nothing is fitted there; an op code that is cut; or a whole op code, with the number of its words.
-#[derive(Drop)]
+#[derive(Clone, Copy)]
 pub enum CodeFound {
     Nothing,
     Cut,
@@ -24,7 +26,7 @@ pub enum CodeFound {
 }
 
 // What is answered: the line's length, and the address of the next line or that it is the last; or a refusal's number.
-#[derive(Drop)]
+#[derive(Clone, Copy)]
 pub enum Listed {
     Line(usize, u16),
     Last(usize),

@@ -1,4 +1,6 @@
 // The listing for C, over plain lent bytes. c/hitchbriar.h has the answer's layout.
+#![tactic(auto)]
+
 ghost use Rattle.std.specs.Prelude.{◌≡◌};
 ghost use Rattle.refusal.specs.Page.{told};
 ghost use Rattle.listing_c.specs.Calls as Spec;

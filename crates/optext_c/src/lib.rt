@@ -1,4 +1,6 @@
 // The text of one op code for C, written and read over plain lent bytes. c/hitchbriar.h has their layout.
+#![tactic(auto)]
+
 ghost use Rattle.std.specs.Prelude.{◌≡◌, [], ◌∷◌, ◌/◌, ◌≤◌, ◌<◌, length, take};
 ghost use Rattle.hexdigits.specs.Over.{in_front_of};
 ghost use Rattle.wordbytes.specs.Words.{bytes_in};

@@ -11,7 +11,7 @@ use wordbytes::byte_at;
 use wordmath::address::{minus, plus};
 
 // How a line is taken.
-#[derive(Drop)]
+#[derive(Clone, Copy)]
 pub enum How {
     // 24: not known.
     Unknown,
@@ -28,7 +28,7 @@ pub enum How {
 }
 
 // How a line is taken, and its words; of .ORG the origin as if it were the first word.
-#[derive(Drop)]
+#[derive(Clone, Copy)]
 pub struct Said {
     pub how: How,
     pub op: Op,

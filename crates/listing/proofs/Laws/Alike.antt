@@ -7,7 +7,6 @@ use native.Mathlib.Omega.{arith}
 use borrow.Author.Tests.{le-ltb}
 use lib.Dec.{eqb, leb, ltb}
 use lib.ListN.{length, get_or}
-use Rattle.hexdigits.specs.Over.{in_front_of}
 use Rattle.refusal.specs.Page.{call}
 use Rattle.wordbytes.specs.Words.{word_at}
 use Rattle.board.specs.Work.{fitted, Agree}

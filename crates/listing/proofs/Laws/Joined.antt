@@ -7,7 +7,6 @@ use native.Mathlib.Omega.{arith}
 use borrow.Author.Tests.{le-leb, lt-leb, ltb-true, ltb-false, eqb-false}
 use lib.Dec.{leb, ltb, eqb}
 use lib.ListN.{length, take}
-use Rattle.hexdigits.specs.Over.{in_front_of}
 use Rattle.hexdigits.proofs.Laws.Laid.{wrote-take}
 use Rattle.refusal.specs.Numbers.{no_stretch}
 use Rattle.refusal.specs.Page.{answered, left}

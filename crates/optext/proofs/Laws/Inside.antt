@@ -5,7 +5,7 @@ use Rattle.optext.specs.declared.rows.OperandKind.{OperandKind}
 use Rattle.optext.specs.declared.rows.OperandKind.TheVariants.{None, Mask, Disp, Reg, Arg4, Arg6, Count, High, Mid, Dst, Addr, Src, Word}
 use Rattle.optext.specs.Rows.{Row, OperandPlace, place_of, row_count, word_row, rows, the_row, no_row, base_of, first_of, second_of}
 use Rattle.optext.specs.Line.{bits_of, is_reserved, field_of, fits_row, row_of, operand_text}
-use Rattle.optext.proofs.Laws.Choose.{no, lt-cases, bool_cases, all_below, at, both, both_left, both_right, either, either-elim, first-at, first-hit}
+use Rattle.optext.proofs.Laws.Choose.{lt-cases, bool_cases, all_below, at, both, both_left, both_right, either, either-elim, first-at, first-hit}
 use Rattle.optext.proofs.Laws.Table.{is_kind, is-kind}
 use Rattle.optext.proofs.Laws.Heads.{pairs, pairs-at}
 use Rattle.optext.proofs.Laws.Places.{PartIn, most, bits-le, part-le, fields, sizes, row-fit}

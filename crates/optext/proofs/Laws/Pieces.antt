@@ -1,5 +1,5 @@
 -- Each piece of the guess is the nearest of its kind to the text it is read from.
-use Rattle.std.proofs.Common.{◌≡◌, ℕ, ◌+◌, ◌-◌, ◌*◌, ◌/◌, ◌%◌, ◌<◌, ◌≤◌, true, cond, eqb, ◌⊎◌, List, [], ◌∷◌, get_or, drop, sym, refl, ap, ◌∙◌, subst, ⊎_elim, mod-eq_of_lt, arith, eqb→eq, get_or-drop, le-ltb, lt-ltb, eq-eqb, ne_eqb}
+use Rattle.std.proofs.Common.{◌≡◌, ℕ, ◌+◌, ◌-◌, ◌*◌, ◌/◌, ◌%◌, ◌<◌, ◌≤◌, true, cond, eqb, List, [], ◌∷◌, get_or, drop, sym, refl, ap, ◌∙◌, subst, ⊎_elim, mod-eq_of_lt, arith, eqb→eq, get_or-drop, le-ltb, lt-ltb, eq-eqb, ne_eqb}
 use Rattle.hexdigits.specs.Digits.{digits, hex_of, hex4, hex2}
 use Rattle.optext.specs.Digits.{un_hex, un_hex4, un_hex2}
 use Rattle.optext.specs.Line.{registers, reg_a, reg_b, reg_text, is_reserved}

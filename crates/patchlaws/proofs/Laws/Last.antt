@@ -190,12 +190,12 @@ record One (t : List ℕ) (v h : ℕ) : Type 0 where
 
 one : (t q : List ℕ) (v h : ℕ) → (said_of t).how ≡ Relative → takes_one (said_of t).op.a ≡ true → ((d : List ℕ) → filled d t ≡ q ++ d) → One t v h
 unfolding op_in
-one t q v h how takes_one fill =
+one t q v h how takes fill =
     let sr = said-relative t how in
     let vs = words_of_text (offsets t) in
     let w = get_or vs 0 0 in
     let read = read-of-words (offsets t) (some-count vs sr.0) in
-    let r = last_of w (read.0.words 0) (ap (λ z. takes_one z.op.a) (sym sr.1) ∙ takes_one) in
+    let r = last_of w (read.0.words 0) (ap (λ z. takes_one z.op.a) (sym sr.1) ∙ takes) in
     let line = sym (r.text vs refl) ∙ read.1 ∙ ap (λ (z : List ℕ). filled z t) zero-offset ∙ fill (offset_pc 0) in
     let m = mode-end r.head q (w % 64) (get_or vs 1 0) (omega arith) line in
     let n : length vs ≡ 2 = read.0.count ∙ r.count ∙ rw m.takes refl in
@@ -213,9 +213,9 @@ one t q v h how takes_one fill =
 
 pub only-read : OnlyRead
 unfolding line_op
-only-read s t h how takes_one comma label =
+only-read s t h how takes comma label =
     let sr = said-relative t how in
-    let x = one t (before_first t) (value_of s (label_in (first_in t))) h how takes_one (λ d. first-filled t d comma (is_label (first_in t) label)) in (
+    let x = one t (before_first t) (value_of s (label_in (first_in t))) h how takes (λ d. first-filled t d comma (is_label (first_in t) label)) in (
       x.words,
       x.reads,
       rw sr.1
@@ -225,10 +225,10 @@ only-read s t h how takes_one comma label =
 
 pub last-read : LastRead
 unfolding line_op
-last-read s t h how takes_one other label =
+last-read s t h how takes other label =
     let sr = said-relative t how in
     let u = label_in (second_in t) in
-    let x = one t (before_second t) (value_of s u) h how takes_one (λ d. second-filled t d (has-comma t label) (no_label (first_in t) other) (is_label (second_in t) label)) in (
+    let x = one t (before_second t) (value_of s u) h how takes (λ d. second-filled t d (has-comma t label) (no_label (first_in t) other) (is_label (second_in t) label)) in (
       x.words,
       x.reads,
       rw sr.1

@@ -18,7 +18,7 @@ use Rattle.job.specs.declared.Section.TheVariants as section
 use Rattle.job.specs.Job.{why_address, why_entry, why_entries, why_count, after_section}
 use Rattle.optext.specs.declared.Op.{Op}
 use Rattle.assembler.specs.Source.{line_count, text_at, here_of, line_op}
-use Rattle.assembler.specs.Section.{inserted, section_entry, entered, words_placed, entry_bytes, section_bytes, section_of}
+use Rattle.assembler.specs.Section.{higher_of, inserted, section_entry, entered, words_placed, entry_bytes, section_bytes, section_of}
 use Rattle.assembler.proofs.Laws.Section.{flat-length}
 use Rattle.assembler.specs.Answer.{assembled}
 use Rattle.assembler.proofs.Laws.Good.{good}
@@ -83,7 +83,7 @@ entries-taken input map rest (e ∷ l) at low q r =
 inserted-length : (x : ℕ) (l : List ℕ) → length (inserted x l) ≡ suc (length l)
 unfolding inserted
 inserted-length x [] = refl
-inserted-length x (y ∷ ys) = ap suc (inserted-length _ ys)
+inserted-length x (y ∷ ys) = ap suc (inserted-length (higher_of x y) ys)
 
 entered-few : (o : Op) (h : ℕ) (l : List ℕ) → length (entered o h l) ≤ length l + 3
 unfolding entered

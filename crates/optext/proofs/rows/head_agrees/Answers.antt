@@ -1,0 +1,24 @@
+use Rattle.std.proofs.Common.{ℕ, ◌+◌, [], ◌∷◌, sym, ap, ◌∙◌, arith}
+use Rattle.optext.specs.Rows.{name_of}
+use Rattle.optext.specs.Line.{is_shown}
+use Rattle.optext.proofs.Laws.Near.{agree-le}
+use Rattle.optext.proofs.Laws.Table.{name-le}
+use Rattle.optext.proofs.Laws.Heads.{head-none, head-short, head-after}
+use Rattle.optext.proofs.rows.head_agrees.Goals as goal
+
+pub overflow_add-result : goal.overflow_add-result
+overflow_add-result c = let a = c.args in
+    let q = rw c.name_of-name.ensures at c.agreed-i.ensures in
+    omega (arith, q, c.agreed.ensures, agree-le a.t.now (name_of a.k), name-le a.k c.requires.1, agree-le c.after.result.now (32 ∷ []))
+
+pub returns-then-shown : goal.returns-then-shown
+returns-then-shown c = let a = c.args in
+    let q = rw c.name_of-name.ensures at c.agreed-i.ensures in
+    let e = sym (c.shown.ensures ∙ ap is_shown c.first.ensures) ∙ c.if-shown.true in
+    ap (λ (n : ℕ). c.agreed-i.result + n) (rw c.after.ensures at c.agreed.ensures) ∙ head-after a.t.now a.k c.agreed-i.result q (rw c.name_of-name.ensures at c.if-i-name.false) e
+
+pub returns-then-i-name : goal.returns-then-i-name
+returns-then-i-name c = head-short c.args.t.now c.args.k c.agreed-i.result (rw c.name_of-name.ensures at c.agreed-i.ensures) (rw c.name_of-name.ensures at c.if-i-name.true)
+
+pub returns : goal.returns
+returns c = rw (c.name_of-name.ensures, ← head-none c.args.t.now c.args.k (sym (c.shown.ensures ∙ ap is_shown c.first.ensures) ∙ c.if-shown.false)) at c.agreed-i.ensures

@@ -1,0 +1,6 @@
+use Rattle.optext.specs.Line.{reg_text}
+use Rattle.optext.proofs.writing.put_reg.Goals as goal
+
+pub returns : goal.returns
+unfolding reg_text
+returns c = rw (← c.reg_a.ensures, ← c.reg_b.ensures) c.put_text.ensures
