@@ -1,4 +1,6 @@
 // The answer of a call for C: three words in six lent bytes, low byte first.
+#![tactic(auto)]
+
 ghost use Rattle.std.specs.Prelude.{◌≡◌};
 ghost use Rattle.answer.specs.Answer as Spec;
 
@@ -23,5 +25,5 @@ pub fn put(answer: &mut [u8], a: u16, b: u16, c: u16)
     ensures { answer.new ≡ Spec.three_words a b c }
 {
     let from = three(a, b, c);
-    bytes::copy(&from, answer);
+    answer.copy_from_slice(&from);
 }

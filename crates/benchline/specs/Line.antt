@@ -8,7 +8,6 @@ use Rattle.refusal.specs.Page.{Page, refused, answered, Left, left, call}
 use Rattle.benchline.specs.declared.WordOrNone.{WordOrNone}
 use Rattle.benchline.specs.declared.WordOrNone.TheVariants.{At, Nowhere}
 use Rattle.benchline.specs.declared.Printed.{Printed}
-use Rattle.benchline.specs.declared.Printed.TheVariants as Printed
 
 abbrev pub space : List ℕ
 space = 32 ∷ []

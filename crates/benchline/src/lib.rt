@@ -1,4 +1,6 @@
 // The one line that bench prints, written into a lent text buffer from plain numbers.
+#![tactic(auto)]
+
 ghost use Rattle.std.specs.Prelude.{◌≡◌, ◌+◌, ◌*◌, ◌≤◌, ◌<◌, length};
 ghost use Rattle.benchline.specs.Line.{space, dashes, field, fields, mode_digit, place_text, first_text, line_text, name, decimal, refused_text, printed_page, print_of};
 ghost use Rattle.hexdigits.specs.Over.{Wrote, WroteAt};
@@ -9,14 +11,14 @@ use hexdigits::{hex, put_hex4};
 use refusal::number::TEXT_SHORT;
 
 // Where the first blank was: a place in the list of line words, or an address; or none.
-#[derive(Drop)]
+#[derive(Clone, Copy)]
 pub enum WordOrNone {
     At(u16),
     Nowhere,
 }
 
 // A line written into a lent text: its length; or 8 where the text is too short for it, which is then left as it is.
-#[derive(Drop)]
+#[derive(Clone, Copy)]
 pub enum Printed {
     Line(usize),
     Refused(u8),

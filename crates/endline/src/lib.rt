@@ -1,4 +1,6 @@
 // The line of a run's end, on bench's board and on others: the machine's answer in the line's own fields.
+#![tactic(auto)]
+
 ghost use Rattle.std.specs.Prelude.{◌≡◌};
 ghost use Rattle.benchline.specs.Line.{printed_page, print_of};
 ghost use Rattle.refusal.specs.Page.{left};

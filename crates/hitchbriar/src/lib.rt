@@ -1,4 +1,6 @@
 // Every function for C in one library, each over that of its own crate and with its contract: who calls several has the processor once. c/hitchbriar.h has their layout.
+#![tactic(auto)]
+
 ghost use Rattle.std.specs.Prelude.{◌≡◌};
 ghost use Rattle.refusal.specs.Page.{told};
 ghost use Rattle.machine_c.specs.Calls as Firmware;

@@ -1,4 +1,6 @@
 // Reads a job: three sections, each after its count, and perhaps a fourth. First the whole input is checked, then the lent buffers are filled.
+#![tactic(auto)]
+
 ghost use Rattle.std.specs.Prelude.{◌≡◌, ◌+◌, ◌≤◌, ◌<◌, length, get_or, set, replicate};
 ghost use Rattle.job.specs.Job as Spec;
 ghost use Rattle.job.specs.Job.{sections, entry_size, most_of, over_of, key_at, fit_page, why_page, why_address, why_line, why_key, why_entry, why_count, why_left, why_job, fit_pages, words_stored, listed, JobRoom, Filled, why_read, job_page, job_of};
@@ -11,13 +13,13 @@ use wordbytes::{byte_at, word_at};
 pub const READ_OF_JOB: usize = 25097;
 
 // What the job reader answers: how many line words there are, or why the job is refused.
-#[derive(Drop)]
+#[derive(Clone, Copy)]
 pub enum JobRead {
     Lines(u16),
     Refused(u8),
 }
 
-#[derive(Drop)]
+#[derive(Clone, Copy)]
 pub enum Section {
     Pages,
     Words,

@@ -1,4 +1,6 @@
 // The job reader for C, over plain lent bytes and words. c/hitchbriar.h has the answer's layout.
+#![tactic(auto)]
+
 ghost use Rattle.std.specs.Prelude.{◌≡◌};
 ghost use Rattle.refusal.specs.Page.{told};
 ghost use Rattle.job_c.specs.Calls as Spec;

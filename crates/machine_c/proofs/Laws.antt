@@ -5,7 +5,7 @@ pub mod Next
 use Prim.Native.Nat.{ℕ}
 use mathlib.Core.Bool.{true, false, not, ◌||◌}
 use mathlib.Core.List.{List, ◌++◌, append-nil}
-use mathlib.Core.Path.{◌≡◌, refl, ◌∙◌}
+use mathlib.Core.Path.{sym, ◌≡◌, refl, ◌∙◌}
 use lib.ListN.{length, take, drop}
 use lib.Seq.{take-length, drop-length}
 use borrow.Author.Tests.{eqb-true, ne_eqb, not-false}
@@ -39,8 +39,8 @@ use Rattle.machine_c.proofs.Laws.Laid.{laid-all, laid-state, laid-tally}
 use Rattle.machine_c.specs.Calls.{power_up_call, step_call, run_call}
 
 -- bytes are copied over a buffer of as many, and another is left as lent
-pub laid-copy : (bytes from b b' : List ℕ) → from ≡ bytes → length b ≡ length bytes → b' ≡ take (length from) from ++ drop (length from) b → b' ≡ laid bytes b
-laid-copy bytes from b b' q l e = e ∙ rw (q, take-length bytes, ← l, drop-length b, append-nil, laid-all bytes b l)
+pub laid-copy : (bytes from b b' : List ℕ) → from ≡ bytes → length b ≡ length bytes → b' ≡ from → b' ≡ laid bytes b
+laid-copy bytes from b b' q l e = e ∙ q ∙ sym (laid-all bytes b l)
 
 pub laid_none : (bytes b : List ℕ) → (length b ≡ length bytes → ⊥) → b ≡ laid bytes b
 unfolding laid

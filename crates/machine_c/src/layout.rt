@@ -201,7 +201,7 @@ pub fn put_state(b: &mut [u8], s: State, cause: u8, told: Reached)
         return;
     }
     let from = state_bytes(s, cause, told);
-    bytes::copy(&from, b);
+    b.copy_from_slice(&from);
 }
 
 // The place of the first blank, FFFF where there is none.
@@ -249,5 +249,5 @@ pub fn put_tally(b: &mut [u8], t: Tally)
         return;
     }
     let from = tally_bytes(t);
-    bytes::copy(&from, b);
+    b.copy_from_slice(&from);
 }

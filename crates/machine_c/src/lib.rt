@@ -1,4 +1,6 @@
 // The processor for C: power-up, one step and a run over plain lent bytes. c/hitchbriar.h has their layout.
+#![tactic(auto)]
+
 ghost use Rattle.std.specs.Prelude.{◌≡◌};
 ghost use Rattle.refusal.specs.Page.{told};
 ghost use Rattle.machine_c.specs.Calls as Spec;

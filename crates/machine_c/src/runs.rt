@@ -95,7 +95,7 @@ fn put_stop(b: &mut [u8], t: Tally, steps: u16)
         return;
     }
     let from = stop_bytes(t, steps);
-    bytes::copy(&from, b);
+    b.copy_from_slice(&from);
 }
 
 // A run over line words that ends after the first step whose cause is asked for, or after which the processor waits or is halted; or 21,

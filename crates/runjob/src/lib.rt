@@ -1,4 +1,6 @@
 // A job from end to end: its bytes in, bench's line out.
+#![tactic(auto)]
+
 ghost use Rattle.std.specs.Prelude.{◌≡◌, ◌≤◌, length, take};
 ghost use Rattle.refusal.specs.Page.{left};
 ghost use Rattle.benchline.specs.Line.{printed_page};
@@ -14,7 +16,7 @@ use refusal::number::TEXT_SHORT;
 use state::State;
 
 // Where a job begins: the state after power-up, and the number of its line words.
-#[derive(Drop)]
+#[derive(Clone, Copy)]
 pub struct Started {
     pub state: State,
     pub count: u16,

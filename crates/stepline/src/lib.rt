@@ -1,4 +1,6 @@
 // A step and its line: what stood at PC, what the step changed, why, and the words that it wrote.
+#![tactic(auto)]
+
 ghost use Rattle.std.specs.Prelude.{◌≡◌, ◌+◌, ◌*◌, ◌≤◌, length};
 ghost use Rattle.hexdigits.specs.Over.{Wrote, WroteAt};
 ghost use Rattle.board.specs.Exec.{Board, Lent, beside, log_count};
@@ -17,7 +19,7 @@ use step::{Cause, Reached, Turn, is_code, kind_of, logged};
 use wordbytes::{byte_at, word_at};
 
 // What is answered: the line's length, and the state and the cause after the step; or a refusal's number.
-#[derive(Drop)]
+#[derive(Clone, Copy)]
 pub enum Shown {
     Line(usize, Turn),
     Refused(u8),

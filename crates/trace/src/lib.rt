@@ -1,4 +1,6 @@
 // Checks another shop's trace of a job, and makes the trace of a job: after each step from power-up R0 to R5, SP, PC, PS and the mode.
+#![tactic(auto)]
+
 ghost use Rattle.std.specs.Prelude.{◌≡◌, [], ◌∷◌, ◌+◌, ◌≤◌, ◌<◌, length, set, take};
 ghost use Rattle.std.proofs.lemmas.List.Edits.{sets};
 ghost use Rattle.wordbytes.specs.Words.{low, high, bytes_in};
@@ -18,7 +20,7 @@ use wordbytes::{high, low, word_at};
 
 // What a trace is found to be: right; or the first wrong step with its first wrong field and what is right there; or the first step
 // that is missing, or one too many. Steps and fields count from 0.
-#[derive(Drop)]
+#[derive(Clone, Copy)]
 pub enum Verdict {
     Accepted,
     Wrong(u16, u16, u16),
@@ -27,14 +29,14 @@ pub enum Verdict {
 }
 
 // What the check answers.
-#[derive(Drop)]
+#[derive(Clone, Copy)]
 pub enum Checked {
     Done(Verdict),
     Refused(u8),
 }
 
 // What is answered where a trace is made: how many bytes it has.
-#[derive(Drop)]
+#[derive(Clone, Copy)]
 pub enum Made {
     Bytes(usize),
     Refused(u8),

@@ -1,4 +1,6 @@
 // The check of another shop's trace for C, over plain lent bytes. c/hitchbriar.h has their layout.
+#![tactic(auto)]
+
 ghost use Rattle.std.specs.Prelude.{◌≡◌};
 ghost use Rattle.refusal.specs.Page.{told};
 ghost use Rattle.answer.specs.Answer.{SixBytes};

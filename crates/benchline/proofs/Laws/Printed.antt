@@ -1,7 +1,7 @@
 -- A line that fits its text, and one that does not.
 use Prim.Native.Nat.{ℕ, ◌≤◌, ◌<◌}
 use mathlib.Core.List.{List}
-use mathlib.Core.Path.{◌≡◌, refl, ap}
+use mathlib.Core.Path.{◌≡◌, refl}
 use borrow.Author.Tests.{le-leb, lt-leb}
 use lib.ListN.{length}
 use Rattle.hexdigits.specs.Over.{in_front_of, Wrote}
@@ -9,7 +9,6 @@ use Rattle.refusal.specs.Numbers.{text_short}
 use Rattle.refusal.specs.Page.{Page, refused, refused_at, answered, left}
 use Rattle.refusal.proofs.Laws.Page.{one, one-call}
 use Rattle.benchline.specs.declared.Printed.{Printed}
-use Rattle.benchline.specs.declared.Printed.TheVariants as Printed
 use Rattle.benchline.specs.Line.{printed_page, print_of}
 
 pub printed-is : (s b e : List ℕ) (n : ℕ) → length s ≤ length b → Wrote s b e n → left (answered n) e ≡ print_of s b

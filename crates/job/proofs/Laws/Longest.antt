@@ -10,14 +10,14 @@ use lib.Dec.{leb, eqb}
 use lib.ListN.{length, take, replicate}
 use lib.Seq.{take_all, length-take-le, get_or-take}
 use borrow.Author.Tests.{le-leb, leb-true, eqb-true, ne_eqb}
-use Rattle.wordbytes.specs.Words.{byte_at, word_at}
+use Rattle.wordbytes.specs.Words.{word_at}
 use Rattle.refusal.specs.Numbers.{image_length, map_length, lines_length}
 use Rattle.refusal.specs.Page.{first}
 use Rattle.refusal.proofs.Laws.Page.{first-both}
 use Rattle.refusal.proofs.Laws.Refusal.{cond-none}
 use Rattle.job.specs.declared.Section.{Section}
 use Rattle.job.specs.declared.Section.TheVariants as section
-use Rattle.job.specs.Job.{sections, absent, entry_size, most_of, over_of, key_at, fit_page, cut, why_entry, why_entries, fit_pages, why_count, after_section, why_left, why_sections, why_job, why_read}
+use Rattle.job.specs.Job.{sections, absent, entry_size, most_of, over_of, key_at, fit_page, cut, why_entry, why_entries, fit_pages, why_count, after_section, why_sections, why_job, why_read}
 
 -- the most bytes of these sections
 abbrev longest_of : List Section → ℕ

@@ -68,7 +68,10 @@ entries-again (a ∷ rs) rest =
     let here : fields_from (bytes_in e ++ behind) 0 10 ≡ e = rw (right-ten a.state) at (words-again e behind) in
     let size : length (bytes_in e) + 0 ≡ 20 = omega (arith, bytes-length e, right-ten a.state) in
     let later : entries_from (bytes_in e ++ behind) 20 (length (entries_of rs)) ≡ entries_from behind 0 (length (entries_of rs)) = rw size at (entries-after (bytes_in e) behind 0 (length (entries_of rs))) in
-    rw (bytes-append e (joined (entries_of rs)), append_assoc (bytes_in e) (bytes_in (joined (entries_of rs))) rest, here, later, entries-again rs rest)
+    let whole : bytes_in (e ++ joined (entries_of rs)) ++ rest ≡ bytes_in e ++ behind = ap (λ z. z ++ rest) (bytes-append e (joined (entries_of rs))) ∙ append_assoc (bytes_in e) (bytes_in (joined (entries_of rs))) rest in
+    ap (λ z. entries_from z 0 (suc (length (entries_of rs)))) whole
+    ∙ ap (λ z. z ∷ entries_from (bytes_in e ++ behind) 20 (length (entries_of rs))) here
+    ∙ ap (λ z. e ∷ z) (later ∙ entries-again rs rest)
 
 -- THE ENTRIES COME BACK
 pub told-again : (rs : List After) → told_in (trace_bytes (entries_of rs)) ≡ entries_of rs

@@ -1,0 +1,11 @@
+use lib.ListN.{length, drop, replicate}
+use mathlib.Core.List.{◌++◌}
+use mathlib.Core.Path.{◌≡◌}
+use Prim.Native.Nat.{◌-◌, ◌≤◌}
+use Rattle.job.proofs.clear_lines.Given as goal
+
+abbrev pub invariant-loop-i : goal.invariant-loop-i
+invariant-loop-i l = (l.i ≤ length l.initial.lines) × (length l.lines ≡ length l.initial.lines) × (l.lines ≡ replicate l.i 0 ++ drop l.i l.initial.lines)
+
+abbrev pub decreases-loop-i : goal.decreases-loop-i
+decreases-loop-i l = length l.initial.lines - l.i
