@@ -1,4 +1,4 @@
--- 02, WISH 6: ("Here .WORD may hold an op code; 01's line reader still doesn't take that.").WORD and the four digits of a first word that is neither reserved
+-- 02, WISH 6: "Here .WORD may hold an op code; 01's line reader still doesn't take that." .WORD and the four digits of a first word that is neither reserved
 -- nor illegal (`word_text`: a listing has it, and `write_word` writes it) is the text of no op code, so every call of the reader refuses it.
 use Rattle.std.specs.Prelude.{ℕ, ◌≤◌, ◌<◌, true, false, List, ◌≡◌, length}
 use Rattle.optext.specs.declared.ReadBack.{ReadBack}
