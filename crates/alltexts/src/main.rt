@@ -1,7 +1,10 @@
 // Writes the text of every first word, with the two next words 1234 and ABCD, reads each text again, and writes one line of totals.
+#![tactic(auto)]
+
+use std::io::Print;
 
 // The totals: texts written, characters in them, words taken, texts whose words came back, and a sum of all of it.
-#[derive(Drop)]
+#[derive(Clone, Copy)]
 struct Totals {
     lines: u64,
     chars: u64,
@@ -93,16 +96,17 @@ fn all_words() -> Totals {
     t
 }
 
-fn put(n: u64, name: &[u8]) {
-    io::print_decimal(1, n);
-    io::write_all(1, name);
+fn put(out: &impl Print, n: u64, name: &[u8]) {
+    let _ = out.print(n);
+    let _ = out.write_all(name);
 }
 
-fn main() {
+fn main(rt: HostRuntime) {
     let t = all_words();
-    put(t.lines, b" texts, ");
-    put(t.chars, b" characters, ");
-    put(t.words, b" words, ");
-    put(t.back, b" read again, sum ");
-    put(t.sum as u64, b"\n");
+    let out = rt.stdout();
+    put(&out, t.lines, b" texts, ");
+    put(&out, t.chars, b" characters, ");
+    put(&out, t.words, b" words, ");
+    put(&out, t.back, b" read again, sum ");
+    put(&out, t.sum as u64, b"\n");
 }

@@ -1,38 +1,46 @@
-// What the programs share: bytes and lines on standard output, what is said on standard error where they could not be written, a
-// board's settings and the lines of an input. Each function that prints answers whether all was written.
-ghost use Rattle.std.specs.Prelude.{◌≡◌};
+// What the programs share: bytes, numbers and lines on an output, what is said on standard error where they could not be written,
+// reading until a buffer is full, a board's settings and the lines of an input. Each function that prints answers whether all was
+// written.
+#![tactic(auto)]
+
+ghost use Rattle.std.specs.Prelude.{◌≡◌, ◌≤◌, length};
 ghost use Rattle.printing.specs.Lines as Spec;
 
 use benchline::Printed;
 use hexdigits::put_hex4;
-use libc::{STDERR_FILENO, STDIN_FILENO, STDOUT_FILENO};
 use state::Settings;
+use std::io::{Print, Read};
 
-pub fn put(text: &[u8]) -> bool {
-    io::write_all(STDOUT_FILENO, text)
+pub fn put(out: &impl Print, text: &[u8]) -> bool {
+    out.write_all(text).is_ok()
+}
+
+// A number in decimal digits.
+pub fn put_decimal(out: &impl Print, n: u64) -> bool {
+    out.print(n).is_ok()
 }
 
 // The first n bytes of a text.
-pub fn put_first(text: &[u8], n: usize) -> bool {
+pub fn put_first(out: &impl Print, text: &[u8], n: usize) -> bool {
     if n <= text.len() {
-        return put(&text[..n]);
+        return put(out, &text[..n]);
     }
     false
 }
 
 // The same, and the end of the line.
-pub fn put_line(text: &[u8], n: usize) -> bool {
-    put_first(text, n) && put(b"\n")
+pub fn put_line(out: &impl Print, text: &[u8], n: usize) -> bool {
+    put_first(out, text, n) && put(out, b"\n")
 }
 
-fn put_space() -> bool {
-    put(b" ")
+fn put_space(out: &impl Print) -> bool {
+    put(out, b" ")
 }
 
-pub fn put_spaces(n: usize) -> bool {
+pub fn put_spaces(out: &impl Print, n: usize) -> bool {
     let mut i = 0;
     while i < n {
-        if !put_space() {
+        if !put_space(out) {
             return false;
         }
         i += 1;
@@ -41,39 +49,56 @@ pub fn put_spaces(n: usize) -> bool {
 }
 
 // A word's four hex digits.
-pub fn put_word(w: u16) -> bool {
+pub fn put_word(out: &impl Print, w: u16) -> bool {
     let mut digits = [0u8; 4];
     put_hex4(&mut digits, w);
-    put(&digits)
+    put(out, &digits)
 }
 
 // A line that was printed into a text.
-pub fn put_printed(text: &[u8], printed: Printed) -> bool {
+pub fn put_printed(out: &impl Print, text: &[u8], printed: Printed) -> bool {
     match printed {
-        Printed::Line(n) => put_line(text, n),
+        Printed::Line(n) => put_line(out, text, n),
         Printed::Refused(_) => false,
     }
 }
 
 // bench's line of a refusal: REFUSED and its number.
-pub fn put_refused(why: u8) -> bool {
+pub fn put_refused(out: &impl Print, why: u8) -> bool {
     let mut text = [0u8; 16];
     let printed = benchline::write_refused(&mut text, why);
-    put_printed(&text, printed)
+    put_printed(out, &text, printed)
 }
 
-// Says that a program's answer could not be written, where it was not.
-pub fn say_unless(written: bool, program: &[u8]) {
+// Says on standard error that a program's answer could not be written, where it was not.
+pub fn say_unless(err: &impl Print, written: bool, program: &[u8]) {
     if !written {
-        io::write_all(STDERR_FILENO, program);
-        io::write_all(STDERR_FILENO, b": the answer could not be written\n");
+        put(err, program);
+        put(err, b": the answer could not be written\n");
     }
 }
 
-// A board's four settings on standard input, a byte each as for C.
-pub fn read_board() -> Settings {
+// Reads until the buffer is full, the input ends or a read fails, and answers how many bytes it put at the buffer's start.
+pub fn read_full(input: &mut impl Read, buffer: &mut [u8]) -> usize
+    ensures { result ≤ length buffer.new }
+{
+    let mut done = 0;
+    while done < buffer.len() {
+        let Ok(n) = input.read(&mut buffer[done..]) else {
+            return done;
+        };
+        if n == 0 {
+            return done;
+        }
+        done += n;
+    }
+    done
+}
+
+// A board's four settings, a byte each as for C. What the input has too little of is 0.
+pub fn read_board(input: &mut impl Read) -> Settings {
     let mut bytes = [0u8; 4];
-    io::read_full(STDIN_FILENO, &mut bytes);
+    read_full(input, &mut bytes);
     Settings {
         blocks: bytes[0] != 0,
         powerup: bytes[1],

@@ -1,9 +1,12 @@
 // Runs the programs of compare/programs.txt, and prints where each ends. Standard input has the runs of each, a line each.
+#![tactic(auto)]
+
 ghost use Rattle.std.specs.Prelude.{◌<◌};
 
-use libc::{STDIN_FILENO, STDOUT_FILENO};
 use machine::{Finished, First, Powered, Ran, Tally};
+use printing::read_full;
 use state::State;
+use std::io::Print;
 
 mod programs;
 
@@ -62,10 +65,10 @@ fn sum(image: &[u8]) -> u32 {
 }
 
 // Bench's line of a run.
-fn print_line(ran: Ran) {
+fn print_line(out: &impl Print, ran: Ran) {
     let mut text = [0u8; 61];
     endline::write_end(&mut text, ran);
-    io::write_all(STDOUT_FILENO, &text);
+    printing::put(out, &text);
 }
 
 // The last hex digit of a number.
@@ -74,12 +77,12 @@ fn hex(number: u32) -> u8 {
     if n < 10 { 48 + n } else { 55 + n }
 }
 
-fn print_nine(text: &[u8; 9]) {
-    io::write_all(STDOUT_FILENO, text);
+fn print_nine(out: &impl Print, text: &[u8; 9]) {
+    printing::put(out, text);
 }
 
 // A space and eight hex digits.
-fn print_eight(number: u32) {
+fn print_eight(out: &impl Print, number: u32) {
     let mut text = *b" 00000000";
     let mut left = number;
     let mut i: usize = 8;
@@ -88,18 +91,18 @@ fn print_eight(number: u32) {
         left = left / 16;
         i -= 1;
     }
-    print_nine(&text);
+    print_nine(out, &text);
 }
 
 // Where a program ends: its name, bench's line of the last run, the blanks of all runs, the sum of the image's bytes.
-fn print_end(name: &[u8], last: Ran, blanks: u32, image: &[u8]) {
-    io::write_all(STDOUT_FILENO, b"end ");
-    io::write_all(STDOUT_FILENO, name);
-    io::write_all(STDOUT_FILENO, b" ");
-    print_line(last);
-    print_eight(blanks);
-    print_eight(sum(image));
-    io::write_all(STDOUT_FILENO, b"\n");
+fn print_end(out: &impl Print, name: &[u8], last: Ran, blanks: u32, image: &[u8]) {
+    printing::put(out, b"end ");
+    printing::put(out, name);
+    printing::put(out, b" ");
+    print_line(out, last);
+    print_eight(out, blanks);
+    print_eight(out, sum(image));
+    printing::put(out, b"\n");
 }
 
 // Sixteen line words, over and over.
@@ -113,6 +116,7 @@ fn fill(lines: &mut [u16; 4096], sixteen: &[u16; 16]) {
 
 // Each run goes on from the state and the image that the run before it left, over 4,096 line words.
 fn repeat(
+    out: &impl Print,
     name: &[u8],
     s: State,
     image: &mut [u8; 65536],
@@ -142,7 +146,7 @@ fn repeat(
         }
         i += 1;
     }
-    print_end(name, last, blanks, image);
+    print_end(out, name, last, blanks, image);
 }
 
 fn powered(image: &mut [u8; 65536], map: &[u8; 256]) -> Powered {
@@ -150,7 +154,14 @@ fn powered(image: &mut [u8; 65536], map: &[u8; 256]) -> Powered {
 }
 
 // A program is powered up once.
-fn measure(name: &[u8], pages: &[u8], words: &[u32], sixteen: &[u16; 16], runs: u16) {
+fn measure(
+    out: &impl Print,
+    name: &[u8],
+    pages: &[u8],
+    words: &[u32],
+    sixteen: &[u16; 16],
+    runs: u16,
+) {
     let mut image = [0u8; 65536];
     let mut map = [0u8; 256];
     fit(&mut map, pages);
@@ -158,31 +169,44 @@ fn measure(name: &[u8], pages: &[u8], words: &[u32], sixteen: &[u16; 16], runs: 
     let mut lines = [0u16; 4096];
     fill(&mut lines, sixteen);
     if let Powered::Up(s) = powered(&mut image, &map) {
-        repeat(name, s, &mut image, &map, &lines, runs);
+        repeat(out, name, s, &mut image, &map, &lines, runs);
     }
 }
 
 // A program on quiet line words.
-fn quietly(name: &[u8], pages: &[u8], words: &[u32], runs: u16) {
-    measure(name, pages, words, &programs::QUIET_LINES, runs);
+fn quietly(out: &impl Print, name: &[u8], pages: &[u8], words: &[u32], runs: u16) {
+    measure(out, name, pages, words, &programs::QUIET_LINES, runs);
 }
 
 // The program of a number.
-fn measure_at(k: u16, runs: u16) {
+fn measure_at(out: &impl Print, k: u16, runs: u16) {
     match k {
-        0 => quietly(b"sob", &programs::SOB_PAGES, &programs::SOB, runs),
-        1 => quietly(b"copy", &programs::COPY_PAGES, &programs::COPY, runs),
-        2 => quietly(b"call", &programs::CALL_PAGES, &programs::CALL, runs),
-        3 => quietly(b"byte", &programs::BYTE_PAGES, &programs::BYTE, runs),
-        4 => quietly(b"storm", &programs::STORM_PAGES, &programs::STORM, runs),
+        0 => quietly(out, b"sob", &programs::SOB_PAGES, &programs::SOB, runs),
+        1 => quietly(out, b"copy", &programs::COPY_PAGES, &programs::COPY, runs),
+        2 => quietly(out, b"call", &programs::CALL_PAGES, &programs::CALL, runs),
+        3 => quietly(out, b"byte", &programs::BYTE_PAGES, &programs::BYTE, runs),
+        4 => quietly(
+            out,
+            b"storm",
+            &programs::STORM_PAGES,
+            &programs::STORM,
+            runs,
+        ),
         5 => measure(
+            out,
             b"lines",
             &programs::LINES_PAGES,
             &programs::LINES,
             &programs::LINES_LINES,
             runs,
         ),
-        6 => quietly(b"block", &programs::BLOCK_PAGES, &programs::BLOCK, runs),
+        6 => quietly(
+            out,
+            b"block",
+            &programs::BLOCK_PAGES,
+            &programs::BLOCK,
+            runs,
+        ),
         _ => {}
     }
 }
@@ -200,15 +224,15 @@ fn with_digit(runs: u16, digit: u8) -> u16 {
 }
 
 // Each line of the input is the number of runs of the next program.
-fn main() {
+fn main(rt: HostRuntime) {
     let mut text = [0u8; 64];
-    let n = io::read_full(STDIN_FILENO, &mut text);
+    let n = read_full(&mut rt.stdin(), &mut text);
     let mut k: u16 = 0;
     let mut runs: u16 = 0;
     let mut i: usize = 0;
     while i < n {
         if text[i] == b'\n' {
-            measure_at(k, runs);
+            measure_at(&rt.stdout(), k, runs);
             k = std::num::wrapping_add_u16(k, 1);
             runs = 0;
         } else {

@@ -1,23 +1,32 @@
 // Reads a board and a job on standard input, powers up, and steps over the job's line words: a line for each step; a refused job is its
 // line alone. The board is its four settings as for C, a byte each. Where the answer could not be written standard error says so.
+#![tactic(auto)]
+
 use job::{JobRead, READ_OF_JOB};
-use libc::STDIN_FILENO;
 use machine::Powered;
-use printing::{put_line, put_refused, read_board, say_unless};
+use printing::{put_line, put_refused, read_board, read_full, say_unless};
 use refusal::MOST_LINE_WORDS;
 use refusal::number::LINES_LENGTH;
 use state::{Settings, State};
+use std::io::Print;
 use stepline::{Shown, write_step};
 
-fn put_refusal(shown: Shown) -> bool {
+fn put_refusal(out: &impl Print, shown: Shown) -> bool {
     match shown {
         Shown::Line(_, _) => false,
-        Shown::Refused(why) => put_refused(why),
+        Shown::Refused(why) => put_refused(out, why),
     }
 }
 
 // Steps over the line words, and writes each step's line.
-fn put_steps(s: State, image: &mut [u8], map: &[u8], board: Settings, lines: &[u16]) -> bool {
+fn put_steps(
+    out: &impl Print,
+    s: State,
+    image: &mut [u8],
+    map: &[u8],
+    board: Settings,
+    lines: &[u16],
+) -> bool {
     let mut text = [0u8; 288];
     let mut state = s;
     let mut i: usize = 0;
@@ -25,9 +34,9 @@ fn put_steps(s: State, image: &mut [u8], map: &[u8], board: Settings, lines: &[u
         let number = (i % 0x1_0000) as u16;
         let shown = write_step(&mut text, state, image, map, board, lines[i], number);
         let Shown::Line(n, turn) = shown else {
-            return put_refusal(shown);
+            return put_refusal(out, shown);
         };
-        if !put_line(&text, n) {
+        if !put_line(out, &text, n) {
             return false;
         }
         state = turn.state;
@@ -36,35 +45,43 @@ fn put_steps(s: State, image: &mut [u8], map: &[u8], board: Settings, lines: &[u
     true
 }
 
-fn step_up(image: &mut [u8], map: &[u8], board: Settings, lines: &[u16]) -> bool {
+fn step_up(out: &impl Print, image: &mut [u8], map: &[u8], board: Settings, lines: &[u16]) -> bool {
     match machine::power_up(image, map, board) {
-        Powered::Up(s) => put_steps(s, image, map, board, lines),
-        Powered::Refused(why) => put_refused(why),
+        Powered::Up(s) => put_steps(out, s, image, map, board, lines),
+        Powered::Refused(why) => put_refused(out, why),
     }
 }
 
-fn step_first(image: &mut [u8], map: &[u8], board: Settings, lines: &[u16], count: u16) -> bool {
+fn step_first(
+    out: &impl Print,
+    image: &mut [u8],
+    map: &[u8],
+    board: Settings,
+    lines: &[u16],
+    count: u16,
+) -> bool {
     let n = count as usize;
     if n <= lines.len() {
-        return step_up(image, map, board, &lines[..n]);
+        return step_up(out, image, map, board, &lines[..n]);
     }
-    put_refused(LINES_LENGTH)
+    put_refused(out, LINES_LENGTH)
 }
 
 // Reads the job, powers up and steps.
-fn step_job(input: &[u8], board: Settings) -> bool {
-    let mut image = io::large_buffer();
+fn step_job(out: &impl Print, input: &[u8], board: Settings) -> bool {
+    let mut image = [0u8; 65536];
     let mut map = [0u8; 256];
     let mut lines = [0u16; MOST_LINE_WORDS];
     match job::read_job(input, &mut image, &mut map, &mut lines) {
-        JobRead::Refused(why) => put_refused(why),
-        JobRead::Lines(count) => step_first(&mut image, &map, board, &lines, count),
+        JobRead::Refused(why) => put_refused(out, why),
+        JobRead::Lines(count) => step_first(out, &mut image, &map, board, &lines, count),
     }
 }
 
-fn main() {
-    let board = read_board();
+fn main(rt: HostRuntime) {
+    let board = read_board(&mut rt.stdin());
     let mut input = [0u8; READ_OF_JOB];
-    let got = io::read_full(STDIN_FILENO, &mut input);
-    say_unless(step_job(&input[..got], board), b"steps");
+    let got = read_full(&mut rt.stdin(), &mut input);
+    let written = step_job(&rt.stdout(), &input[..got], board);
+    say_unless(&rt.stderr(), written, b"steps");
 }

@@ -2,15 +2,17 @@
 // a line that is refused is printed with a mark under its column and the reason in words. An input of over 65,536 bytes is not
 // answered, and standard error says so; it also says where an answer could not be written. Each function that prints answers
 // whether all was written.
+#![tactic(auto)]
+
 ghost use Rattle.std.specs.Prelude.{◌≤◌, ◌<◌, length};
 
-use libc::{STDERR_FILENO, STDIN_FILENO, STDOUT_FILENO};
 use optext::reading::{after, un_hex4};
 use optext::{ReadBack, Written};
-use printing::{line_end, put, put_line, put_spaces, put_word, say_unless};
+use printing::{line_end, put, put_decimal, put_line, put_spaces, put_word, read_full, say_unless};
+use std::io::{Print, Read};
 
-fn put_end() -> bool {
-    put(b"\n")
+fn put_end(out: &impl Print) -> bool {
+    put(out, b"\n")
 }
 
 // The byte at a place, or 0.
@@ -63,28 +65,28 @@ fn word_at(line: &[u8], at: usize) -> u16 {
 }
 
 // Prints the line's text, whose op code has so many words; words after them are marked.
-fn put_op(line: &[u8], text: &[u8], length: usize, taken: usize) -> bool {
+fn put_op(out: &impl Print, line: &[u8], text: &[u8], length: usize, taken: usize) -> bool {
     if taken == words_in(line) {
-        return put_line(text, length);
+        return put_line(out, text, length);
     }
-    put_marked(line, 5 * less(taken), b"the op code has no more words") && put_end()
+    put_marked(out, line, 5 * less(taken), b"the op code has no more words") && put_end(out)
 }
 
 // Prints the text of the op code that the words of a line are.
-fn put_text(line: &[u8], words: &[u16]) -> bool {
+fn put_text(out: &impl Print, line: &[u8], words: &[u16]) -> bool {
     let mut text = [0u8; 32];
     match optext::write(words, &mut text) {
-        Written::Line(length, taken) => put_op(line, &text, length, taken),
-        Written::TextShort => put_end(),
-        Written::NoWords => put_end(),
-        Written::WordMissing => put_refused(line, line.len(), b"a next word is missing", 7),
+        Written::Line(length, taken) => put_op(out, line, &text, length, taken),
+        Written::TextShort => put_end(out),
+        Written::NoWords => put_end(out),
+        Written::WordMissing => put_refused(out, line, line.len(), b"a next word is missing", 7),
     }
 }
 
 // The same of the first n words.
-fn put_first(line: &[u8], words: &[u16], n: usize) -> bool {
+fn put_first(out: &impl Print, line: &[u8], words: &[u16], n: usize) -> bool {
     if n <= words.len() {
-        return put_text(line, &words[..n]);
+        return put_text(out, line, &words[..n]);
     }
     false
 }
@@ -105,68 +107,71 @@ fn words_in(line: &[u8]) -> usize {
 }
 
 // Prints the text of a line of words.
-fn write_words(line: &[u8]) -> bool {
+fn write_words(out: &impl Print, line: &[u8]) -> bool {
     let words = [word_at(line, 0), word_at(line, 5), word_at(line, 10)];
-    put_first(line, &words, words_in(line))
+    put_first(out, line, &words, words_in(line))
 }
 
 // Prints the word at a place after a space, if it is one of the first n.
-fn put_next(words: &[u16], at: usize, n: usize) -> bool {
+fn put_next(out: &impl Print, words: &[u16], at: usize, n: usize) -> bool {
     if at < n {
-        return put_spaces(1) && put_word(word(words, at));
+        return put_spaces(out, 1) && put_word(out, word(words, at));
     }
     true
 }
 
 // Prints the first n of up to three words.
-fn put_words(words: &[u16], n: usize) -> bool {
-    put_word(word(words, 0)) && put_next(words, 1, n) && put_next(words, 2, n) && put_end()
+fn put_words(out: &impl Print, words: &[u16], n: usize) -> bool {
+    put_word(out, word(words, 0))
+        && put_next(out, words, 1, n)
+        && put_next(out, words, 2, n)
+        && put_end(out)
 }
 
 // Prints the line, a mark under its column, and the reason.
-fn put_marked(line: &[u8], column: usize, why: &[u8]) -> bool {
-    put(line) && put_end() && put_spaces(column) && put(b"^ ") && put(why)
+fn put_marked(out: &impl Print, line: &[u8], column: usize, why: &[u8]) -> bool {
+    put(out, line) && put_end(out) && put_spaces(out, column) && put(out, b"^ ") && put(out, why)
 }
 
 // Prints a number after its name.
-fn put_number(name: &[u8], number: u64) -> bool {
-    put(name) && io::print_decimal(STDOUT_FILENO, number)
+fn put_number(out: &impl Print, name: &[u8], number: u64) -> bool {
+    put(out, name) && put_decimal(out, number)
 }
 
 // The same and the number of the refusal.
-fn put_refused(line: &[u8], column: usize, why: &[u8], number: u64) -> bool {
-    put_marked(line, column, why)
-        && put_number(b" (refusal ", number)
-        && put_number(b" at column ", column as u64)
-        && put(b")\n")
+fn put_refused(out: &impl Print, line: &[u8], column: usize, why: &[u8], number: u64) -> bool {
+    put_marked(out, line, column, why)
+        && put_number(out, b" (refusal ", number)
+        && put_number(out, b" at column ", column as u64)
+        && put(out, b")\n")
 }
 
 // Prints the words of a text.
-fn read_text(line: &[u8]) -> bool {
+fn read_text(out: &impl Print, line: &[u8]) -> bool {
     let mut words = [0u16; 3];
     match optext::read(line, &mut words) {
-        ReadBack::Words(n) => put_words(&words, n),
-        ReadBack::WordsShort => put_end(),
-        ReadBack::EarlyEnd(c) => put_refused(line, c, b"the line ends too early", 32),
-        ReadBack::AfterText(c) => put_refused(line, c, b"the text is whole before this", 31),
-        ReadBack::UnknownName(c) => put_refused(line, c, b"unknown mnemonic", 9),
-        ReadBack::BadOperand(c) => put_refused(line, c, b"bad operand", 30),
+        ReadBack::Words(n) => put_words(out, &words, n),
+        ReadBack::WordsShort => put_end(out),
+        ReadBack::EarlyEnd(c) => put_refused(out, line, c, b"the line ends too early", 32),
+        ReadBack::AfterText(c) => put_refused(out, line, c, b"the text is whole before this", 31),
+        ReadBack::UnknownName(c) => put_refused(out, line, c, b"unknown mnemonic", 9),
+        ReadBack::BadOperand(c) => put_refused(out, line, c, b"bad operand", 30),
     }
 }
 
-fn answer(line: &[u8]) -> bool {
+fn answer(out: &impl Print, line: &[u8]) -> bool {
     if is_words(line) {
-        return write_words(line);
+        return write_words(out, line);
     }
-    read_text(line)
+    read_text(out, line)
 }
 
 // Answers each line.
-fn answer_all(input: &[u8]) -> bool {
+fn answer_all(out: &impl Print, input: &[u8]) -> bool {
     let mut at = 0;
     while at < input.len() {
         let end = line_end(input, at);
-        if !answer(&input[at..end]) {
+        if !answer(out, &input[at..end]) {
             return false;
         }
         if input.len() <= end {
@@ -178,23 +183,24 @@ fn answer_all(input: &[u8]) -> bool {
 }
 
 // Is there a byte after those that were read?
-fn more() -> bool {
+fn more(input: &mut impl Read) -> bool {
     let mut next = [0u8; 1];
-    0 < io::read_full(STDIN_FILENO, &mut next)
+    0 < read_full(input, &mut next)
 }
 
-fn say_long() {
-    io::write_all(STDERR_FILENO, b"the input is longer than 65536 bytes\n");
+fn say_long(err: &impl Print) {
+    put(err, b"the input is longer than 65536 bytes\n");
 }
 
-fn main() {
-    let mut input = io::large_buffer();
-    let got = io::read_full(STDIN_FILENO, &mut input);
+fn main(rt: HostRuntime) {
+    let mut input = [0u8; 65536];
+    let got = read_full(&mut rt.stdin(), &mut input);
     if got == input.len() {
-        if more() {
-            say_long();
+        if more(&mut rt.stdin()) {
+            say_long(&rt.stderr());
             return;
         }
     }
-    say_unless(answer_all(&input[..got]), b"text");
+    let written = answer_all(&rt.stdout(), &input[..got]);
+    say_unless(&rt.stderr(), written, b"text");
 }

@@ -4,7 +4,10 @@
 // PLACE=VALUE. A place is R0 to R5, SP, PC, NZVC, I2, or the even address of a word, not in two digits. Numbers are hex. There
 // are a line word and a want at least, and one space stands between two words, a bar being one. A line that is empty or begins
 // with '#' is no vector. The processor is stepped through the functions for C, whose layout of a state is in c/hitchbriar.h.
-use libc::{STDIN_FILENO, STDOUT_FILENO};
+#![tactic(auto)]
+
+use printing::{put, put_decimal, read_full};
+use std::io::Print;
 use std::num::wrapping_add_u64;
 use text::find;
 use vector::tried;
@@ -20,37 +23,37 @@ fn is_vector(line: &[u8]) -> bool {
 }
 
 // Tries a vector and says what became of it; 1 where it is right, else 0.
-fn told(line: &[u8]) -> u64 {
-    let right = tried(line);
+fn told(out: &impl Print, line: &[u8]) -> u64 {
+    let right = tried(out, line);
     let end = find(line, 0, b':');
-    io::write_all(STDOUT_FILENO, &line[0..end]);
+    put(out, &line[0..end]);
     if right {
-        io::write_all(STDOUT_FILENO, b" ok\n");
+        put(out, b" ok\n");
         return 1;
     }
-    io::write_all(STDOUT_FILENO, b" FAILED\n");
+    put(out, b" FAILED\n");
     0
 }
 
-fn print(number: u64, behind: &[u8]) {
-    io::print_decimal(STDOUT_FILENO, number);
-    io::write_all(STDOUT_FILENO, behind);
+fn print(out: &impl Print, number: u64, behind: &[u8]) {
+    put_decimal(out, number);
+    put(out, behind);
 }
 
 // The last line; FAILED stands before it unless all vectors of the whole table are right.
-fn print_totals(all: u64, right: u64, whole: bool) {
+fn print_totals(out: &impl Print, all: u64, right: u64, whole: bool) {
     if !whole {
-        io::write_all(STDOUT_FILENO, b"the table is too long\n");
+        put(out, b"the table is too long\n");
     }
     if !whole | (all == 0) | (right != all) {
-        io::write_all(STDOUT_FILENO, b"FAILED: ");
+        put(out, b"FAILED: ");
     }
-    print(right, b" of ");
-    print(all, b" ok\n");
+    print(out, right, b" of ");
+    print(out, all, b" ok\n");
 }
 
 // Tries all vectors of a table.
-fn run_table(table: &[u8], whole: bool) {
+fn run_table(out: &impl Print, table: &[u8], whole: bool) {
     let mut all = 0;
     let mut right = 0;
     let mut from = 0;
@@ -60,15 +63,15 @@ fn run_table(table: &[u8], whole: bool) {
         from = end + 1;
         if is_vector(line) {
             all = wrapping_add_u64(all, 1);
-            right = wrapping_add_u64(right, told(line));
+            right = wrapping_add_u64(right, told(out, line));
         }
     }
-    print_totals(all, right, whole);
+    print_totals(out, all, right, whole);
 }
 
 // A table that fills the input may go on behind it.
-fn main() {
+fn main(rt: HostRuntime) {
     let mut input = [0u8; 16384];
-    let got = io::read_full(STDIN_FILENO, &mut input);
-    run_table(&input[..got], got < 16384);
+    let got = read_full(&mut rt.stdin(), &mut input);
+    run_table(&rt.stdout(), &input[..got], got < 16384);
 }

@@ -1,9 +1,9 @@
 // What a vector sets and looks at: words of the image, and the bytes of a state as c/hitchbriar.h lays them out.
 use super::text::{NO_NUMBER, hex};
-use libc::STDOUT_FILENO;
+use std::io::Print;
 use wordbytes::{byte_at, high, low};
 
-#[derive(Drop)]
+#[derive(Clone, Copy)]
 pub enum Target {
     // A word of the image.
     Memory(u16),
@@ -38,7 +38,7 @@ pub(crate) fn named(name: &[u8]) -> Target {
     if name.len() == 2 {
         return of_two_letters(byte_at(name, 0), byte_at(name, 1));
     }
-    if check::same(name, b"NZVC") {
+    if name == b"NZVC".as_slice() {
         return Target::Indicator(16);
     }
     let at = hex(name);
@@ -49,19 +49,18 @@ pub(crate) fn named(name: &[u8]) -> Target {
 }
 
 // Says which byte stands where another is wanted.
-fn same(has: u8, wanted: u8) -> bool {
+fn same(out: &impl Print, has: u8, wanted: u8) -> bool {
     if has == wanted {
         return true;
     }
-    io::print_hex(STDOUT_FILENO, has as u64, 2);
-    io::write_all(STDOUT_FILENO, b" is there: ");
+    let _ = print!(out; "{has:02x} is there: ");
     false
 }
 
 // Compares a byte where it is wanted, else puts it.
-fn byte(buffer: &mut [u8], at: usize, value: u8, wanted: bool) -> bool {
+fn byte(out: &impl Print, buffer: &mut [u8], at: usize, value: u8, wanted: bool) -> bool {
     if wanted {
-        return same(byte_at(buffer, at), value);
+        return same(out, byte_at(buffer, at), value);
     }
     if at < buffer.len() {
         buffer[at] = value;
@@ -70,14 +69,20 @@ fn byte(buffer: &mut [u8], at: usize, value: u8, wanted: bool) -> bool {
 }
 
 // The same of the low byte of a value and of its high byte.
-pub(crate) fn word(buffer: &mut [u8], at: u16, value: u16, wanted: bool) -> bool {
-    let first = byte(buffer, at as usize, low(value), wanted);
-    let second = byte(buffer, at as usize + 1, high(value), wanted);
+pub(crate) fn word(out: &impl Print, buffer: &mut [u8], at: u16, value: u16, wanted: bool) -> bool {
+    let first = byte(out, buffer, at as usize, low(value), wanted);
+    let second = byte(out, buffer, at as usize + 1, high(value), wanted);
     first & second
 }
 
 // A value of one byte.
-pub(crate) fn small(buffer: &mut [u8], at: u16, value: u16, wanted: bool) -> bool {
-    let right = byte(buffer, at as usize, low(value), wanted);
+pub(crate) fn small(
+    out: &impl Print,
+    buffer: &mut [u8],
+    at: u16,
+    value: u16,
+    wanted: bool,
+) -> bool {
+    let right = byte(out, buffer, at as usize, low(value), wanted);
     right & (value < 256)
 }

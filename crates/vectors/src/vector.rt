@@ -1,10 +1,11 @@
 // One vector: a board and a state are made as its line says, run, and looked at.
 use super::place::{Target, named, small, word};
 use super::text::{NO_NUMBER, find, hex};
-use libc::STDOUT_FILENO;
+use printing::put;
+use std::io::Print;
 
 // How far a line is read: its column, the words there, and whether all is right so far.
-#[derive(Drop)]
+#[derive(Clone, Copy)]
 struct Progress {
     column: u16,
     words: u16,
@@ -12,7 +13,7 @@ struct Progress {
 }
 
 // What a word asks for: a value goes into a place, or is wanted there.
-#[derive(Drop)]
+#[derive(Clone, Copy)]
 struct Deed {
     place: Target,
     value: u16,
@@ -57,12 +58,12 @@ fn step(state: &mut [u8], image: &mut [u8], line: u16) -> bool {
 }
 
 // Puts a value in its place, or compares it where it is wanted. Says whether that can be done and is right.
-fn done(state: &mut [u8], image: &mut [u8], deed: Deed, wanted: bool) -> bool {
+fn done(out: &impl Print, state: &mut [u8], image: &mut [u8], deed: Deed, wanted: bool) -> bool {
     let place = deed.place;
     match place {
-        Target::Memory(at) => word(image, at, deed.value, wanted),
-        Target::Register(at) => word(state, at, deed.value, wanted),
-        Target::Indicator(at) => small(state, at, deed.value, wanted),
+        Target::Memory(at) => word(out, image, at, deed.value, wanted),
+        Target::Register(at) => word(out, state, at, deed.value, wanted),
+        Target::Indicator(at) => small(out, state, at, deed.value, wanted),
         Target::Line => step(state, image, deed.value),
         Target::Nowhere => false,
     }
@@ -78,10 +79,10 @@ fn next_column(p: Progress) -> Progress {
 }
 
 // After a word. Says which is wrong.
-fn next_word(p: Progress, text: &[u8], right: bool) -> Progress {
+fn next_word(out: &impl Print, p: Progress, text: &[u8], right: bool) -> Progress {
     if !right {
-        io::write_all(STDOUT_FILENO, text);
-        io::write_all(STDOUT_FILENO, b" is wrong\n");
+        put(out, text);
+        put(out, b" is wrong\n");
     }
     Progress {
         column: p.column,
@@ -90,16 +91,22 @@ fn next_word(p: Progress, text: &[u8], right: bool) -> Progress {
     }
 }
 
-fn with_word(state: &mut [u8], image: &mut [u8], p: Progress, text: &[u8]) -> Progress {
-    if check::same(text, b"|") {
+fn with_word(
+    out: &impl Print,
+    state: &mut [u8],
+    image: &mut [u8],
+    p: Progress,
+    text: &[u8],
+) -> Progress {
+    if text == b"|".as_slice() {
         return next_column(p);
     }
-    let right = done(state, image, read(p, text), p.column == 3);
-    next_word(p, text, right)
+    let right = done(out, state, image, read(p, text), p.column == 3);
+    next_word(out, p, text, right)
 }
 
 // The words of a line behind its name, the colon and a space.
-fn with_words(state: &mut [u8], image: &mut [u8], line: &[u8]) -> Progress {
+fn with_words(out: &impl Print, state: &mut [u8], image: &mut [u8], line: &[u8]) -> Progress {
     let mut p = Progress {
         column: 0,
         words: 0,
@@ -108,18 +115,18 @@ fn with_words(state: &mut [u8], image: &mut [u8], line: &[u8]) -> Progress {
     let mut from = find(line, 0, b':') + 2;
     while from < line.len() {
         let end = find(line, from, b' ');
-        p = with_word(state, image, p, &line[from..end]);
+        p = with_word(out, state, image, p, &line[from..end]);
         from = end + 1;
     }
     p
 }
 
 // SP is 0200, PC is 0100, and all words are 0 before the sets. There must be a want.
-pub(crate) fn tried(line: &[u8]) -> bool {
+pub(crate) fn tried(out: &impl Print, line: &[u8]) -> bool {
     let mut state = [
         0, 0, 0, 0, 0, 0, 0, 0, 0, 0, 0, 0, 0, 2, 0, 1, 0, 0, 0, 0, 0, 0, 0, 0,
     ];
-    let mut image = io::large_buffer();
-    let p = with_words(&mut state, &mut image, line);
+    let mut image = [0u8; 65536];
+    let p = with_words(out, &mut state, &mut image, line);
     p.right & (p.column == 3) & (0 < p.words)
 }
