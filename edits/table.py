@@ -22,10 +22,10 @@ DEFINITION = re.compile(r"^(?: *(?:abbrev|unfoldable) (?:pub )?|(?:pub )?(?:data
 # too, and an edit's old text must stand once; `write_end` is one call.
 ALIKE = """destination_mode destination_register source_mode source_register register format9_code offset format2_code only_register
     format4_code argument format8_code block_source block_destination"""
-DEFINED = {"endline write_end": "Report endText"}
-DEFINED |= {f"opcodes fields::{field}": "Fields " + re.sub(r"_(\w)", lambda found: found[1].upper(), field) for field in ALIKE.split()}
+DEFINED = {"endline write_end": "Report end_text"}
+DEFINED |= {f"opcodes fields::{field}": f"Fields {field}" for field in ALIKE.split()}
 # Functions with fewer than two edits, and why.
-PRINTS = "put put_first put_line put_spaces put_word put_printed put_refused say_unless read_board"
+PRINTS = "put put_decimal put_first put_line put_spaces put_word put_printed put_refused say_unless read_board"
 FEWER = {f"printing {name}": "what the C library reads and writes is not in the logic" for name in PRINTS.split()}
 
 Edit = collections.namedtuple("Edit", "name crate gate place words")
