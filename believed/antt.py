@@ -1,9 +1,13 @@
 """Files of specs/ and proofs/: their `use` lines, and their items (definitions, laws, types) with the text of each."""
 import re
 
+HOLE = "◌"  # where an operator's arguments go
 NAME = r"(?:«[^»\n]*»|[^\s(){}.;,@\"«»]+)"
 HEAD = re.compile(rf"((?:(?:unfoldable|abbrev|pub) )*)(?:(data|record) (?=.* (?::|where))|(?=\S+(?: \{{[^}}:=]*\}})? :(?: |$)))({NAME})")
-CRATE = re.compile(r"Rattle·([a-z0-9_]+)(?:·(?:specs|proofs))?\.(specs|proofs)(?:\.(.*))?$")
+CRATE = re.compile(r"Rattle\.([a-z0-9_]+)\.(specs|proofs)(?:\.(.*))?$")
+RULES = re.compile(rf"(pub )?(ruleset) ({NAME}) = ")
+# The files of a function's own proof: what only the author can choose, and the goals that are left.
+OWN = ("Answers", "Invariants")
 
 
 def bare(line):
@@ -16,7 +20,7 @@ def indent(line):
 
 
 def module_of(path):
-    """Rattle·board·specs.specs.Work and Rattle·board.specs.Work are both (board, specs, Work)."""
+    """Rattle.board.specs.Work is (board, specs, Work)."""
     found = CRATE.match(path)
     if not found:
         return (path,)
@@ -24,7 +28,7 @@ def module_of(path):
 
 
 class Item:
-    """A definition, a law, a data type or a record of an .antt file; or a type of src/."""
+    """A definition, a law, a data type, a record or a ruleset of an .antt file; or a type of src/."""
 
     def __init__(self, file, name, kind, public, first, sections):
         self.file, self.name, self.kind, self.public = file, name, kind, public
@@ -37,7 +41,12 @@ class Item:
 
     @property
     def law(self):
-        return self.kind == "law"
+        return self.kind == "law" and not self.own
+
+    @property
+    def own(self):
+        """Does it stand in a function's own proof?"""
+        return self.file.folder == "proofs" and self.file.title in OWN
 
     @property
     def size(self):
@@ -107,8 +116,8 @@ def parts_of(names):
     """The operators that a part such as `+` may stand for."""
     parts = {}
     for name in names:
-        if "_" in name.strip("«»") and not name.startswith("«"):
-            for part in filter(None, name.split("_")):
+        if HOLE in name and not name.startswith("«"):
+            for part in filter(None, name.split(HOLE)):
                 parts.setdefault(part, set()).add(name)
     return parts
 
@@ -156,16 +165,16 @@ class File:
 
     def begin(self, n, text):
         """A line at its section's depth: a section, a fixity, an item's signature or one of its clauses."""
-        if re.match(r"\s*(?:(?:unfoldable|abbrev) )?(?:mutual|open|ruleset|axiom)\b", text):
+        if re.match(r"\s*(?:(?:unfoldable|abbrev) )?(?:mutual|open|axiom)\b", text):
             raise SystemExit(f"{self.path}:{n + 1}: not understood, teach antt.py: {text}")
-        head = HEAD.match(text.lstrip())
+        head = HEAD.match(text.lstrip()) or RULES.match(text.lstrip())
         if text.lstrip().startswith("module _"):
             self.sections = self.sections + [Section(text, indent(text))]
             self.item = None
         elif re.match(r"\s*infix[lr]? ", text):
             self.item = None
         elif head and head.group(3) not in ("unfolding", "where"):
-            marks = head.group(1).split()
+            marks = (head.group(1) or "").split()
             kind = head.group(2) or ("definition" if "abbrev" in marks or "unfoldable" in marks else "law")
             self.item = Item(self, head.group(3), kind, "pub" in marks, n, self.sections)
             self.item.signature.append(text)

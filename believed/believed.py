@@ -99,7 +99,7 @@ def unused(tree):
     theorems = tree.named_theorems() | tree.own_theorems()
     found = []
     for key, item in tree.index.items():
-        meant = item.kind == "type of src" or item.file.title == "Examples" or item.name.endswith("-spec")
+        meant = item.kind == "type of src" or item.file.title == "Examples" or item.own
         if not (meant or by[key] or key in theorems or item.name in quoted):
             found.append(item)
     for item in sorted(found, key=lambda i: (i.file.path, i.first)):

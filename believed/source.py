@@ -5,7 +5,7 @@ import re
 from antt import Item, Names, parts_of
 
 PAIRS = {"{": "}", "(": ")"}
-CLAUSE = re.compile(r"[^{]*?\b(requires|ensures)\s*(?=\{)|[^{]*(?=\{)")
+CLAUSE = re.compile(r"[^{]*?\b(requires|ensures)\*?(?: \w+)?\s*(?=\{)|[^{]*(?=\{)")
 
 
 def closing(text, at):

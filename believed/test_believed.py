@@ -7,16 +7,15 @@ import tempfile
 
 TOOL = os.path.join(os.path.dirname(os.path.abspath(__file__)), "believed.py")
 SPECS = """-- Work.
-use Prim.Native.Nat.{ℕ, _+_}
-use mathlib.Core.Path.{_≡_, refl}
+use Rattle.std.specs.Prelude.{ℕ, ◌+◌, ◌≡◌, refl}
 
-infixl 10 _>>=_
+infixl 10 ◌>>=◌
 
 pub data Work (A : Type 0) : Type 0 where
   give : A → Work A
 
-unfoldable pub _>>=_ : {A B : Type 0} → Work A → (A → Work B) → Work B
-_>>=_ (give x) f = f x
+unfoldable pub ◌>>=◌ : {A B : Type 0} → Work A → (A → Work B) → Work B
+(give x) >>= f = f x
 
 abbrev pub twice : ℕ → ℕ
 twice n = n + n
@@ -34,17 +33,16 @@ module _ (k : ℕ) where
   over n = n + k
 """
 LAWS = """-- Laws.
-use Prim.Native.Nat.{ℕ, _+_}
-use mathlib.Core.Path.{_≡_, refl}
-use Rattle·low·specs.specs.Work.{twice, over}
+use Rattle.std.specs.Prelude.{ℕ, ◌+◌, ◌≡◌, refl}
+use Rattle.low.specs.Work.{twice, over}
 
-abbrev pub proofWord : ℕ → ℕ
-proofWord n = n
+abbrev pub proof_word : ℕ → ℕ
+proof_word n = n
 
 pub twice-is : (n : ℕ) → twice n ≡ n + n
 twice-is n = refl
 
-pub rested : (n : ℕ) → proofWord n ≡ n
+pub rested : (n : ℕ) → proof_word n ≡ n
 rested n = refl
 """
 PROOFS = """# Proofs
@@ -67,16 +65,16 @@ TREE = {
     "docs/CONTRACTS.md": "Users call `machine`.\n",
     "docs/PROOFS.md": PROOFS,
     "docs/BELIEVE.md": "```\n$ believed/believed.py --sums\n```\n",
-    "crates/low/src/lib.rt": "ghost use Rattle·low·specs.specs.Work as W;\n\nfn inner(x: u16) -> u16\n    ensures { λ r. ⌜ r ≡ W.twice x ⌝ }\n{\n    x\n}\n",
+    "crates/low/src/lib.rt": "ghost use Rattle.low.specs.Work as W;\n\nfn inner(x: u16) -> u16\n    ensures { result ≡ W.twice x }\n{\n    x\n}\n",
     "crates/low/specs/Lib.antt": "pub mod Work\n",
     "crates/low/specs/Work.antt": SPECS,
     "crates/low/proofs/Laws/Work.antt": LAWS,
-    "crates/machine/src/lib.rt": "ghost use Rattle·machine·specs.specs.Use.{stepped, walk};\n\npub fn step(x: u16) -> u16\n    ensures { λ r. ⌜ r ≡ stepped walk x ⌝ }\n{\n    x\n}\n",
+    "crates/machine/src/lib.rt": "ghost use Rattle.machine.specs.Use.{stepped, walk};\n\npub fn step(x: u16) -> u16\n    requires { x < 2 }\n    ensures below { result < 2 ^ 16 }\n    ensures stepped { result ≡ stepped walk x }\n{\n    x\n}\n",
     "crates/machine/specs/Lib.antt": "pub mod Use\n",
     "crates/machine/specs/Use.antt": """-- Use.
-use Prim.Native.Nat.{ℕ}
-use Rattle·low.specs.Work.{Work, give, _>>=_}
-use Rattle·low.specs.Work as Low
+use Rattle.std.specs.Prelude.{ℕ}
+use Rattle.low.specs.Work.{Work, give, ◌>>=◌}
+use Rattle.low.specs.Work as Low
 
 abbrev pub walk : Work ℕ
 walk = do
@@ -132,7 +130,7 @@ def main():
         unreached = "no contract and no named theorem's statement reaches it; its place is proofs/"
         with_edit("crates/machine/specs/Use.antt", "(Low.shown x)", "x", {("hidden", unreached), ("shown", unreached)})
         with_edit("crates/low/specs/Work.antt", "  over n = n + k\n", "  over n = n + k\n\npub over-is : (n : ℕ) → over 1 n ≡ n + 1\nover-is n = refl\n", {("over-is", unreached)})
-        with_edit("docs/PROOFS.md", "| `twice-is` | `rested` |", "| `rested` | |", {("proofWord", "a statement reaches it; its place is specs/")})
+        with_edit("docs/PROOFS.md", "| `twice-is` | `rested` |", "| `rested` | |", {("proof_word", "a statement reaches it; its place is specs/")})
         os.chdir("/")
     print("believed: what statements of a small tree reach, and what breaks the rule")
 

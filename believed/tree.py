@@ -3,7 +3,7 @@ import collections
 import os
 import re
 
-from antt import File, Item, NAME, bare, module_of
+from antt import HOLE, File, Item, NAME, bare, module_of
 from source import Source
 
 # Crates of theorems alone.
@@ -108,14 +108,14 @@ class Tree:
     def found(self, module, name):
         """The item of this name in this module, of specs/, proofs/ or src/; a constructor's type."""
         if "declared" in module:
-            words = [w for w in module[module.index("declared") + 1 :] if w != "the-variants"]
+            words = [w for w in module[module.index("declared") + 1 :] if w != "TheVariants"]
             return self.type_of(module[0], words + [name])
         file = self.files.get(module)
         return file.here.get(name) if file else None
 
     def meaning(self, path, file, line=None):
         """The items that a path of a file's text, at this line, may mean: of its own items only those that begin above."""
-        if path.startswith("Rattle·"):
+        if path.startswith("Rattle."):
             *module, name = path.split(".")
             return [self.found(module_of(".".join(module)), name)]
         head, *rest = path.split(".")
@@ -123,7 +123,7 @@ class Tree:
         if rest and head in file.names.aliases:
             module = file.names.aliases[head]
             out = [self.found((*module, *rest[:n]), rest[n]) for n in range(len(rest))]
-        inside = file.parts.get(head.strip("_"), set()) if head.strip("_") != head else set()
+        inside = file.parts.get(head.strip(HOLE), set()) if head.strip(HOLE) != head else set()
         for name in {head} | file.parts.get(head, set()) | inside:
             if name in file.here and (line is None or file.here[name].first <= line):
                 out.append(file.here[name])
@@ -137,7 +137,7 @@ class Tree:
         text = re.sub(r'"(?:[^"\\]|\\.)*"', '""', text)
         words = [m.group(2) for m in PATH.finditer(text) if not m.group(1) and m.group(2) not in RESERVED]
         if re.search(r"(?<!\S)do(?!\S)|←", text):
-            words += ["_>>=_", "_>>_"]
+            words += ["◌>>=◌", "◌>>◌"]
         return {item.key for word in words for item in self.meaning(word, file, line) if item is not None}
 
     def closure(self, seeds):
@@ -153,8 +153,8 @@ class Tree:
         """Where each name is defined: every item but those of functions' own proofs, and every function."""
         by_name = collections.defaultdict(list)
         for file in self.files.values():
-            if not (file.folder == "proofs" and "Proof" in file.module):
-                for item in file.items:
+            for item in file.items:
+                if not item.own:
                     by_name[item.name].append(item)
         for source in self.sources.values():
             for function in source.functions:

@@ -4,7 +4,7 @@
 #   example-asan, text-asan, shop-asan, lengths-asan, serve-asan       under the address sanitizer
 # The library's code is the module that the toolchain makes of a program that calls the exported functions (rt try, which
 # proves nothing), compiled for this machine. With an argument the library is that one instead, for x86-64:
-# target/staticlib/libhitchbriar.a, which rt staticlib hitchbriar proves and writes; then the sanitizer is left out where this
+# crates/hitchbriar/out/libhitchbriar.a, which rt lib proves and writes in that folder; then the sanitizer is left out where this
 # machine is not x86-64.
 #   c/build.sh [LIBRARY]
 set -euo pipefail
@@ -23,9 +23,9 @@ unproved_library() {
     "$tools/bin/llvm-ar" rcs "$out/libhitchbriar.a" "$out/module.o" "$out/tried.o"
 }
 
-# The library's own accesses are checked too.
+# The library's own accesses are checked too, and it traps where it would go wrong.
 sanitized_module() {
-    sed -e 's/^\(attributes #[0-9]* = {\)/\1 sanitize_address/' "$from/module.ll" >"$out/sanitized.ll"
+    sed -e 's/^\(attributes #[0-9]* = {\)/\1 sanitize_address/' "$from/trapping.ll" >"$out/sanitized.ll"
     object "$out/sanitized.ll" "$out/sanitized.o" -O1 -fsanitize=address
 }
 
@@ -47,8 +47,5 @@ else
     [ "$(uname -m)" != x86_64 ] || sanitized "$@"
 fi
 for name in bench list; do
-    module . "$name" "$PWD/$out/$name.bc"
-    module_text "$out/$name.bc" >"$out/$name.ll"
-    object "$out/$name.ll" "$out/$name.o" -O3
-    cc "$out/$name.o" -o "$out/$name"
+    unproved_program . "$name" "$out/$name"
 done

@@ -1,14 +1,14 @@
 #!/usr/bin/env python3
 """Makes, of the list of functions for C, what builds and tests of the library need: exports.py FOLDER REPOSITORY
 
-The list is the source's own: every `#[no_mangle] pub extern "C" fn` of the crate hitchbriar, which has those of all other
-crates again. A parameter is a slice (`&[u8]`, `&mut [u8]`, `&[u16]`, `&mut [u16]`) or a number (u8, u16, u32); the answer is
-a u8. Written to FOLDER:
-    reach.rt      a program that reaches each of them, so that the toolchain compiles them without a proof
+The list is the source's own: every `#[unsafe(no_mangle)] pub extern "C" fn` of the crate hitchbriar, which has those of all
+other crates again. A parameter is a slice (`&[u8]`, `&mut [u8]`, `&[u16]`, `&mut [u16]`) or a number (u8, u16, u32); the answer
+is a u8. Written to FOLDER:
+    reach.txt     a program that reaches each of them, so that the toolchain compiles them without a proof
     tried.sed     gives the compiled functions of that program names that C can call
     tried.c       the functions under their own names, over the compiled ones of that program
-    proved.sed    as tried.sed, for the module of `rt staticlib`
-    proved.c      as tried.c, for the module of `rt staticlib`
+    proved.sed    as tried.sed, for the module of `rt lib`
+    proved.c      as tried.c, for the module of `rt lib`
     calls.h       for c/serve.c: each function by its name, over arguments read from a request
     calls.json    for chips/serve.mjs: each function's name and, for each argument, the bytes of an element, 0 for a number
 c/hitchbriar.h must declare each function as tried.c and proved.c define it.
@@ -19,7 +19,7 @@ import re
 import sys
 
 LIBRARY = "hitchbriar"
-EXPORT = re.compile(r'#\[no_mangle\]\s*pub extern "C" fn (\w+)\(([^)]*)\)\s*->\s*u8')
+EXPORT = re.compile(r'#\[unsafe\(no_mangle\)\]\s*pub extern "C" fn (\w+)\(([^)]*)\)\s*->\s*u8')
 SLICES = {
     "&[u8]": ("const uint8_t", 1),
     "&mut [u8]": ("uint8_t", 1),
@@ -59,7 +59,7 @@ def exported(root):
     """The functions of the library. None of another crate is missing in it, and none has other parameters."""
     functions = {function.name: function for function in exports_of(root, LIBRARY)}
     for line in (root / "crates.txt").read_text(encoding="utf-8").splitlines():
-        crate = line.partition("#")[0].partition(":")[0].strip()
+        crate, *_ = line.partition("#")[0].partition(":")[0].split() or [""]
         for function in exports_of(root, crate):
             if function.name not in functions or functions[function.name].parameters != function.parameters:
                 sys.exit(f"exports.py: {LIBRARY} has no {function.path()} with the same parameters")
@@ -85,11 +85,12 @@ def reaching(functions):
 
 def renaming_tried(functions):
     """The compiled functions become callable. Each widens its answer itself, as C on 32-bit Arm, on RISC-V and in WebAssembly
-    expects. The program's main makes room for another."""
+    expects. The program itself is left out."""
     for function in functions:
         yield rf's/^define internal \(.*\)i8 @"{function.path()}"(/define hidden \1zeroext i8 @{function.inner()}(/'
         yield rf's/@"{function.path()}"(/@{function.inner()}(/'
-    yield "s/^define i32 @main(/define hidden i32 @inner_main(/"
+    for main in ("i32 @main", 'internal void @"reach::main"'):
+        yield f"/^define {main}(/,/^}}/d"
 
 
 def renaming_proved(functions):
@@ -109,34 +110,25 @@ def prototype(function):
     return f"uint8_t {function.name}({', '.join(parts)})"
 
 
-def exporting_tried(functions):
-    """A compiled function takes a slice as the address of 16 bytes on every machine: the pointer at 0, 64 bits of length at 8,
-    aligned to 8. Where a pointer is four bytes, bytes 4 to 7 mean nothing."""
-    yield '#include "hitchbriar.h"'
-    yield "struct slice { _Alignas(8) const void *at; _Alignas(8) uint64_t length; };"
-    yield '_Static_assert(sizeof(struct slice) == 16 && offsetof(struct slice, length) == 8, "a slice of the module");'
-    for function in functions:
-        inner = ", ".join(NUMBERS.get(kind, "struct slice *") for _, kind in function.parameters)
-        yield f"uint8_t {function.inner()}({inner});"
-        yield prototype(function) + " {"
-        for name, kind in function.parameters:
-            if kind in SLICES:
-                yield f"    struct slice {name}_slice = {{ {name}, {name}_length }};"
-        given = ", ".join(name if kind in NUMBERS else f"&{name}_slice" for name, kind in function.parameters)
-        yield f"    return {function.inner()}({given});"
-        yield "}"
-
-
-def exporting_proved(functions):
-    """The functions of `rt staticlib` take each length in 64 bits, whatever size_t is."""
+def exporting(functions, lent):
+    """The compiled functions take each length in 64 bits, whatever size_t is."""
     yield '#include "hitchbriar.h"'
     for function in functions:
         inner = ", ".join(NUMBERS.get(kind) or f"{SLICES[kind][0]} *, uint64_t" for _, kind in function.parameters)
-        given = ", ".join(name if kind in NUMBERS else f"{name}, {name}_length" for name, kind in function.parameters)
+        given = ", ".join(name if kind in NUMBERS else f"{lent.format(name)}, {name}_length" for name, kind in function.parameters)
         yield f"uint8_t {function.inner()}({inner});"
         yield prototype(function) + " {"
         yield f"    return {function.inner()}({given});"
         yield "}"
+
+
+def exporting_tried(functions):
+    """The functions of `rt lib` put another pointer in the place of one that is null; those of a program are given none."""
+    return exporting(functions, "{0} ? {0} : (void *)4096")
+
+
+def exporting_proved(functions):
+    return exporting(functions, "{0}")
 
 
 def element(kind):
@@ -168,7 +160,7 @@ def describing(functions):
 
 
 FILES = {
-    "reach.rt": reaching,
+    "reach.txt": reaching,
     "tried.sed": renaming_tried,
     "tried.c": exporting_tried,
     "proved.sed": renaming_proved,

@@ -2,7 +2,7 @@
    text of one op code, written and read; the assembler for patches, and a source's labels; the listing; the job reader; the check
    of another shop's trace; and the plug recorder: one scan, and the report of a channel.
 
-   All of it is one library, libhitchbriar.a: `rt staticlib hitchbriar` proves it and writes it for x86-64, chips/library.sh
+   All of it is one library, libhitchbriar.a: `rt lib` in crates/hitchbriar proves it and writes it for x86-64, chips/library.sh
    makes it for other chips, and a release has it for each (docs/CHIPS.md). words.c beside this header is plain C: the words of
    the numbers; a release's libraries have it in them. A linker drops what is not called.
 
@@ -12,12 +12,12 @@
    buffers hold, and whatever their lengths are, a call returns, with 0 or with the number of its refusal. A refused call leaves
    every buffer as it was, except the answer where a text is refused with its column or a source with its line.
 
-   Nothing is kept between calls: no memory is allocated, and the library has no data of its own. So calls on different buffers
-   may go on at the same time, in threads and in interrupts. The work of a call is bounded by the lengths of what it is lent. A run
-   does a fixed part, looks at each byte of the map and at each line word, and makes a step for each line word. A step is one op
-   code or one element of a block move; within a run it costs less than a call of wd16_step does. The table below has the
-   instructions of a step and the stack of each function; docs/CHIPS.md has the bytes of code. Of a C library it needs memset,
-   memcpy and memmove at most, and the table says which function calls which of them on each chip.
+   Nothing is kept between calls: no memory is allocated, and the library has no data of its own but constants. So calls on
+   different buffers may go on at the same time, in threads and in interrupts. The work of a call is bounded by the lengths of
+   what it is lent. A run does a fixed part, looks at each byte of the map and at each line word, and makes a step for each line
+   word. A step is one op code or one element of a block move; within a run it costs less than a call of wd16_step does. The table
+   below has the instructions of a step and the stack of each function; docs/CHIPS.md has the bytes of code. Of a C library it
+   needs memset, memcpy and memmove at most, and the table says which function calls which of them on each chip.
 
    The old program's output is in the image: it writes to a card's page, and the caller reads that page's bytes when the call has
    returned. A value that is written over within one call is not seen; where each one counts, call wd16_step. */
@@ -25,6 +25,7 @@
 #define HITCHBRIAR_H
 
 /* Measured on each chip, of the module that is proved; docs/CHIPS.md tells how, and chips/measure.py --write writes it here.
+   (These figures are of the kit before the port to today's Rattle.)
    instructions                            cortex-m4           riscv32imc          aarch64             x86-64
    a step of wd16_run                      109 to 271          117 to 239          69 to 158           90 to 207
    a step of wd16_run_same                 108 to 271          118 to 239          67 to 156           90 to 208

@@ -2,21 +2,23 @@
 """Looks whether a module's text can be compiled where a pointer is four bytes: chips/check.py [--tell] TEXT
 
 Ends with 1 and tells what stands against it. The module keeps eight bytes for each pointer, and where a pointer is four bytes
-the other four mean nothing. That is harmless if no byte of a pointer's eight is ever read or written but as that pointer, or
-in a copy that takes all eight. To see it, the places of the whole module are sorted into objects: two places that may be the
-same, by a call, a copy or a load, are in one object, each at its offset. A place at an offset that is not a constant makes its
-object one of bytes, in which no pointer may stand. So an object is wrong where a pointer and anything else meet in it, wherever
-in the module that is.
+the other four mean nothing. That is harmless if no byte of a pointer's eight is ever read or written but as that pointer, in a
+copy that takes all eight, or by zeros over all eight. To see it, the places of the whole module are sorted into objects: two
+places that may be the same, by a call, a copy or a load, are in one object, each at its offset. A place at an offset that is not
+a constant makes its object one of bytes, in which no pointer may stand. So an object is wrong where a pointer and anything else
+meet in it, wherever in the module that is.
 
 Beside that, nothing may be in the text that depends on the width of a pointer or calls for what a chip has not: ptrtoint and
-inttoptr, atomics, vectors, globals, 64-bit divisions but those by a power of two, calls but memmove, memset and trap.
+inttoptr, atomics, vectors, loads of several values at once, globals but constant bytes, 64-bit divisions but those by a power of
+two, calls but memmove, memset and trap. An address may be looked at, by ptrtoaddr or beside null: nothing makes a pointer of it.
 """
 import re
 import sys
 
 KNOWN_CALLS = ("llvm.memmove.p0.p0.i64", "llvm.memset.p0.i64", "llvm.trap")
 NO_WORDS = re.compile(r"\b(ptrtoint|inttoptr|atomic|cmpxchg|addrspace|va_arg|indirectbr|invoke)\b")
-NO_LINES = re.compile(r"<\d+ x |^%\S+ = type|^@")
+NO_LINES = re.compile(r"<\d+ x |^%\S+ = type|^@|\b(?:load|store) \{")
+CONSTANT = re.compile(r'(@[\w.]+) = private unnamed_addr constant \[(\d+) x i8\] (?:c".*"|zeroinitializer), align 1$')
 DIVISION = re.compile(r"\b(?:udiv|urem|sdiv|srem)\b.*\bi(?:64|128) \S+, (\S+)")
 NAME = r'(?:"[^"]*"|[\w.]+)'
 BYTES = {"i1": 1, "i8": 1, "i16": 2, "i32": 4, "i64": 8, "ptr": 8, "float": 4, "double": 8}
@@ -99,11 +101,14 @@ class Module:
         self.uses, self.copies = [], []  # the line's number, the place, the kind, the bytes
         self.functions = list(functions(lines))
         self.entered = {name: [p and self.objects.new() for p in pointers] for name, pointers, _ in self.functions}
-        self.places = {}
+        self.answered = {name: self.objects.new() for name, _, _ in self.functions}
+        self.constants = dict(self.constant_bytes())
+        self.places, self.function = {}, ""
         for number, line in enumerate(lines, 1):
             self.look_at_words(number, line.split(";")[0])
         for name, pointers, body in self.functions:
-            self.places = {p: place for p, place in zip(pointers, self.entered[name]) if p}
+            self.function = name
+            self.places = {p: place for p, place in zip(pointers, self.entered[name]) if p} | self.constants
             for number, code in body:
                 self.look_at(number, code)
         self.look_at_pointers()
@@ -111,12 +116,23 @@ class Module:
     def against(self, number, what):
         self.found.append(f"{number}: {what}: {self.lines[number - 1].strip()}")
 
+    def constant_bytes(self):
+        """The places of constants, each all bytes."""
+        for number, line in enumerate(self.lines, 1):
+            found = CONSTANT.match(line)
+            if found:
+                place = self.objects.new()
+                self.uses.append((number, place, "constant", int(found.group(2))))
+                yield found.group(1), place
+
     def look_at_words(self, number, code):
+        if CONSTANT.match(self.lines[number - 1]):
+            return
         word, division = NO_WORDS.search(code), DIVISION.search(code)
         if word:
             self.against(number, word.group())
         if NO_LINES.search(code):
-            self.against(number, "a vector, a type or a global")
+            self.against(number, "a vector, a type, a global or a pair in memory")
         if division and not (division.group(1).isdigit() and int(division.group(1)).bit_count() == 1):
             self.against(number, "a 64-bit division")
 
@@ -152,8 +168,9 @@ class Module:
         self.objects.join(self.place(one), self.place(two))
         self.copies += [(number, self.place(word), "copy", size_of(size)) for word in (one, two)]
 
-    def memset(self, number, to, base, size):
-        self.uses.append((number, self.place(base), "set", size_of(size)))
+    def memset(self, number, to, base, byte, size):
+        kind = "zero set" if byte == "0" and size.isdigit() else "set"
+        self.uses.append((number, self.place(base), kind, size_of(size)))
 
     def call(self, number, to, answer, name, given):
         if name not in self.entered:
@@ -165,6 +182,19 @@ class Module:
                 self.objects.join(entered, self.place(one.split()[-1]))
         if answer == "ptr":
             self.against(number, "a function answers a pointer")
+        elif "ptr" in answer:
+            self.places[to] = self.answered[name]
+
+    # A pair of a pointer and a number stands for its pointer.
+
+    def pair(self, number, to, value):
+        self.places[to] = self.place(value)
+
+    def ret(self, number, to, value):
+        self.objects.join(self.answered[self.function], self.place(value))
+
+    def looked_at(self, number, to, value):
+        self.place(value)
 
     INSTRUCTIONS = [
         (re.compile(r"alloca .+, align"), alloca),
@@ -172,8 +202,15 @@ class Module:
         (re.compile(r"load (\S+), ptr (%\S+), align"), load),
         (re.compile(r"store (\S+) (\S+), ptr (%\S+), align"), store),
         (re.compile(r"call void @llvm\.memmove\S*\(ptr (%\S+), ptr (%\S+), i64 (\S+), i1"), memmove),
-        (re.compile(r"call void @llvm\.memset\S*\(ptr (%\S+), i8 \S+, i64 (\S+), i1"), memset),
-        (re.compile(rf"(?:tail )?call (\S+) @({NAME})\((.*)\)"), call),
+        (re.compile(r"call void @llvm\.memset\S*\(ptr (%\S+), i8 (\S+), i64 (\S+), i1"), memset),
+        (re.compile(rf"(?:tail )?call (\{{ [\w, ]+ \}}|\S+) @({NAME})\((.*)\)"), call),
+        (re.compile(r"insertvalue \{ ptr, i64 \} poison, ptr (%\S+), 0$"), pair),
+        (re.compile(r"insertvalue \{ ptr, i64 \} (%\S+), i64 \S+, 1$"), pair),
+        (re.compile(r"extractvalue \{ ptr, i64 \} (%\S+), 0$"), pair),
+        (re.compile(r"extractvalue \{ ptr, i64 \} (%\S+), 1$"), looked_at),
+        (re.compile(r"ret \{ ptr, i64 \} (%\S+)$"), ret),
+        (re.compile(r"ptrtoaddr ptr (%\S+) to i64$"), looked_at),
+        (re.compile(r"icmp eq ptr (%\S+), null$"), looked_at),
     ]
 
     def look_at(self, number, code):
@@ -211,10 +248,10 @@ class Module:
 
     @staticmethod
     def meets(kind, offset, size, slot):
-        """Whether bytes from an offset meet a pointer's slot other than as that pointer, or whole in a copy."""
+        """Whether bytes from an offset meet a pointer's slot other than as that pointer, or whole in a copy or by zeros."""
         if offset + size <= slot or offset >= slot + POINTER or (kind == "ptr" and offset == slot):
             return False
-        return kind != "copy" or offset > slot or offset + size < slot + POINTER
+        return kind not in ("copy", "zero set") or offset > slot or offset + size < slot + POINTER
 
     def told(self):
         objects = {self.objects.root((at, 0))[0] for at in range(len(self.objects.above))}

@@ -2,8 +2,8 @@
 # Builds the library for a chip: target/chips/TARGET/libhitchbriar.a, all functions of c/hitchbriar.h in it. For wasm32 also
 # target/chips/wasm32/hitchbriar.wasm, which has nothing to import.
 #   [PROVED=1] chips/library.sh TARGET [OPTIMIZATION [AS]]
-# TARGET: cortex-m4, riscv32imc, aarch64, wasm32 or x86-64 (chips/targets.sh). With PROVED=1 it is made of the module that rt
-# staticlib compiles once all is proved; else of the module that rt try makes, which proves nothing and takes seconds.
+# TARGET: cortex-m4, riscv32imc, aarch64, wasm32 or x86-64 (chips/targets.sh). With PROVED=1 it is made of the module that rt lib
+# compiles once all is proved; else of the module that rt try makes, which proves nothing and takes seconds.
 # OPTIMIZATION is -Oz, -Os, -O2, -O3, or fast: -O2 with most of the step inlined into the run. With AS x86 the module is
 # optimized as for the x86 with pointers of the same width, where 16 bits are a width of the machine, and then compiled for the
 # target; with AS own all is done as for the target. Without them it is what is best for the target.
@@ -45,10 +45,10 @@ wasm_module() {
     local exports
     exports=$(python3 -c 'import json, sys; print(*("--export=" + name for name in json.load(open(sys.argv[1]))))' "$from/calls.json")
     in_c chips/bare/memory.c memory.o -fno-builtin
-    ln -sf "$tools/bin/ld.lld" "$out/wasm-ld"
-    "$out/wasm-ld" --no-entry $exports --export=wd16_refusal_words --export=wd16_cause_words --export=wd16_mode_words \
+    # The linker goes by the name that it is called by; no link is left in the checkout, as rt ci wants it.
+    (exec -a wasm-ld "$tools/bin/ld.lld" --no-entry $exports --export=wd16_refusal_words --export=wd16_cause_words --export=wd16_mode_words \
         --export=__heap_base --strip-all -z stack-size=262144 --initial-memory=1048576 "$out/libhitchbriar.a" "$out/memory.o" \
-        -o "$out/hitchbriar.wasm"
+        -o "$out/hitchbriar.wasm")
 }
 
 # The functions' own names over the module, and the words. The kit's clang has no headers: those in chips/bare do.

@@ -27,7 +27,7 @@ libraries() {
     done
     # For x86-64 rt's own archive, with the words in it.
     if [ -n "${PROVED:-}" ]; then
-        install -m 644 target/staticlib/libhitchbriar.a "$out/lib/x86-64/libhitchbriar.a"
+        install -m 644 target/library/proved/libhitchbriar.a "$out/lib/x86-64/libhitchbriar.a"
         "$tools/bin/llvm-ar" rcsD "$out/lib/x86-64/libhitchbriar.a" target/chips/x86-64/words.o
     fi
     install -m 644 target/chips/wasm32/hitchbriar.wasm "$out/wasm/"
@@ -40,8 +40,10 @@ libraries() {
 built_programs() {
     local name
     if [ -n "${PROVED:-}" ]; then
-        rt check $programs
-        for name in $programs; do install "target/bin/$name" "$out/bin/x86-64-linux/"; done
+        for name in $programs; do
+            proved_program "$name"
+            install "crates/$name/out/$name" "$out/bin/x86-64-linux/"
+        done
     else
         for name in $programs; do
             unproved_program . "$name" "$PWD/target/library/$name" 2>target/library/said || { cat target/library/said >&2; return 1; }

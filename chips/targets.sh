@@ -48,14 +48,14 @@ target() { # NAME
     [ "$1" != "$(uname -m | tr _ -)" ] || { linker=cc emulator= binutils= packages=; }
 }
 
-# A module's text for another machine: its triple and data layout, and no names of x86-64's processors. -Os and -Oz are no more
-# than -O2 for a module, unless its functions ask for it.
+# A module's text for another machine: its triple and data layout, and no names of x86-64's processors. Addresses that are looked at
+# have 64 bits there too. -Os and -Oz are no more than -O2 for a module, unless its functions ask for it.
 retargeted() { # TEXT OUT OPTIMIZATION WORDS
     local ask=
     case $3 in -Os) ask=" optsize" ;; -Oz) ask=" minsize optsize" ;; esac
     echo 'int x;' | "$clang" --no-default-config "${@:4}" -S -emit-llvm -x c - -o - | grep '^target' >"$2"
     sed -e '/^target /d' -e 's/"\(target-cpu\|target-features\|tune-cpu\|probe-stack\|frame-pointer\)"="[^"]*"//g' \
-        -e "s/^\(attributes #0 = {\)/\1$ask/" "$1" >>"$2"
+        -e 's/ = ptrtoaddr ptr / = ptrtoint ptr /' -e "s/^\(attributes #0 = {\)/\1$ask/" "$1" >>"$2"
 }
 
 # The folder of the module: proved where PROVED is set, else tried.

@@ -10,7 +10,8 @@ import sys
 import check
 
 LOAD = re.compile(r"^(  (%r\d+) = load ptr, ptr (%r\d+), align 8, !noundef !1)$", re.M)
-ENTRY = re.compile(r'^define internal .*@"machine_c::layout::refused_run"\(ptr noundef %a0.*\n\w+:.*\n', re.M)
+ENTRY = re.compile(r'^define internal .*@"core::slots::Slots::copy_in[^"]*"\(ptr noundef %a0.*\n\w+:.*\n', re.M)
+ANSWER = re.compile(r"^(  (%r\d+) = extractvalue \{ ptr, i64 \} %r\d+, 0)$", re.M)
 
 # What is found, and the line: \2 is the loaded pointer, \3 its slot.
 AFTER_LOAD = {
@@ -22,7 +23,8 @@ AFTER_LOAD = {
     "ptrtoint": r"%x = ptrtoint ptr \2 to i64",
     "a 64-bit division": r"%x = udiv i64 %y, 10",
     "calls malloc": r"call void @malloc(i64 1)",
-    "a pointer is used in another way": r"%x = icmp eq ptr \2, null",
+    "a pointer is used in another way": r"%x = icmp ult ptr \2, \3",
+    "a pair in memory": r"%x = load { ptr, i64 }, ptr \3, align 8",
 }
 
 
@@ -40,9 +42,13 @@ def changed(text, pattern, by):
 def edits(text):
     for what, line in AFTER_LOAD.items():
         yield what, changed(text, LOAD, rf"\1\n  {line}")
-    # Behind a call: what a caller lends as a slice is read as a number.
+    # All eight bytes of a pointer, but not by zeros.
+    yield "set meets the pointer", changed(text, LOAD, r"\1\n  call void @llvm.memset.p0.i64(ptr \3, i8 1, i64 8, i1 false)")
+    # Behind a call: a pointer that a caller lends the place of is read as a number.
     yield "i64 meets the pointer", changed(text, ENTRY, lambda entry: entry.group() + "  %x = load i64, ptr %a0, align 8\n")
-    yield "a vector, a type or a global", "@g = global i8 0\n" + text
+    # Before a call: a pointer is put among the bytes that a function answers the place of.
+    yield "a pointer in an object of bytes", changed(text, ANSWER, r"\1\n  %z = alloca i8, align 1\n  store ptr %z, ptr \2, align 8")
+    yield "a vector, a type, a global", "@g = global i8 0\n" + text
 
 
 def main(name):

@@ -1,4 +1,4 @@
-"""Programs built: proved by rt check, with a line for each crate; or compiled in seconds without proof, and kept by content."""
+"""Programs built: proved by rt run, with a line for each crate; or compiled in seconds without proof, and kept by content."""
 import fcntl
 import glob
 import hashlib
@@ -14,7 +14,9 @@ from command.words import ROOT
 
 TARGET = os.path.join(ROOT, "target")
 UNPROVED = os.path.join(TARGET, "unproved")
-COMPILE = '. "$1/compare/toolchain.sh" && unproved_program "$1" "$2" "$3"'
+COMPILE = '. compare/toolchain.sh && unproved_program "$1" "$2" "$3"'
+# What turns a program's source into what is compiled, beside the kit.
+TURNING = ("compare/toolchain.sh", "compare/unchecked.py")
 
 
 @contextmanager
@@ -58,45 +60,42 @@ def built(name, proved):
 
 
 class Progress:
-    """What is said while crates are proved: how many of how many, and which are under way."""
+    """What is said while crates are proved: how many of how many, and which is under way."""
 
     def __init__(self, name):
-        self.plan, self.done, self.told, self.log = kit.plan(name), set(), None, []
+        self.name, self.plan = name, kit.plan(name)
+        self.done, self.crate, self.told, self.built, self.log = set(), None, None, False, []
 
     def heard(self, line):
-        """A line of rt."""
+        """A line of rt: what it begins with, what it looks at, and that it is proved; at last that the program is there, and runs."""
         self.log.append(line)
-        found = re.fullmatch(r"rt: (\w+) proved \((.*)\)", line)
-        if not found:
-            return
-        self.done.add(found.group(1))
-        if not found.group(2).startswith("unchanged"):
-            say(f"{len(self.done)} of {len(self.plan)}: {found.group(1)} proved ({found.group(2)})")
+        found = re.match(r"rt: chose --jobs \d+ for (\w+)$|fn (\w+)::|crate (\w+): modules ", line)
+        crate = next(filter(None, found.groups())) if found else None
+        if crate in self.plan:
+            self.crate = crate
+            # What it stands on was proved before, in this run or an earlier one.
+            self.done.update(name for name in kit.plan(crate) if name != crate)
+        elif line.startswith("logic=proved ") and self.crate not in (None, *self.done):
+            self.done.add(self.crate)
+            say(f"{len(self.done)} of {len(self.plan)}: {self.crate} proved")
+        elif line.startswith(f"rt: running out/{self.name};"):
+            self.built = True
 
     def quiet(self):
         """Nothing was heard for a second: says what is under way, once."""
-        left = [(crate, level) for crate, level in self.plan if crate not in self.done]
-        now = [crate for crate, level in left if level == left[0][1]][: jobs()]
-        if now and now != self.told:
-            self.told = now
-            say(f"{len(self.done)} of {len(self.plan)} proved; under way: {', '.join(now)}")
-
-
-def jobs():
-    """How many crates rt proves at a time."""
-    asked = os.environ.get("RT_JOBS", "")
-    return int(asked) if asked.isdigit() and int(asked) > 0 else min(os.cpu_count() or 1, 4)
+        if self.crate not in (None, self.told, *self.done):
+            self.told = self.crate
+            say(f"{len(self.done)} of {len(self.plan)} proved; under way: {self.crate}")
 
 
 def check(name, made):
-    """Proves a program and what it stands on."""
-    progress = Progress(name)
-    words = [kit.rt(), "check", name]
-    status = children.run_by_lines(words, progress.heard, progress.quiet, cwd=ROOT, env={**os.environ, "TMPDIR": made})
-    if status != 0:
+    """Proves a program and what it stands on; rt then runs it, on nothing, and how that ends is no matter."""
+    progress, folder = Progress(name), os.path.join(ROOT, "crates", name)
+    children.run_by_lines([kit.rt(), "run"], progress.heard, progress.quiet, cwd=folder, env={**os.environ, "TMPDIR": made})
+    if not progress.built:
         say_as_it_is("".join(f"{line}\n" for line in progress.log))
         raise Stop(NOT_DONE, f"{name} is not proved")
-    return os.path.join(TARGET, "bin", name)
+    return os.path.join(folder, "out", name)
 
 
 # ---- without proof
@@ -105,10 +104,11 @@ def check(name, made):
 def content(name):
     """What a program is made of: the kit, the crates that it stands on, and their sources."""
     digest = hashlib.sha256()
-    with open(os.path.join(kit.folder(), "KIT-ID"), "rb") as identity:
-        digest.update(identity.read())
+    for path in (os.path.join(kit.folder(), "KIT-ID"), *(os.path.join(ROOT, part) for part in TURNING)):
+        with open(path, "rb") as part:
+            digest.update(part.read())
     needs = kit.crates()
-    for crate, _ in kit.plan(name):
+    for crate in kit.plan(name):
         digest.update(f"{crate}: {needs[crate]}\n".encode())
         for path in sorted(glob.glob(os.path.join(ROOT, "crates", crate, "src", "**", "*.rt"), recursive=True)):
             with open(path, "rb") as source:

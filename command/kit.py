@@ -19,20 +19,19 @@ def rt():
 
 @functools.lru_cache(maxsize=None)
 def folder():
-    """The kit's folder: the guide that rt names stands in its docs/."""
+    """The kit's folder: the guide that rt names stands in it."""
     status, wrote, _ = children.run([rt(), "doc"])
     guide = wrote.decode("utf-8", "replace").strip()
     if status != 0 or not guide:
         raise Stop(NOT_DONE, "rt doc does not tell where the Rattle kit is")
-    return os.path.dirname(os.path.dirname(guide))
+    return os.path.dirname(guide)
 
 
 def launcher(kit):
-    """The words before a program: the kit's loader and C library, and its emulator where this machine is not x86-64."""
-    tools = os.path.join(kit, "on", platform.machine(), "toolchain")
-    emulator = os.path.join(tools, "bin", "qemu-x86_64")
-    loader = os.path.join(tools, "lib", "ld-linux-x86-64.so.2")
-    return ([emulator] if os.access(emulator, os.X_OK) else []) + [loader, "--library-path", os.path.join(tools, "lib")]
+    """The words before a program: the kit's loader and C library, and an emulator where this machine is not x86-64."""
+    emulator = [] if platform.machine() == "x86_64" else ["qemu-x86_64"]
+    library = os.path.join(kit, "toolchain", "lib")
+    return emulator + [os.path.join(library, "ld-linux-x86-64.so.2"), "--library-path", library]
 
 
 def crates():
@@ -42,22 +41,22 @@ def crates():
         for line in listed:
             name, colon, needs = line.partition("#")[0].partition(":")
             if colon:
-                found[name.strip()] = needs.split()
+                # A static library has that word after its name.
+                found[name.split()[0]] = needs.split()
     return found
 
 
 def plan(program):
-    """The crates that rt proves for a program, in its order: level by level, a crate above those that it stands on."""
-    needs, levels = crates(), {}
+    """The crates that rt proves for a program: those that it stands on, and it."""
+    needs, found = crates(), set()
     if program not in needs:
         raise Stop(NOT_DONE, f"there is no program {program} here")
 
     def visit(name):
-        if name not in levels:
-            under = [need for need in needs[name] if need in needs]
-            for need in under:
+        if name in needs and name not in found:
+            found.add(name)
+            for need in needs[name]:
                 visit(need)
-            levels[name] = max([levels[need] + 1 for need in under], default=0)
 
     visit(program)
-    return [(name, level) for name, level in sorted(levels.items(), key=lambda item: item[1])]
+    return sorted(found)

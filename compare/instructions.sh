@@ -1,8 +1,8 @@
 #!/usr/bin/env bash
 # Counts the instructions a step of the speed program and of the plain interpreter, both compiled for x86-64, and prints their
 # ratio. A count repeats where a time doesn't, on a machine that is not quiet.
-#   compare/instructions.sh [OURS]       OURS: a speed program such as target/bin/speed; else what rt try compiles, unproved
-# On x86-64 it counts by valgrind, elsewhere by the kit's emulator. There is no Rust library for x86-64 there: plain Rust is then
+#   compare/instructions.sh [OURS]       OURS: a speed program such as crates/speed/out/speed; else what rt try compiles, unproved
+# On x86-64 it counts by valgrind, elsewhere by qemu-x86_64. There is no Rust library for x86-64 there: plain Rust is then
 # the module that rustc makes of the library, optimized by the toolchain's clang at -O3 and called by lent.c, linked with a C
 # compiler for x86-64 that is installed by apt-get if there is none.
 set -euo pipefail

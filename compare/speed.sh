@@ -12,9 +12,9 @@ trap 'rm -rf "$work"' EXIT
 
 # The module is optimized as for x86-64: there 16 bits are a width of the machine.
 native_program() {
-    module . speed "$work/module.bc"
+    module . speed "$work/module.ll"
     "$clang" --target=x86_64-unknown-linux-gnu -march=x86-64 --no-default-config -fPIE -O3 -Xclang -fmerge-functions \
-        -mllvm -mergefunc-use-aliases -S -emit-llvm -x ir "$work/module.bc" -o "$work/ours.ll"
+        -mllvm -mergefunc-use-aliases -S -emit-llvm -x ir "$work/module.ll" -o "$work/ours.ll"
     for_machine "$work/ours.ll" "$work/here.ll"
     "$clang" --no-default-config -fPIE -O3 -Xclang -disable-llvm-passes -c -x ir "$work/here.ll" -o "$work/ours.o"
     cc -pie "$work/ours.o" -o "$work/ours"
@@ -22,8 +22,8 @@ native_program() {
 
 (cd compare && cargo build --release --offline --quiet)
 if [ "$(uname -m)" = x86_64 ]; then
-    rt check speed
-    cp target/bin/speed "$work/ours"
+    proved_program speed
+    cp crates/speed/out/speed "$work/ours"
 else
     native_program
 fi

@@ -1,45 +1,61 @@
-# Shell functions to build what rt compiles without proving it again, for any POSIX shell: sourced by hitch,
-# jobs/run_program.sh, c/ and compare/'s scripts.
-# Rattle programs are compiled for x86-64. On another machine they run under the kit's emulator.
-kit=$(dirname "$(dirname "$(rt doc)")")
-tools=$kit/on/$(uname -m)/toolchain
+# Shell functions to build what rt compiles without proving it again, for any POSIX shell: sourced in the root of the repository, by
+# hitch, c/ and compare/'s scripts, and for the toolchain's place by jobs/run_program.sh.
+# The kit and the programs that it compiles are for Linux on x86-64. On another machine they run under Debian's qemu-user.
+kit=$(dirname "$(rt doc)")
+tools=$kit/toolchain
 clang=$tools/bin/clang
-emulator=$tools/bin/qemu-x86_64
-[ -x "$emulator" ] || emulator=
+emulator=
+[ "$(uname -m)" = x86_64 ] || emulator=qemu-x86_64
 
-# A kit like the one that is installed, whose clang keeps the module that it is given to compile at -O3, and the object.
-# rt try compiles three times; the last module of the three has LLVM's assumptions checked at run time.
+# A kit like the one that is installed, whose clang keeps the module that rt lib or rt try gives it. rt try then goes no further: it
+# would compile that module and run it. rt finds its kit by where its own file lies, so that file is a copy.
 keeping_kit() ( # FOLDER MODULE
-    own=on/$(uname -m)
-    mkdir -p "$1/$own/toolchain/bin"
-    for tool in "$kit"/*; do [ "$(basename "$tool")" = on ] || ln -s "$tool" "$1/"; done
-    for tool in "$kit/$own"/*; do [ "$(basename "$tool")" = toolchain ] || ln -s "$tool" "$1/$own/"; done
-    ln -s "$tools/lib" "$1/$own/toolchain/lib"
-    for tool in "$tools/bin"/*; do ln -s "$tool" "$1/$own/toolchain/bin/"; done
-    rm "$1/$own/toolchain/bin/clang"
-    cat >"$1/$own/toolchain/bin/clang" <<C
+    mkdir -p "$1/bin" "$1/toolchain/bin"
+    for part in "$kit"/*; do
+        case $(basename "$part") in bin | toolchain) ;; *) ln -s "$part" "$1/" ;; esac
+    done
+    for tool in "$kit/bin"/*; do ln -s "$tool" "$1/bin/"; done
+    rm "$1/bin/rt" "$1/bin/rtlib.py"
+    cp "$kit/bin/rt" "$kit/bin/rtlib.py" "$1/bin/"
+    ln -s "$tools/lib" "$1/toolchain/lib"
+    for tool in "$tools/bin"/*; do ln -s "$tool" "$1/toolchain/bin/"; done
+    rm "$1/toolchain/bin/clang"
+    cat >"$1/toolchain/bin/clang" <<C
 #!/bin/sh
-"$clang" "\$@" || exit
-case " \$* " in *" -O3 "*) cp module.o "$2.o" && cp module.bc "$2" ;; esac
+case " \$* " in
+*" -O3 "*) cp module.bc "$2" ;;
+*" -fsanitize=address "*) cp module.bc "$2" && exit 1 ;;
+esac
+exec "$clang" "\$@"
 C
-    chmod +x "$1/$own/toolchain/bin/clang"
+    chmod +x "$1/toolchain/bin/clang"
 )
 
-# The LLVM module that the toolchain makes of a program, and as MODULE.o the object for x86-64. Nothing is proved by it.
-module() ( # REPOSITORY PROGRAM MODULE
+# The text of the LLVM module that the toolchain makes of a program, without the checks of rt try; and one that traps instead.
+# Nothing is proved by it.
+module() ( # REPOSITORY PROGRAM TEXT [TRAPPING]
     made=$(mktemp -d)
     trap 'rm -rf "$made"' EXIT
-    keeping_kit "$made/kit" "$3"
-    rm -f "$3"
-    (cd "$1" && RATTLE_HOME=$made/kit rt try "$2") >"$made/log" 2>&1 || true
-    [ -f "$3" ] || { cat "$made/log" >&2; exit 1; }
+    keeping_kit "$made/kit" "$made/module.bc"
+    (cd "$1/crates/$2" && "$made/kit/bin/rt" try </dev/null) >"$made/log" 2>&1 || true
+    [ -f "$made/module.bc" ] || { cat "$made/log" >&2; exit 1; }
+    module_text "$made/module.bc" >"$made/module.ll" && python3 compare/unchecked.py "$made/module.ll" "$3" ${4:+"$4"}
 )
 
-# A program for x86-64, linked as rt links it, of that object, with the C code of the kit's os. Nothing is proved by it.
+# A program, compiled as rt compiles it but unproved, and linked as rt links it, with the kit's C code.
 unproved_program() ( # REPOSITORY PROGRAM OUT
-    module "$1" "$2" "$3.bc" &&
-        "$kit/on/$(uname -m)/bin/rattle-link" --target x86_64-unknown-linux-gnu --toolchain "$tools" -o "$3" "$3.bc.o" \
-            "$kit/lib/libos_c.a" >/dev/null
+    module "$1" "$2" "$3.ll" && "$clang" --target=x86_64-unknown-linux-gnu --no-default-config -fPIE -ffunction-sections \
+        -fdata-sections -O3 -c -x ir "$3.ll" -o "$3.o" || exit 1
+    said=$("$kit/bin/rattle-link" --target x86_64-unknown-linux-gnu --toolchain "$tools" -o "$3" "$3.o" \
+        "$kit/c/libos_c.a" "$kit/c/liblibc_c.a" 2>&1) || { echo "$said" >&2; exit 1; }
+)
+
+# Proves, builds and links a program: crates/NAME/out/NAME. rt then runs it, on nothing, and how that ends is no matter.
+proved_program() ( # PROGRAM
+    said=$(mktemp)
+    trap 'rm -f "$said"' EXIT
+    (cd "crates/$1" && rt run </dev/null) >"$said" 2>&1 || true
+    grep -q "^rt: running out/$1;" "$said" || { cat "$said" >&2; exit 1; }
 )
 
 # A module's text.

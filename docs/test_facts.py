@@ -41,7 +41,7 @@ def quoted(text):
 
 
 def crates():
-    listed = [line.split(":")[0] for line in read("crates.txt").splitlines() if line and not line.startswith("#")]
+    listed = [line.split(":")[0].split()[0] for line in read("crates.txt").splitlines() if line and not line.startswith("#")]
     yield from same("crates.txt", listed, "the folders of crates/", [folder.name for folder in (ROOT / "crates").iterdir()])
     table = read("docs/ARCHITECTURE.md").split("## The crates\n", 1)[1].split("\n\nIn each crate", 1)[0]
     yield from same("crates.txt", listed, "docs/ARCHITECTURE.md", [name for cell in first_cells(table) for name in quoted(cell)])
@@ -57,17 +57,12 @@ def same(here, some, there, others):
                 yield f"{place} has {item} twice"
 
 
-def camel(name):
-    first, *rest = name.lower().split("_")
-    return first + "".join(word.capitalize() for word in rest)
-
-
 def refusals():
     table = [line.split("\t") for line in read("c/numbers.tsv").splitlines() if line.startswith("refusal\t")]
     numbers = [int(number) for _, number, _, _ in table if number != "0"]
     code = re.findall(r"^pub const (\w+): u8 = (\d+);", read("crates/refusal/src/number.rt"), re.M)
     meaning = re.findall(r"^(\w+) = (\d+)$", read("crates/refusal/specs/Numbers.antt"), re.M)
-    yield from same("refusal number.rt", [f"{camel(name)} {number}" for name, number in code], "refusal Numbers", [f"{name} {number}" for name, number in meaning])
+    yield from same("refusal number.rt", [f"{name.lower()} {number}" for name, number in code], "refusal Numbers", [f"{name} {number}" for name, number in meaning])
     yield from same("c/numbers.tsv", numbers, "refusal number.rt with the text's own", [int(number) for _, number in code] + sorted(OF_TEXT))
     paper = section(read("docs/PROOFS.md"), "## Refusal numbers")
     told = {int(number) for cell in first_cells(paper) for number in re.findall(r"\d+", re.sub(r"\([^)]*\)", "", cell))}
@@ -92,11 +87,14 @@ def names(parameters):
 
 
 def promised(contract):
-    """What a contract promises, as the paper writes it: x is what was lent, x' what is left; no name has its file before it."""
-    text = " ".join(re.search("⌜(.*)⌝", contract.split("ensures")[-1], re.S)[1].split())
-    for long, short in ((r"now \((\w+) \.exit\)", r"\1'"), (r"now \((\w+) \.entry\)", r"\1"), (r"\b[A-Z]\w*\.(?=\w)", ""), (r"\bself\b", "s")):
-        text = re.sub(long, short, text)
-    return re.sub(r"(?<!\w)\((\w+'?)\)", r"\1", text)
+    """What a contract's clauses promise, as the paper writes it: r is the answer, x what was lent, x' what is left; no name has its
+    file before it."""
+    for clause in re.split(r"\b(?:requires|ensures)\*?(?: \w+)? (?=\{)", contract)[1:]:
+        text = " ".join(re.fullmatch(r"\{(.*)\}", clause.strip(), re.S)[1].split())
+        short = ((r"\b(\w+)\.new\b", r"\1'"), (r"\b(\w+)\.(?:old|now)\b", r"\1"), (r"\b[A-Z]\w*\.(?=\w)", ""), (r"\bself\b", "s"), (r"\bresult\b", "r"))
+        for long, shorter in short:
+            text = re.sub(long, shorter, text)
+        yield re.sub(r"(?<![\w'])\((\w+'?)\)", r"\1", text)
 
 
 def stated():
@@ -115,6 +113,12 @@ def stated():
             head = ""
 
 
+def says(said, named, text, equal):
+    """Does a clause say what the paper says, whose names for the parameters are these?"""
+    said = re.sub(r"\b\w+", lambda word: named.get(word[0], word[0]), said)
+    return text == (said.split(" ≡ ", 1)[-1] if equal else said) or f"({text})" in said
+
+
 def promises():
     """Promises of docs/CONTRACTS.md that no function of the name has: with the paper's names for its parameters, and its type."""
     code = [found.groups() for path in sorted(ROOT.glob("crates/*/src/*.rt")) for found in HEAD.finditer(path.read_text(encoding="utf-8"))]
@@ -123,10 +127,7 @@ def promises():
             ours = names(given)
             ours = ours[1:] if equal and len(ours) == len(parameters) + 1 and ours[0] == "s" else ours
             if other == name and len(ours) == len(parameters) and result in (None, type_):
-                said = promised(contract)
-                for here, there in zip(ours, parameters):
-                    said = re.sub(rf"\b{here}\b(?!')|\b{here}(?=')", there, said)
-                if text == (said.split(" ≡ ", 1)[-1] if equal else said) or f"({text})" in said:
+                if any(says(said, dict(zip(ours, parameters)), text, equal) for said in promised(contract)):
                     break
         else:
             yield f"docs/CONTRACTS.md: no function {name}({', '.join(parameters)}) of the code promises {text}"
@@ -137,7 +138,9 @@ def changes():
     for block in re.findall(r"^```diff\n(.*?)^```$", read("docs/CHANGE.md"), re.M | re.S):
         for path, hunk in re.findall(r"^\+\+\+ (\S+)\n((?:[ +-](?!\+\+ ).*\n)+)", block, re.M):
             lines = [line[1:] for line in hunk.splitlines() if not line.startswith("-")]
-            if "\n" + "\n".join(lines) + "\n" not in "\n" + read(path):
+            if not (ROOT / path).is_file():
+                yield f"docs/CHANGE.md: there is no {path}"
+            elif "\n" + "\n".join(lines) + "\n" not in "\n" + read(path):
                 yield f"docs/CHANGE.md: {path} has not what the diff adds: {lines[0].strip()}"
 
 

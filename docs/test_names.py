@@ -1,6 +1,7 @@
 #!/usr/bin/env python3
 """Every name that the papers quote exists, so does every file that they name, and the table of mnemonics in docs/PROOFS.md has
 the rows of the text's table. Run by .ci/run."""
+import functools
 import os
 import re
 import sys
@@ -72,6 +73,23 @@ def function_there(source, crate, path):
     return any(name in found for found in modules.values())
 
 
+@functools.lru_cache(maxsize=None)
+def promising(crate):
+    """The functions of a crate that promise something, by the folders in proofs/ that are theirs: below their file's and their type's."""
+    found = set()
+    for path in files(f"crates/{crate}/src", ".rt"):
+        file, of, name = os.path.basename(path)[: -len(".rt")], "", ""
+        for line in read(path).splitlines():
+            head = re.match(r'impl (\w+)|( *)(?:pub(?:\(crate\))? )?(?:extern "C" )?fn (\w+)', line)
+            if head and head[1]:
+                of = head[1]
+            elif head:
+                name = "/".join(filter(None, ("" if file in ("lib", "main") else file, of if head[2] else "", head[3])))
+            elif re.match(r" +ensures\b", line):
+                found.add(name)
+    return found
+
+
 def quoted(text):
     return re.findall(r"`([^`\n]+)`", text)
 
@@ -86,8 +104,9 @@ def wrong_names(text, names):
 
 
 def wrong_files(text):
+    """Files that are not there; what rt makes in a crate's out/ may not be made yet."""
     for path in re.findall(r"(?<![\w/])(?:crates|docs|edits|c|jobs|compare|believed|chips|board)/[\w./-]*\w", text):
-        if not os.path.exists(os.path.join(ROOT, path)):
+        if not os.path.exists(os.path.join(ROOT, re.sub(r"/out/.*", "/src", path) if path.startswith("crates/") else path)):
             yield f"{path}: no such file"
 
 
@@ -106,7 +125,7 @@ def wrong_places(text, specs, laws):
 
 
 def rows_of_text():
-    runs = re.findall(r'rowsFrom 0x([0-9A-F]{4}) (\w+) \S+ \S+ \((.*) ∷ \[\]\)', read("crates", "optext", "specs", "Rows.antt"))
+    runs = re.findall(r'rows_from 0x([0-9A-F]{4}) (\w+) \S+ \S+ \((.*) ∷ \[\]\)', read("crates", "optext", "specs", "Rows.antt"))
     found = [(name, int(base, 16) + k * int(step, 0)) for base, step, names in runs for k, name in enumerate(re.findall(r'"([.\w]+)"', names))]
     return [(name, f"{number:04X}") for name, number in found if name != ".WORD"]
 
@@ -135,8 +154,9 @@ def wrong_rows(text, specs, source):
                 if not function_there(source, crate, word):
                     yield f"{name}: {crate} has no function `{word}`"
         for folder in proofs.split(", "):
-            if not os.path.isfile(os.path.join(ROOT, "crates", folder, "Proof.antt")):
-                yield f"{name}: no proof in crates/{folder}"
+            crate, path = folder.split("/proofs/")
+            if path not in promising(crate):
+                yield f"{name}: {crate} has no function with a contract for {folder}"
 
 
 def wrong_in(paper, specs, laws, source, names):

@@ -2,7 +2,7 @@
 """Runs the commands that the papers show, so that none fails for a reader: test_readme.py [PAPER ..]. Run by .ci/run after c/test.sh.
 
 A block of sh is commands, a line each. What would prove for minutes runs without a proof: hitch is given --unproved, and
-target/staticlib/libhitchbriar.a is the library that c/test.sh made. A plain block after it is what they print: its lines are
+crates/hitchbriar/out/libhitchbriar.a is the library that c/test.sh made. A plain block after it is what they print: its lines are
 among those printed, in order. SKIPPED are the commands that are not run, with the reason.
 """
 import os
@@ -15,7 +15,7 @@ import tempfile
 ROOT = pathlib.Path(__file__).resolve().parent.parent
 PAPERS = ["README.md", "docs/CHIPS.md", "board/README.md"]
 SKIPPED = {
-    "rt staticlib hitchbriar": "proves for minutes; the library that c/test.sh made stands in for it",
+    "(cd crates/hitchbriar && rt lib)": "proves for minutes; the library that c/test.sh made stands in for it",
     ".ci/run": "it runs this test",
     ".ci/release": "takes the emulators, and minutes",
     "./hitch release": ".ci/release runs its script",
@@ -43,12 +43,15 @@ def commands(lines):
 
 def stand_in(folder):
     """A folder like the repository's root, in which programs may be left, with the library made without a proof."""
-    library = folder / "target" / "staticlib"
-    library.mkdir(parents=True)
+    library = folder / "crates" / "hitchbriar" / "out"
+    for made in (library, folder / "target"):
+        made.mkdir(parents=True)
     (library / "libhitchbriar.a").symlink_to(ROOT / "target" / "c" / "libhitchbriar.a")
-    for entry in [*ROOT.iterdir(), *(ROOT / "target").iterdir()]:
-        if entry.name not in ("target", "staticlib", ".git"):
-            (folder / entry.relative_to(ROOT)).symlink_to(entry)
+    parts = [ROOT, *(ROOT / part for part in ("target", "crates", "crates/hitchbriar"))]
+    for entry in (entry for part in parts for entry in part.iterdir()):
+        here = folder / entry.relative_to(ROOT)
+        if not here.exists() and entry.name != ".git":
+            here.symlink_to(entry)
 
 
 def run(command, folder):

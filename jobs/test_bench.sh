@@ -2,10 +2,10 @@
 # Runs bench on every sample job, from a file and from a slow pipe, and on inputs at and over the longest job, and holds what it
 # prints to what it should: test_bench.sh. With a seed and a number also against the plain interpreter, on as many generated
 # jobs: test_bench.sh SEED JOBS (build it first: cargo build --release in compare). BENCH is the command to test; without it, the
-# bench that rt check bench proves and links.
+# bench that rt run proves and links in its folder.
 set -euo pipefail
 cd "$(dirname "$0")/.."
-bench=${BENCH:-jobs/run_program.sh target/bin/bench}
+bench=${BENCH:-jobs/run_program.sh crates/bench/out/bench}
 made=$(mktemp -d)
 trap 'rm -rf "$made"' EXIT
 wrong=0

@@ -125,7 +125,7 @@ class Mnemonics(unittest.TestCase):
 
     def test_the_table_of_the_text(self):
         with open(os.path.join(ROOT, "crates/optext/specs/Rows.antt"), encoding="utf-8") as rows:
-            runs = re.findall(r"rowsFrom 0x.*? \((.*) ∷ \[\]\)", rows.read())
+            runs = re.findall(r"rows_from 0x.*? \((.*) ∷ \[\]\)", rows.read())
         names = [name for run in runs for name in re.findall(r'"([.\w]+)"', run)]
         self.assertEqual(MNEMONICS, [name for name in names if name != ".WORD"])
 

@@ -164,7 +164,8 @@ class Proof(Case):
             os.symlink(os.path.join(ROOT, name), os.path.join(self.copy, name))
         subprocess.run(["cp", "-r", os.path.join(ROOT, "command"), HITCH, self.copy], check=True)
         with open(os.path.join(self.copy, "crates.txt"), "w", encoding="utf-8") as crates:
-            crates.write("board:\njob:  # a comment\nbench: board job io\n")
+            crates.write("board:\njob:  # a comment\nbench: board job io\nhitchbriar staticlib: job\n")
+        os.makedirs(os.path.join(self.copy, "crates", "bench"))
         words = "0012 = 0090\n0016 = 0080\n0080 = 09BF B7C0 8000\n0090 = 0C81\n"
         self.job = self.file("plain.txt", f"pages 00\n{words}lines 0000 x3\n")
 
@@ -178,7 +179,7 @@ class Proof(Case):
 
     def command(self, *words):
         """The copy's hitch with the stand-in."""
-        return [os.path.join(self.copy, "hitch"), *words], {**os.environ, "PATH": f"{self.copy}/bin:{os.environ['PATH']}", "RT_JOBS": "1"}
+        return [os.path.join(self.copy, "hitch"), *words], {**os.environ, "PATH": f"{self.copy}/bin:{os.environ['PATH']}"}
 
     def proves(self, status, said, script):
         """Runs a job over a proof."""
@@ -190,16 +191,18 @@ class Proof(Case):
 
     def test_a_line_for_each_crate(self):
         bench = Programs(proved=False).file("bench")
-        said = "hitch: 2 of 3: job proved (12 s)\nhitch: 3 of 3: bench proved (3 s)\n"
-        script = f"""[ "$*" = 'check bench' ] || exit 9
-echo 'rt: board proved (unchanged since it was last proved)'; echo 'logic=proved functions=3'
-echo 'rt: job proved (12 s)'; echo 'rt: bench proved (3 s)'; mkdir -p target/bin; cp '{bench}' target/bin/bench"""
+        said = "hitch: 1 of 3: job proved\nhitch: 3 of 3: bench proved\n"
+        script = f"""[ "$* $PWD" = 'run {self.copy}/crates/bench' ] || exit 9
+echo 'crate job: modules loaded=28 checked=5'; echo 'logic=proved functions=3'
+echo 'crate bench: modules loaded=0 checked=23' >&2; echo 'logic=proved functions=1' >&2; mkdir -p out; cp '{bench}' out/bench
+echo 'rt: running out/bench; to give it other input, run that file yourself' >&2; echo 'REFUSED 11'; exit 1"""
         self.assertEqual(self.proves(0, said, script).encode(), sample("example.line"))
 
     def test_what_is_under_way(self):
-        lines = "rt: board proved (2 s)\nrt: job NOT PROVED (exit 1, 4 s)\n"
-        said = "hitch: 1 of 3: board proved (2 s)\nhitch: 1 of 3 proved; under way: job\n"
-        script = "echo 'rt: board proved (2 s)'; sleep 1.6; echo 'rt: job NOT PROVED (exit 1, 4 s)'; exit 1"
+        lines = ["crate board: modules loaded=28 checked=5", "logic=proved functions=1", "rt: chose --jobs 2 for job", "error[goal]: job::read_job"]
+        said = "hitch: 1 of 3: board proved\nhitch: 1 of 3 proved; under way: job\n"
+        script = "; sleep 1.6; ".join("; ".join(f"echo '{line}'" for line in some) for some in (lines[:3], lines[3:])) + "; exit 1"
+        lines = "".join(f"{line}\n" for line in lines)
         self.proves(3, f"{said}{lines}hitch: bench is not proved\n", script)
 
     def test_a_signal_ends_all(self):

@@ -55,7 +55,7 @@ class Page(unittest.TestCase):
             ("assemble/src/main.rt", {"UNKNOWN_TEXT", "LABEL_AGAIN", "LABEL_MISSING", "OUT_OF_REACH", "OUT_OF_PLACE", "SOURCE_LINES"}),
         ):
             with open(os.path.join(ROOT, "crates", program), encoding="utf-8") as code:
-                said = re.findall(r'why == (\w+) \{\s*(?:return put|say)\(\s*b"(.*?)"', code.read())
+                said = re.findall(r'why == (\w+) \{\s*(?:return put|say)\(\s*\w+,\s*b"(.*?)"', code.read())
             self.assertEqual({name for name, _ in said}, refusals)
             for name, told in said:
                 with self.subTest(program=program, refusal=name):
