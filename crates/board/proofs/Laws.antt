@@ -177,7 +177,7 @@ pub did-then : {A B : Type 0} {map : List ℕ} {w : Work A} (f : A → Work B) {
 did-then f {st₁ = st₁} d e u = record { got = got-then f d.got (ap (λ z. answer_as z st₁) e) u.got; board = u.board }
 
 -- the error of an answer that is passed on
-passed : {A : Type 0} {r : Result A Blank} {b : Blank} → IsErrAnd r (λ y. y ≡ b) → r ≡ Err b
+pub passed : {A : Type 0} {r : Result A Blank} {b : Blank} → IsErrAnd r (λ y. y ≡ b) → r ≡ Err b
 passed {r = r} h = let p = err_from_is_err_and r h in p.1 ∙ ap Err p.2
 
 -- work that was not answered ends there

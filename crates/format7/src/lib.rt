@@ -151,7 +151,7 @@ fn tcall(s: State, image: &mut [u8], map: &[u8], log: &mut [u16; 32], op: u16) -
     requires { Board map.now (beside image.old log.old) }
     ensures { Works map.now (Spec.tcall s op) image.old log.old result image.new log.new }
 {
-    let Held { state: t, value: d, .. } = destination(s, image, map, false, op)?;
+    let Held { state: t, operand: d, .. } = destination(s, image, map, false, op)?;
     let u = t.push(image, map, log, t.regs.pc)?;
     u.tabled(image, map, plus(u.regs.pc, d))
 }
@@ -161,7 +161,7 @@ fn tjmp(s: State, image: &[u8], map: &[u8], op: u16) -> Result<State, Blank>
     requires { Lent map.now image.now }
     ensures { Saw map.now (Spec.tjmp s op) image.now result }
 {
-    let Held { state: t, value: d, .. } = destination(s, image, map, false, op)?;
+    let Held { state: t, operand: d, .. } = destination(s, image, map, false, op)?;
     t.tabled(image, map, plus(t.regs.pc, d))
 }
 
@@ -170,7 +170,7 @@ fn lsts(s: State, image: &[u8], map: &[u8], op: u16) -> Result<State, Blank>
     requires { Lent map.now image.now }
     ensures { Saw map.now (Spec.lsts s op) image.now result }
 {
-    let Held { state: t, value: d, .. } = destination(s, image, map, false, op)?;
+    let Held { state: t, operand: d, .. } = destination(s, image, map, false, op)?;
     Ok(t.with_status(d))
 }
 

@@ -96,7 +96,7 @@ fn ash(s: State, image: &[u8], map: &[u8], op: u16) -> Result<State, Blank>
     ensures { Saw map.now (Spec.ash s op) image.now result }
 {
     let k = register(op);
-    let Held { state: t, value: n, .. } = destination(s, image, map, true, op)?;
+    let Held { state: t, operand: n, .. } = destination(s, image, map, true, op)?;
     let done = shift::signed::ash(t.reg(k), (n % 256) as u8);
     Ok(t.with_done(k, done))
 }
@@ -122,7 +122,7 @@ fn xch(s: State, image: &mut [u8], map: &[u8], log: &mut [u16; 32], op: u16) -> 
 {
     let k = register(op);
     let to = destination_register(op);
-    let Held { state: t, place, value: d } = destination(s, image, map, false, op)?;
+    let Held { state: t, place, operand: d } = destination(s, image, map, false, op)?;
     let r = t.reg(k);
     operand::write(t.with_reg(k, d), image, map, log, false, to, place, r)
 }
@@ -133,7 +133,7 @@ fn ashc(s: State, image: &[u8], map: &[u8], op: u16) -> Result<State, Blank>
     ensures { Saw map.now (Spec.ashc s op) image.now result }
 {
     let k = register(op);
-    let Held { state: t, value: n, .. } = destination(s, image, map, true, op)?;
+    let Held { state: t, operand: n, .. } = destination(s, image, map, true, op)?;
     let pair = shift::signed::ashc(t.reg(k), t.reg(state::next(k)), (n % 256) as u8);
     Ok(t.with_pair(k, pair))
 }
@@ -144,7 +144,7 @@ fn mul(s: State, image: &[u8], map: &[u8], op: u16) -> Result<State, Blank>
     ensures { Saw map.now (Spec.mul s op) image.now result }
 {
     let k = register(op);
-    let Held { state: t, value: d, .. } = destination(s, image, map, false, op)?;
+    let Held { state: t, operand: d, .. } = destination(s, image, map, false, op)?;
     let pair = arith::wide::mul(t.reg(k), d);
     Ok(t.with_pair(k, pair))
 }
@@ -155,7 +155,7 @@ fn div(s: State, image: &[u8], map: &[u8], op: u16) -> Result<State, Blank>
     ensures { Saw map.now (Spec.div s op) image.now result }
 {
     let k = register(op);
-    let Held { state: t, value: d, .. } = destination(s, image, map, false, op)?;
+    let Held { state: t, operand: d, .. } = destination(s, image, map, false, op)?;
     let pair = arith::wide::div(t.reg(k), t.reg(state::next(k)), d);
     Ok(t.with_pair(k, pair))
 }

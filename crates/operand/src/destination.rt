@@ -40,6 +40,6 @@ pub fn destination(s: State, image: &[u8], map: &[u8], bytes: bool, op: u16) -> 
     Ok(Held {
         state: t,
         place: to,
-        value: v,
+        operand: v,
     })
 }

@@ -26,7 +26,7 @@ pub mod destination;
 pub struct Held {
     pub state: State,
     pub place: Place,
-    pub value: u16,
+    pub operand: u16,
 }
 
 // The increment or decrement of a byte op code: 1, but 2 for SP and PC.
@@ -94,7 +94,15 @@ fn pointed(image: &[u8], map: &[u8], step: u16, k: u16, r: u16, mode: u16) -> Re
 }
 
 // Where the operand of a mode and a register stands; a register operand, the commonest, is tried first.
-pub fn locate(image: &[u8], map: &[u8], step: u16, k: u16, r: u16, pc: u16, mode: u16) -> Result<Place, Blank>
+pub fn locate(
+    image: &[u8],
+    map: &[u8],
+    step: u16,
+    k: u16,
+    r: u16,
+    pc: u16,
+    mode: u16,
+) -> Result<Place, Blank>
     requires { Lent map.now image.now }
     ensures { Saw map.now (Spec.locate step k r pc mode) image.now result }
 {

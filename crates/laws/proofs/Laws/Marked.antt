@@ -28,7 +28,8 @@ use Rattle.state.specs.Stack.{push, push_reg, pop, pop_reg, pop_status, fetch, f
 use Rattle.operand.specs.declared.Place.{Place}
 use Rattle.operand.specs.declared.Place.TheVariants.{Reg, Mem}
 use Rattle.operand.specs.Operand.{Decoded, moved, decode, write_to}
-use Rattle.operand.specs.Destination.{Holding, operand_of, destination}
+use Rattle.operand.specs.declared.Held.{Held}
+use Rattle.operand.specs.Destination.{operand_of, destination}
 use Rattle.format1.specs.Format1.{xct_error, bpt, push_three, pop_three, save, savs, rest, rtt, rrtn, rrtt, rsts, rsvc, format1}
 use Rattle.formats2to4.specs.Low.{formats2to4, low_codes}
 use Rattle.formats2to4.specs.Format2.{rtn, msko, prtn, codes2, lcc, format2}
@@ -138,7 +139,7 @@ unfolding Always stored_at
 stored-unmarked z op row s p v e = always-cond Unmarked (eqb row 2) (give s) _ e (write-unmarked z s (destination_register op) p v e)
 
 -- an operand is decoded and read, and then
-with-operand : (z : Size) (s : State) (op : ℕ) (f : Holding → Work State) → Unmarked s → ((o : Holding) → Unmarked o.state → Always Unmarked (f o)) → Always Unmarked (destination z s op >>= f)
+with-operand : (z : Size) (s : State) (op : ℕ) (f : Held → Work State) → Unmarked s → ((o : Held) → Unmarked o.state → Always Unmarked (f o)) → Always Unmarked (destination z s op >>= f)
 with-operand z s op f e g = always-then (λ o. Unmarked o.state) Unmarked (destination z s op) f (operand-unmarked z s (destination_mode op) (destination_register op) e) g
 
 modify-unmarked : (z : Size) (s : State) (op row : ℕ) → Unmarked s → Always Unmarked (modify_at z s op row)
