@@ -65,7 +65,14 @@ fn settle(
 }
 
 // The op code on words, with the source x: MOV, which does not read its destination, is tried first.
-fn onto_words(s: State, image: &mut [u8], map: &[u8], log: &mut [u16; 32], op: u16, x: u16) -> Result<State, Blank>
+fn onto_words(
+    s: State,
+    image: &mut [u8],
+    map: &[u8],
+    log: &mut [u16; 32],
+    op: u16,
+    x: u16,
+) -> Result<State, Blank>
     requires { Board map.now (beside image.old log.old) }
     ensures { Works map.now (Inner.onto_words (Spec.binary_code op) s op x) image.old log.old result image.new log.new }
 {
@@ -95,7 +102,13 @@ fn onto_words(s: State, image: &mut [u8], map: &[u8], log: &mut [u16; 32], op: u
 }
 
 // Two operands of a word op code: the source is decoded and read first.
-fn on_words(s: State, image: &mut [u8], map: &[u8], log: &mut [u16; 32], op: u16) -> Result<State, Blank>
+fn on_words(
+    s: State,
+    image: &mut [u8],
+    map: &[u8],
+    log: &mut [u16; 32],
+    op: u16,
+) -> Result<State, Blank>
     requires { Board map.now (beside image.old log.old) }
     ensures { Works map.now (Spec.on_words (Spec.binary_code op) s op) image.old log.old result image.new log.new }
 {
@@ -147,7 +160,14 @@ fn settle_byte(
 }
 
 // The op code on bytes, with the source x: MOVB, which does not read its destination, is tried first.
-fn onto_bytes(s: State, image: &mut [u8], map: &[u8], log: &mut [u16; 32], op: u16, x: u8) -> Result<State, Blank>
+fn onto_bytes(
+    s: State,
+    image: &mut [u8],
+    map: &[u8],
+    log: &mut [u16; 32],
+    op: u16,
+    x: u8,
+) -> Result<State, Blank>
     requires { Board map.now (beside image.old log.old) }
     ensures { Works map.now (Inner.onto_bytes (Spec.byte_code op) s op x) image.old log.old result image.new log.new }
 {
@@ -177,7 +197,13 @@ fn onto_bytes(s: State, image: &mut [u8], map: &[u8], log: &mut [u16; 32], op: u
 }
 
 // Two operands of a byte op code: the source is decoded and read first.
-fn on_bytes(s: State, image: &mut [u8], map: &[u8], log: &mut [u16; 32], op: u16) -> Result<State, Blank>
+fn on_bytes(
+    s: State,
+    image: &mut [u8],
+    map: &[u8],
+    log: &mut [u16; 32],
+    op: u16,
+) -> Result<State, Blank>
     requires { Board map.now (beside image.old log.old) }
     ensures { Works map.now (Spec.on_bytes (Spec.byte_code op) s op) image.old log.old result image.new log.new }
 {
@@ -191,7 +217,13 @@ fn on_bytes(s: State, image: &mut [u8], map: &[u8], log: &mut [u16; 32], op: u16
 }
 
 // CMPB C000, MOVB D000, BISB E000 on bytes, the others on words.
-pub fn format10(s: State, image: &mut [u8], map: &[u8], log: &mut [u16; 32], op: u16) -> Result<State, Blank>
+pub fn format10(
+    s: State,
+    image: &mut [u8],
+    map: &[u8],
+    log: &mut [u16; 32],
+    op: u16,
+) -> Result<State, Blank>
     requires { Board map.now (beside image.old log.old) }
     ensures { Works map.now (Spec.format10 s op) image.old log.old result image.new log.new }
 {
