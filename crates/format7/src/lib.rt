@@ -147,11 +147,21 @@ fn modify_byte(
 }
 
 // TCALL: ↓ SP, @SP ← PC; PC ← PC + (DST); PC ← PC + @PC.
-fn tcall(s: State, image: &mut [u8], map: &[u8], log: &mut [u16; 32], op: u16) -> Result<State, Blank>
+fn tcall(
+    s: State,
+    image: &mut [u8],
+    map: &[u8],
+    log: &mut [u16; 32],
+    op: u16,
+) -> Result<State, Blank>
     requires { Board map.now (beside image.old log.old) }
     ensures { Works map.now (Spec.tcall s op) image.old log.old result image.new log.new }
 {
-    let Held { state: t, operand: d, .. } = destination(s, image, map, false, op)?;
+    let Held {
+        state: t,
+        operand: d,
+        ..
+    } = destination(s, image, map, false, op)?;
     let u = t.push(image, map, log, t.regs.pc)?;
     u.tabled(image, map, plus(u.regs.pc, d))
 }
@@ -161,7 +171,11 @@ fn tjmp(s: State, image: &[u8], map: &[u8], op: u16) -> Result<State, Blank>
     requires { Lent map.now image.now }
     ensures { Saw map.now (Spec.tjmp s op) image.now result }
 {
-    let Held { state: t, operand: d, .. } = destination(s, image, map, false, op)?;
+    let Held {
+        state: t,
+        operand: d,
+        ..
+    } = destination(s, image, map, false, op)?;
     t.tabled(image, map, plus(t.regs.pc, d))
 }
 
@@ -170,17 +184,32 @@ fn lsts(s: State, image: &[u8], map: &[u8], op: u16) -> Result<State, Blank>
     requires { Lent map.now image.now }
     ensures { Saw map.now (Spec.lsts s op) image.now result }
 {
-    let Held { state: t, operand: d, .. } = destination(s, image, map, false, op)?;
+    let Held {
+        state: t,
+        operand: d,
+        ..
+    } = destination(s, image, map, false, op)?;
     Ok(t.with_status(d))
 }
 
 // SSTS: the PS is formed and stored in (DST).
-fn ssts(s: State, image: &mut [u8], map: &[u8], log: &mut [u16; 32], out: Outside, op: u16) -> Result<State, Blank>
+fn ssts(
+    s: State,
+    image: &mut [u8],
+    map: &[u8],
+    log: &mut [u16; 32],
+    out: Outside,
+    op: u16,
+) -> Result<State, Blank>
     requires { Board map.now (beside image.old log.old) }
     ensures { Works map.now (Spec.ssts out s op) image.old log.old result image.new log.new }
 {
     let k = destination_register(op);
-    let Held { state: t, place, .. } = destination(s, image, map, false, op)?;
+    let Held {
+        state: t,
+        place,
+        ..
+    } = destination(s, image, map, false, op)?;
     operand::write(t, image, map, log, false, k, place, t.ps(out, false))
 }
 

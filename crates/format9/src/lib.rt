@@ -15,7 +15,14 @@ use state::{Outside, State};
 use wordmath::address::minus;
 
 // JSR at an address: ↓ SP, @SP ← REG; REG ← PC; PC ← DST.
-fn jsr_at(s: State, image: &mut [u8], map: &[u8], log: &mut [u16; 32], k: u16, a: u16) -> Result<State, Blank>
+fn jsr_at(
+    s: State,
+    image: &mut [u8],
+    map: &[u8],
+    log: &mut [u16; 32],
+    k: u16,
+    a: u16,
+) -> Result<State, Blank>
     requires { Board map.now (beside image.old log.old) }
     ensures { Works map.now (Spec.jsr_at s k a) image.old log.old result image.new log.new }
 {
@@ -47,7 +54,14 @@ fn jsr_to(
 }
 
 // JSR: DST is decoded, and nothing is read there.
-fn jsr(s: State, image: &mut [u8], map: &[u8], log: &mut [u16; 32], out: Outside, op: u16) -> Result<State, Blank>
+fn jsr(
+    s: State,
+    image: &mut [u8],
+    map: &[u8],
+    log: &mut [u16; 32],
+    out: Outside,
+    op: u16,
+) -> Result<State, Blank>
     requires { Board map.now (beside image.old log.old) }
     ensures { Works map.now (Spec.jsr out s op) image.old log.old result image.new log.new }
 {
@@ -78,7 +92,14 @@ fn lea_to(
 }
 
 // LEA: REG ← DST.
-fn lea(s: State, image: &mut [u8], map: &[u8], log: &mut [u16; 32], out: Outside, op: u16) -> Result<State, Blank>
+fn lea(
+    s: State,
+    image: &mut [u8],
+    map: &[u8],
+    log: &mut [u16; 32],
+    out: Outside,
+    op: u16,
+) -> Result<State, Blank>
     requires { Board map.now (beside image.old log.old) }
     ensures { Works map.now (Spec.lea out s op) image.old log.old result image.new log.new }
 {
@@ -96,7 +117,11 @@ fn ash(s: State, image: &[u8], map: &[u8], op: u16) -> Result<State, Blank>
     ensures { Saw map.now (Spec.ash s op) image.now result }
 {
     let k = register(op);
-    let Held { state: t, operand: n, .. } = destination(s, image, map, true, op)?;
+    let Held {
+        state: t,
+        operand: n,
+        ..
+    } = destination(s, image, map, true, op)?;
     let done = shift::signed::ash(t.reg(k), (n % 256) as u8);
     Ok(t.with_done(k, done))
 }
@@ -122,7 +147,11 @@ fn xch(s: State, image: &mut [u8], map: &[u8], log: &mut [u16; 32], op: u16) -> 
 {
     let k = register(op);
     let to = destination_register(op);
-    let Held { state: t, place, operand: d } = destination(s, image, map, false, op)?;
+    let Held {
+        state: t,
+        place,
+        operand: d,
+    } = destination(s, image, map, false, op)?;
     let r = t.reg(k);
     operand::write(t.with_reg(k, d), image, map, log, false, to, place, r)
 }
@@ -133,7 +162,11 @@ fn ashc(s: State, image: &[u8], map: &[u8], op: u16) -> Result<State, Blank>
     ensures { Saw map.now (Spec.ashc s op) image.now result }
 {
     let k = register(op);
-    let Held { state: t, operand: n, .. } = destination(s, image, map, true, op)?;
+    let Held {
+        state: t,
+        operand: n,
+        ..
+    } = destination(s, image, map, true, op)?;
     let pair = shift::signed::ashc(t.reg(k), t.reg(state::next(k)), (n % 256) as u8);
     Ok(t.with_pair(k, pair))
 }
@@ -144,7 +177,11 @@ fn mul(s: State, image: &[u8], map: &[u8], op: u16) -> Result<State, Blank>
     ensures { Saw map.now (Spec.mul s op) image.now result }
 {
     let k = register(op);
-    let Held { state: t, operand: d, .. } = destination(s, image, map, false, op)?;
+    let Held {
+        state: t,
+        operand: d,
+        ..
+    } = destination(s, image, map, false, op)?;
     let pair = arith::wide::mul(t.reg(k), d);
     Ok(t.with_pair(k, pair))
 }
@@ -155,7 +192,11 @@ fn div(s: State, image: &[u8], map: &[u8], op: u16) -> Result<State, Blank>
     ensures { Saw map.now (Spec.div s op) image.now result }
 {
     let k = register(op);
-    let Held { state: t, operand: d, .. } = destination(s, image, map, false, op)?;
+    let Held {
+        state: t,
+        operand: d,
+        ..
+    } = destination(s, image, map, false, op)?;
     let pair = arith::wide::div(t.reg(k), t.reg(state::next(k)), d);
     Ok(t.with_pair(k, pair))
 }
