@@ -79,7 +79,7 @@ fn onto_words(s: State, image: &mut [u8], map: &[u8], log: &mut [u16; 32], op: u
     };
     let u = moved(s, place);
     if opc == 11 {
-        let done = wordmath::result::mov16(x, u.flags);
+        let done = wordmath::result::mov(x, u.flags);
         let w = u.with_flags(done.flags);
         return operand::write(w, image, map, log, false, to, place, x);
     }
@@ -172,7 +172,7 @@ fn onto_bytes(s: State, image: &mut [u8], map: &[u8], log: &mut [u16; 32], op: u
     };
     let u = moved(s, place);
     if opc == 13 {
-        let done = wordmath::result::mov8(x, u.flags);
+        let done = wordmath::result::mov(x, u.flags);
         return move_byte(
             u.with_flags(done.flags),
             image,
