@@ -82,7 +82,7 @@ fn onto_words(
     let place = locate(image, map, 2, to, s.reg(to), s.regs.pc, mode)?;
     let u = moved(s, place);
     if opc == 11 {
-        let done = wordmath::result::mov16(x, u.flags);
+        let done = wordmath::result::mov(x, u.flags);
         let w = u.with_flags(done.flags);
         return operand::write(w, image, map, log, false, to, place, x);
     }
@@ -178,7 +178,7 @@ fn onto_bytes(
     let place = locate(image, map, step, to, s.reg(to), s.regs.pc, mode)?;
     let u = moved(s, place);
     if opc == 13 {
-        let done = wordmath::result::mov8(x, u.flags);
+        let done = wordmath::result::mov(x, u.flags);
         return move_byte(
             u.with_flags(done.flags),
             image,

@@ -52,7 +52,7 @@ fn word_result(op: u16, row: u16, d: u16, f: Flags) -> Done
     ensures { result ≡ Rows.result_at word op row d f }
 {
     if row < 12 {
-        return unary::by_code::unary16(opcodes::unary_at(row), in_register(op), d, f);
+        return unary::by_code::unary(opcodes::unary_at(row), in_register(op), d, f);
     }
     further_word(op, row, d, f)
 }
@@ -60,7 +60,7 @@ fn word_result(op: u16, row: u16, d: u16, f: Flags) -> Done
 fn byte_result(op: u16, row: u16, d: u8, f: Flags) -> Done
     ensures { result ≡ Rows.result_at byte op row d f }
 {
-    unary::by_code::unary8(opcodes::unary_at(row), in_register(op), d, f)
+    unary::by_code::unary(opcodes::unary_at(row), in_register(op), d, f)
 }
 
 fn stored(

@@ -18,7 +18,7 @@ unfolding onto settle_byte
 returns-then-opc-eq13 c = rw (← c.destination_register-to.ensures, ← c.destination_mode-mode.ensures)
     (rw (movb-code _ (sym c.high_digit-opc.ensures ∙ c.if-opc-eq13.true))
     (record {
-      got = placed byte _ _ _ _ _ _ _ _ (decoded byte _ _ _ c.byte_step-step.ensures c.reg.ensures c.locate.ensures c.in_ok-place.was c.moved-u.ensures).got (λ y. refl) (λ a which w e. byte-there _ _ _ a which w _ e) (rw (c.with_flags.ensures, c.mov8-done.ensures) at c.move_byte.ensures).got;
+      got = placed byte _ _ _ _ _ _ _ _ (decoded byte _ _ _ c.byte_step-step.ensures c.reg.ensures c.locate.ensures c.in_ok-place.was c.moved-u.ensures).got (λ y. refl) (λ a which w e. byte-there _ _ _ a which w _ e) (rw (c.with_flags.ensures, c.mov-done.ensures) at c.move_byte.ensures).got;
       board = c.move_byte.ensures.board;
     }))
 

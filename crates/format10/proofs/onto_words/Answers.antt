@@ -19,7 +19,7 @@ unfolding onto
 returns-then-opc-eq11 c = rw (← c.destination_register-to.ensures, ← c.destination_mode-mode.ensures)
     (rw (mov-code _ (sym c.high_digit-opc.ensures ∙ c.if-opc-eq11.true))
     (record {
-      got = placed word _ _ _ _ _ _ _ _ (decoded word _ _ _ refl c.reg.ensures c.locate.ensures c.in_ok-place.was c.moved-u.ensures).got (λ y. settle-yes Mov _ _ _ _ refl) (λ a which w e. word-there _ _ _ a which w _ e) (rw (c.with_flags-w.ensures, c.mov16-done.ensures) at c.write.ensures).got;
+      got = placed word _ _ _ _ _ _ _ _ (decoded word _ _ _ refl c.reg.ensures c.locate.ensures c.in_ok-place.was c.moved-u.ensures).got (λ y. settle-yes Mov _ _ _ _ refl) (λ a which w e. word-there _ _ _ a which w _ e) (rw (c.with_flags-w.ensures, c.mov-done.ensures) at c.write.ensures).got;
       board = c.write.ensures.board;
     }))
 
