@@ -42,7 +42,13 @@ fn ien(s: State) -> State
 }
 
 // BPT: ↓ PS, ↓ PC, PC ← (loc 2C); I2 is kept.
-fn bpt(s: State, image: &mut [u8], map: &[u8], log: &mut [u16; 32], out: Outside) -> Result<State, Blank>
+fn bpt(
+    s: State,
+    image: &mut [u8],
+    map: &[u8],
+    log: &mut [u16; 32],
+    out: Outside,
+) -> Result<State, Blank>
     requires { Board map.now (beside image.old log.old) }
     ensures { Works map.now (Spec.bpt out s) image.old log.old result image.new log.new }
 {
@@ -82,7 +88,10 @@ fn savs(s: State, image: &mut [u8], map: &[u8], log: &mut [u16; 32]) -> Result<S
     requires { Board map.now (beside image.old log.old) }
     ensures { Works map.now (Spec.savs s) image.old log.old result image.new log.new }
 {
-    let Taken { state: fetched, word: mask } = s.fetch(image, map)?;
+    let Taken {
+        state: fetched,
+        word: mask,
+    } = s.fetch(image, map)?;
     let saved = save(fetched, image, map, log)?;
     let old = board::load(image, map, 0x2e)?;
     let pushed = saved.push(image, map, log, old)?;
@@ -141,7 +150,10 @@ fn rsts(s: State, image: &mut [u8], map: &[u8], log: &mut [u16; 32]) -> Result<S
     requires { Board map.now (beside image.old log.old) }
     ensures { Works map.now (Spec.rsts s) image.old log.old result image.new log.new }
 {
-    let Taken { state: t, word: mask } = s.pop(image, map)?;
+    let Taken {
+        state: t,
+        word: mask,
+    } = s.pop(image, map)?;
     board::store(image, map, log, 0x2e, mask)?;
     rrtt(t, image, map)
 }
@@ -155,7 +167,8 @@ fn rsvc(s: State, image: &[u8], map: &[u8]) -> Result<State, Blank>
     rtt(t.with_sp(plus(t.regs.sp, 2)), image, map)
 }
 
-// Format 1 by number. XCT, 0005, is not executed here.
+// Format 1 by number. XCT, 0005, is not executed here. Each number has an arm: 0 | 1 | 5 in one was
+// tried, and the proof of the last arm, which counts the arms before it, didn't close.
 fn by_number(
     s: State,
     image: &mut [u8],

@@ -90,7 +90,13 @@ fn again(s: State, t: State) -> State
 }
 
 // One element: the source register and the destination register contain the addresses.
-pub fn format8(s: State, image: &mut [u8], map: &[u8], log: &mut [u16; 32], op: u16) -> Result<State, Blank>
+pub fn format8(
+    s: State,
+    image: &mut [u8],
+    map: &[u8],
+    log: &mut [u16; 32],
+    op: u16,
+) -> Result<State, Blank>
     requires { Board map.now (beside image.old log.old) }
     ensures { Works map.now (Spec.format8 s op) image.old log.old result image.new log.new }
 {

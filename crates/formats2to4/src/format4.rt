@@ -10,7 +10,14 @@ use state::{Outside, State};
 use wordmath::address::plus;
 
 // SVCA: ↓ PS, ↓ PC; PC ← (loc 22) + ARG * 2; PC ← PC + @PC.
-fn svca(s: State, image: &mut [u8], map: &[u8], log: &mut [u16; 32], out: Outside, n: u16) -> Result<State, Blank>
+fn svca(
+    s: State,
+    image: &mut [u8],
+    map: &[u8],
+    log: &mut [u16; 32],
+    out: Outside,
+    n: u16,
+) -> Result<State, Blank>
     requires { Board map.now (beside image.old log.old) }
     ensures { Works map.now (Spec.svca out s n) image.old log.old result image.new log.new }
 {
