@@ -220,7 +220,13 @@ fn vector(out: Outside) -> u16
 }
 
 // I0: ↓ PS, ↓ PC, I2 reset, running; T = word at 28 plus twice the device code; PC = T + word at T.
-fn vectored(s: State, image: &mut [u8], map: &[u8], log: &mut [u16; 32], out: Outside) -> Result<State, Blank>
+fn vectored(
+    s: State,
+    image: &mut [u8],
+    map: &[u8],
+    log: &mut [u16; 32],
+    out: Outside,
+) -> Result<State, Blank>
     requires { Board map.now (beside image.old log.old) }
     ensures { Works map.now (Spec.vectored out s) image.old log.old result image.new log.new }
 {
@@ -422,7 +428,13 @@ pub fn error(
 }
 
 // The work of a step that is an op code, with a log that may hold an earlier step's entries.
-pub fn op_code(s: State, image: &mut [u8], map: &[u8], log: &mut [u16; 32], out: Outside) -> Result<State, Blank>
+pub fn op_code(
+    s: State,
+    image: &mut [u8],
+    map: &[u8],
+    log: &mut [u16; 32],
+    out: Outside,
+) -> Result<State, Blank>
     requires { Board map.now (beside image.old log.old) }
     ensures { Inner.Coded map.now out s image.old result (beside image.new log.new) }
 {

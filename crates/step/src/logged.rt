@@ -4,13 +4,20 @@ ghost use Rattle.board.specs.Exec.{beside, Board, undone, Works};
 ghost use Rattle.step.specs.Step.{work_of, error_of, step_of};
 ghost use Rattle.step.specs.Written as Spec;
 
-use board::Blank;
 use super::xct::op_work;
 use super::{Cause, Kind, Turn, bus_error, cause_of, error_cause_of, is_code, kind_of, seldom};
+use board::Blank;
 use state::{Mode, Outside, State};
 
 // The work of a step.
-fn work(s: State, image: &mut [u8], map: &[u8], log: &mut [u16; 32], out: Outside, k: Kind) -> Result<State, Blank>
+fn work(
+    s: State,
+    image: &mut [u8],
+    map: &[u8],
+    log: &mut [u16; 32],
+    out: Outside,
+    k: Kind,
+) -> Result<State, Blank>
     requires { Board map.now (beside image.old log.old) }
     ensures { Works map.now (work_of k out s) image.old log.old result image.new log.new }
 {

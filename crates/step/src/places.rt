@@ -55,7 +55,15 @@ fn keep_registers(s: State, image: &mut [u8], map: &[u8], log: &mut [u16; 32]) -
 }
 
 // Four registers are picked up, one after the other.
-fn pick_up_four(s: State, image: &[u8], map: &[u8], h: u16, i: u16, j: u16, k: u16) -> Result<State, Blank>
+fn pick_up_four(
+    s: State,
+    image: &[u8],
+    map: &[u8],
+    h: u16,
+    i: u16,
+    j: u16,
+    k: u16,
+) -> Result<State, Blank>
     requires { Lent map.now image.now }
     ensures { Saw map.now (Spec.pick_up_four s h i j k) image.now result }
 {

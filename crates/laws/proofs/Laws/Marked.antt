@@ -46,7 +46,8 @@ use Rattle.shift.specs.Shifted.{preset}
 use Rattle.format10.specs.Format10.{stores, settle, move_byte, settle_byte, on_operands, on_words, on_bytes, binary_code, byte_code, format10}
 use Rattle.arith.specs.Binary.{binary_of, byte_binary_of}
 use Rattle.step.specs.Execute.{moves, execute, by_format}
-use Rattle.step.specs.Xct.{code, abort, forbidden, traps_alone, chosen, begin_xct, begun, trace, traced, carry, op_work}
+use Rattle.step.specs.Xct.{forbidden, traps_alone, chosen, begin_xct, begun, trace, traced, carry, op_work}
+use Rattle.step.specs.declared.Begun.TheVariants.{Code, Abort}
 use Rattle.laws.proofs.Laws.Always.{Always, AlwaysEach, run-give, always-value, always-then, always-after, always-less, always-cond, always-pick}
 use Rattle.laws.specs.Mark.{enables, executed, is_running, mark_after, from_interrupt, from_switch, runs_or_waits}
 use Rattle.state.specs.declared.Mode.{Mode}
@@ -343,7 +344,7 @@ unfolding Always traced trace push_both push from_loc ◌>>=◌ with_reg
 traced-keeps out true s = λ _. (refl, refl, refl)
 traced-keeps out false s = (refl, refl, refl)
 
-carry-marks : (out : Outside) (s : State) (op : ℕ) (b : Bool) → Always (MarkOf op s) (carry out (code s op b))
+carry-marks : (out : Outside) (s : State) (op : ℕ) (b : Bool) → Always (MarkOf op s) (carry out (Code s op b))
 unfolding carry with_mark
 carry-marks out s op b =
     always-then (MarkOf op s) (MarkOf op s) (execute out (with_mark s false) op) (traced out b) (execute-marks out (with_mark s false) op refl)
@@ -357,7 +358,7 @@ chosen-marks : (out : Outside) (s : State) (op : ℕ) → Always (MarkOf op s) (
 unfolding carry
 chosen-marks out s op = by (forbidden op) refl
   where
-    by : (b : Bool) → forbidden op ≡ b → Always (MarkOf op s) (carry out (cond b (abort s) (code s op (not (traps_alone out (format_of (high_byte op)) op)))))
+    by : (b : Bool) → forbidden op ≡ b → Always (MarkOf op s) (carry out (cond b (Abort s) (Code s op (not (traps_alone out (format_of (high_byte op)) op)))))
     by true h = always-less Unmarked (MarkOf op s) (xct_error out s) (unmarked-is op s (forbidden-not op h)) (trap-unmarked s (ps_of out false s) 0x1e)
     by false h = carry-marks out s op (not (traps_alone out (format_of (high_byte op)) op))
 
@@ -366,7 +367,7 @@ chosen-value : (map : List ℕ) (out : Outside) (s : State) (m : List ℕ) (op :
 chosen-value map out s m op h = always-value (MarkOf op s) map (carry out (chosen out s op)) m (chosen-marks out s op) h
 
 begun-marks : (b : Bool) (map : List ℕ) (out : Outside) (s : State) (m : List ℕ) (w : ℕ) {t : State} {n : List ℕ}
-    → (let past = with_pc s (plus s.regs.pc 2) in run map (cond b (begin_xct out past) (give (code past w false)) >>= (λ next. carry out next)) m ≡ value t n)
+    → (let past = with_pc s (plus s.regs.pc 2) in run map (cond b (begin_xct out past) (give (Code past w false)) >>= (λ next. carry out next)) m ≡ value t n)
     → MarkOf (cond b (image_word m (image_word m s.regs.sp)) w) s t
 unfolding run begin_xct pop_reg pop fetch ◌>>=◌ with_reg set_reg with_flags
 begun-marks false map out s m w h = always-value (MarkOf w s) map _ m (carry-marks out (with_pc s (plus s.regs.pc 2)) w false) h

@@ -28,7 +28,8 @@ use Rattle.step.specs.declared.Kind.TheVariants.{OpCode, HaltEnd, Boots, Saves, 
 use Rattle.step.specs.declared.Cause.{Cause}
 use Rattle.step.specs.declared.Cause.TheVariants as Cause
 use Rattle.step.specs.Execute.{execute, by_format}
-use Rattle.step.specs.Xct.{code, traps_alone, chosen, begin_xct, begun, trace, traced, carry, op_work}
+use Rattle.step.specs.Xct.{traps_alone, chosen, begin_xct, begun, trace, traced, carry, op_work}
+use Rattle.step.specs.declared.Begun.TheVariants.{Code}
 use Rattle.step.specs.Step.{kind_in, after, or_at, cause_number, is_blank, kind_of, work_of, past, bus_error, error_cause_of, error_of, step_of}
 use Rattle.step.specs.Block.{Unheard}
 use Rattle.step.proofs.Laws.Causes.{value-no-blank, blank-error, blank-counted, blank-image}
