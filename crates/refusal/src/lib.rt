@@ -68,6 +68,16 @@ impl From<Refusal> for u8 {
     }
 }
 
+// An answer's number for C: 0 where nothing is refused.
+pub fn told(answer: Result<(), Refusal>) -> u8
+    ensures { result ≡ why_of answer }
+{
+    match answer {
+        Ok(()) => 0,
+        Err(why) => u8::from(why),
+    }
+}
+
 // The most line words of a run.
 pub const MOST_LINE_WORDS: usize = 4096;
 
