@@ -1,11 +1,10 @@
 -- The line of a run's end: R0-R5, SP, PC, PS, mode digit, blanks, the first one's place and address, or ---- ----.
-use Rattle.std.specs.Prelude.{ℕ, true, false, List}
+use Rattle.std.specs.Prelude.{ℕ, true, false, List, Option, Some, None}
 use Rattle.state.specs.declared.Settings.{Settings}
 use Rattle.state.specs.State.{mode_number, ps_of, heard}
 use Rattle.machine.specs.declared.Ran.{Ran}
 use Rattle.machine.specs.Numbers.{registers_of}
-use Rattle.machine.specs.declared.First.{First}
-use Rattle.machine.specs.declared.First.TheVariants as First
+use Rattle.machine.specs.declared.FirstBlank.{FirstBlank}
 use Rattle.benchline.specs.declared.WordOrNone.{WordOrNone}
 use Rattle.benchline.specs.declared.WordOrNone.TheVariants as WordOrNone
 use Rattle.benchline.specs.Line.{line_text}

@@ -6,14 +6,13 @@
 -- of the bus error's trap (blank-row, healed-row; blank-needed).
 -- "Doesn't end locked" is needed, because a lock-up met by a blank counts as no blank, and a card would spare it (locked-row,
 -- spared-row; lock-needed). A lock-up by the jumpers' option alone would be the same with a card, and isn't told apart.
-use Rattle.std.specs.Prelude.{ℕ, true, false, List, [], ◌∷◌, ◌++◌, ◌≡◌, get_or, replicate, set, length}
+use Rattle.std.specs.Prelude.{ℕ, true, false, List, [], ◌∷◌, ◌++◌, ◌≡◌, get_or, replicate, set, length, Option, Some, None}
 use Rattle.board.specs.Work.{with_word}
 use Rattle.state.specs.declared.State.{State}
 use Rattle.state.specs.declared.Settings.{Settings}
 use Rattle.state.specs.declared.Mode.TheVariants.{Locked}
 use Rattle.state.specs.State.{mode_number, with_pc, with_sp, with_i2, cleared}
 use Rattle.machine.specs.declared.Ran.{Ran}
-use Rattle.machine.specs.declared.First.TheVariants.{Never}
 use Rattle.machine.specs.declared.Finished.{Finished}
 use Rattle.machine.specs.declared.Finished.TheVariants as Finished
 use Rattle.machine.specs.Run.{End, end, run_of}
@@ -46,7 +45,7 @@ pub record Sound (a : Ran) : Type 0 where
 -- the same answer, in which no place and no address is told; the same image; the same state, image and cause after each step
 pub record SameRun (settings : Settings) (map big lines : List ℕ) (s : State) (m : List ℕ) (a : Ran) (m₁ : List ℕ) (q : Finished) (m₂ : List ℕ) : Type 0 where
   pub answer : q ≡ Finished.Done a
-  pub no_place : a.tally.first ≡ Never
+  pub no_place : a.tally.first ≡ None
   pub image : m₂ ≡ m₁
   pub steps : trail_of settings big lines s m ≡ trail_of settings map lines s m
 

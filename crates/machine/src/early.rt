@@ -5,7 +5,7 @@ ghost use Rattle.machine.specs.Until as Spec;
 ghost use Rattle.refusal.specs.Refusal.{most_line_words};
 
 use super::runs::blank_noted;
-use super::{First, Stage, Stop, Tally, Until, door};
+use super::{Stage, Stop, Tally, Until, door};
 use state::{Mode, Settings, State};
 use step::{Cause, Turn, blank_at};
 
@@ -106,7 +106,7 @@ pub(crate) fn until_on(
     let mut log = [0u16; 32];
     let tally = Tally {
         blanks: 0,
-        first: First::Never,
+        first: None,
     };
     let mut stage = Stage {
         state: s,

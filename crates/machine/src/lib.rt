@@ -18,16 +18,16 @@ mod same;
 
 // The first blank step of a run: its place, and the address that it tells.
 #[derive(Clone, Copy)]
-pub enum First {
-    At(u16, u16),
-    Never,
+pub struct FirstBlank {
+    pub place: u16,
+    pub address: u16,
 }
 
 // The blank steps of a run: how many, and the first.
 #[derive(Clone, Copy)]
 pub struct Tally {
     pub blanks: u16,
-    pub first: First,
+    pub first: Option<FirstBlank>,
 }
 
 // The state after a run, and its blank steps.

@@ -2,6 +2,7 @@
 pub mod Again
 pub mod Laid
 pub mod Next
+use Rattle.std.specs.Prelude.{Option}
 use Rattle.std.proofs.Common.{Ok, Err}
 use Prim.Native.Nat.{ℕ}
 use mathlib.Core.Bool.{true, false, not, ◌||◌}
@@ -13,7 +14,6 @@ use borrow.Author.Tests.{eqb-true, ne_eqb, not-false}
 use Rattle.state.specs.declared.State.{State}
 use Rattle.state.specs.declared.Settings.{Settings}
 use Rattle.step.specs.declared.Turn.{Turn}
-use Rattle.step.specs.declared.Reached.{Reached}
 use Rattle.step.specs.Step.{cause_number, cause_address}
 use Rattle.machine.specs.declared.Ran.{Ran}
 use Rattle.machine.specs.Entry.{Powered, Stepped, Finished, powered_page, stepped_page, finished_page, power_up_page, step_page, run_page}
@@ -86,7 +86,7 @@ module _ (b image map w : List ℕ) (line : ℕ) where
   unfolding step_call
   went-bad e = rw e
 
-  pub went-done : (b' m : List ℕ) (s : State) (g : Settings) (t : Turn) (r : Stepped) (k : ℕ) (at : Reached) → refused_step b w ≡ false → s ≡ state_from b → g ≡ settings_from w
+  pub went-done : (b' m : List ℕ) (s : State) (g : Settings) (t : Turn) (r : Stepped) (k : ℕ) (at : Option ℕ) → refused_step b w ≡ false → s ≡ state_from b → g ≡ settings_from w
       → left (stepped_page r) m ≡ step_page g image map line s → r ≡ Ok t → k ≡ cause_number t.cause → at ≡ cause_address t.cause
       → b' ≡ laid (state_bytes (state_page t.state) k (told_of at)) b → told 0 (b', m) ≡ step_call b image map w line
   unfolding step_call
@@ -160,7 +160,7 @@ module _ (b t image map w lines : List ℕ) (asked : ℕ) where
   unfolding run_until_call
   until-bad e = rw e
 
-  pub until-done : (b' t' m : List ℕ) (s : State) (g : Settings) (u : Until) (stop : Stop) (r : Stopped) (k : ℕ) (at : Reached) → refused_until b t w asked ≡ false → s ≡ state_from b → g ≡ settings_from w
+  pub until-done : (b' t' m : List ℕ) (s : State) (g : Settings) (u : Until) (stop : Stop) (r : Stopped) (k : ℕ) (at : Option ℕ) → refused_until b t w asked ≡ false → s ≡ state_from b → g ≡ settings_from w
       → u ≡ until_from asked → left (stopped_page r) m ≡ run_until_page g image map lines u s → r ≡ Ok stop → k ≡ cause_number stop.turn.cause → at ≡ cause_address stop.turn.cause
       → b' ≡ laid (state_bytes (state_page stop.turn.state) k (told_of at)) b → t' ≡ laid (stop_bytes stop.tally.blanks (first_page stop.tally.first) stop.steps) t
       → told 0 (b', t', m) ≡ run_until_call b t image map w lines asked

@@ -1,7 +1,7 @@
 -- THE LINE OF A STEP: what stands at PC where the step is an op code, as a listing has it, and a tab; then columns of four hex digits and
 -- a space: the step's number, the line word; R0 to R5, SP, PC, PS and the mode after the step, each where it changed; the cause's number,
 -- the address that is told and the map's byte for its page; then the even address and the word after the step of every word that the step wrote, in its order.
-use Rattle.std.specs.Prelude.{ℕ, zero, suc, ◌*◌, ◌/◌, ◌%◌, Bool, false, cond, List, [], ◌∷◌, ◌++◌, length, get_or, eqb, ltb}
+use Rattle.std.specs.Prelude.{ℕ, zero, suc, ◌*◌, ◌/◌, ◌%◌, Bool, false, cond, List, [], ◌∷◌, ◌++◌, length, get_or, eqb, ltb, Option, Some, None}
 use Rattle.hexdigits.specs.Digits.{hex_of}
 use Rattle.hexdigits.specs.Over.{in_front_of}
 use Rattle.wordbytes.specs.Words.{byte_at, word_at}
@@ -10,8 +10,6 @@ use Rattle.state.specs.declared.Settings.{Settings}
 use Rattle.state.specs.State.{mode_number, ps_of, heard}
 use Rattle.step.specs.declared.Turn.{Turn}
 use Rattle.step.specs.declared.Cause.{Cause}
-use Rattle.step.specs.declared.Reached.{Reached}
-use Rattle.step.specs.declared.Reached.TheVariants.{Nowhere, At}
 use Rattle.step.specs.Step.{After, kind_of, is_code, cause_number, cause_address, step_of}
 use Rattle.step.specs.Written.{step_writes}
 use Rattle.refusal.specs.Numbers.{text_short}
@@ -50,14 +48,14 @@ columns values (suc n) = columns values n ++ column (get_or values n 0)
 abbrev pub changed : ℕ → ℕ → ℕ
 changed before after = cond (eqb before after) none after
 
-abbrev pub cause_word : Reached → ℕ
-cause_word Nowhere = none
-cause_word (At a) = a
+abbrev pub cause_word : Option ℕ → ℕ
+cause_word None = none
+cause_word (Some a) = a
 
 -- the map's byte for the page of that address
-abbrev pub page_told : List ℕ → Reached → ℕ
-page_told map Nowhere = none
-page_told map (At a) = byte_at map (a / 256)
+abbrev pub page_told : List ℕ → Option ℕ → ℕ
+page_told map None = none
+page_told map (Some a) = byte_at map (a / 256)
 
 -- PS as it is formed on a quiet line
 abbrev pub status : Settings → State → ℕ

@@ -1,4 +1,5 @@
 -- Demand 3 for the runs that a board makes: over one line word, and until something happens.
+use Rattle.std.specs.Prelude.{Option}
 use Prim.Native.Nat.{ℕ, ◌+◌}
 use mathlib.Core.Bool.{cond}
 use mathlib.Core.List.{List, [], ◌∷◌}
@@ -13,7 +14,7 @@ use Rattle.step.specs.declared.Cause.TheVariants as Cause
 use Rattle.step.specs.Step.{step_of}
 use Rattle.step.proofs.Laws.Alike.{step-alike}
 use Rattle.refusal.proofs.Laws.Page.{apart, refused-one, answered-one}
-use Rattle.machine.specs.declared.First.{First}
+use Rattle.machine.specs.declared.FirstBlank.{FirstBlank}
 use Rattle.machine.specs.declared.Stop.{Stop}
 use Rattle.machine.specs.declared.Stopped.{Stopped}
 use Rattle.machine.specs.declared.Stopped.TheVariants as Stopped
@@ -94,7 +95,7 @@ module _ (settings : Settings) (map lines : List ℕ) (u : Until) (s : State) wh
 
 -- ---- one answer
 
-first_one : (f g : First) → first_page f ≡ first_page g → f ≡ g
+first_one : (f g : Option FirstBlank) → first_page f ≡ first_page g → f ≡ g
 first_one f g e = sym (first-back f) ∙ ap first_back e ∙ first-back g
 
 stop-one : (r q : Stop) → stop_page r ≡ stop_page q → r ≡ q

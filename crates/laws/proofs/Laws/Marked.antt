@@ -1,4 +1,5 @@
 -- The mark of a late IEN, over the definitions: what every op code, every trap, every step and every power-up leaves of it, and what a marked state hears.
+use Rattle.std.specs.Prelude.{Some, None}
 use Prim.Native.Nat.{ℕ, zero, suc, ◌/◌, ◌<◌}
 use native.Mathlib.Omega.{arith}
 use Rattle.opcodes.proofs.Laws.Past.{Below, below}
@@ -63,7 +64,6 @@ use Rattle.state.specs.declared.Settings.{Settings}
 use Rattle.step.proofs.Laws.Ends.{step-well, option-no-code}
 use Rattle.step.proofs.Laws.Causes.{blank-error, blank-counted}
 use Rattle.step.proofs.Laws.Told.{tells}
-use Rattle.step.specs.declared.Reached.TheVariants.{Nowhere, At}
 
 abbrev Unmarked : State → Type 0
 Unmarked s = s.mark ≡ false
@@ -688,7 +688,7 @@ code-work map out s m runs c = came (run map (work_of (kind_of s out) out s) m) 
         code-kind (kind_of s out) (subst (λ (b : Bool). fits b (kind_of s out) ≡ true) (ap is_running runs) (fits-kind s.mode (hears s) out)) (ap (λ a. a.cause) well ∙ c) in
         (rw code at r) ∙ ap (λ a. value a.state a.image) well
     came (blank a) r =
-        let z : Nowhere ≡ At a = sym (ap cause_address c) ∙ tells map out s m r in
+        let z : None ≡ Some a = sym (ap cause_address c) ∙ tells map out s m r in
         let w : ◌≡◌ {A = ℕ} 0 1 = cc in
         absurd (omega arith)
 

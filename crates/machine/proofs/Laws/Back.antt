@@ -1,4 +1,5 @@
 -- ONE OUTCOME: a page keeps all of its answer, so two outcomes of a call that meet its contract are the same.
+use Rattle.std.specs.Prelude.{Option, Some, None}
 use Prim.Native.Nat.{ℕ, ◌+◌, ◌*◌}
 use mathlib.Core.Bool.{Bool, true, false}
 use mathlib.Core.List.{List, [], ◌∷◌}
@@ -17,13 +18,12 @@ use Rattle.step.specs.declared.Turn.{Turn}
 use Rattle.step.specs.declared.Cause.{Cause}
 use Rattle.step.specs.Step.{cause_number, cause_address}
 use Rattle.machine.specs.declared.Ran.{Ran}
-use Rattle.machine.specs.declared.First.{First}
-use Rattle.machine.specs.declared.First.TheVariants.{At, Never}
+use Rattle.machine.specs.declared.FirstBlank.{FirstBlank}
 use Rattle.machine.specs.Entry.{Powered, Stepped, Finished, powered_page, stepped_page, finished_page}
 use Rattle.refusal.specs.Page.{left}
 use Rattle.refusal.proofs.Laws.Answer.{page-one}
 use Rattle.refusal.proofs.Laws.Page.{one, one-call}
-use Rattle.machine.specs.Numbers.{indicators, state_page, Address, address, nowhere, told_of, TurnPage, turn_page, FirstPage, place, none, first_page, RanPage, ran_page}
+use Rattle.machine.specs.Numbers.{first_at, indicators, state_page, Address, address, nowhere, told_of, TurnPage, turn_page, FirstPage, place, none, first_page, RanPage, ran_page}
 use Rattle.machine.specs.Back.{mode_of, from_registers, state_of}
 
 -- ---- a state, from its page
@@ -95,13 +95,13 @@ turn_of p = record { state = state_of p.state; cause = cause_of p.cause p.told }
 turn-back : (t : Turn) → turn_of (turn_page t) ≡ t
 turn-back t = rw (state-back t.state, cause-back t.cause)
 
-abbrev pub first_back : FirstPage → First
-first_back (place p a) = At p a
-first_back none = Never
+abbrev pub first_back : FirstPage → Option FirstBlank
+first_back (place p a) = Some (first_at p a)
+first_back none = None
 
-pub first-back : (f : First) → first_back (first_page f) ≡ f
-first-back (At p a) = refl
-first-back Never = refl
+pub first-back : (f : Option FirstBlank) → first_back (first_page f) ≡ f
+first-back (Some b) = refl
+first-back None = refl
 
 abbrev ran_of : RanPage → Ran
 ran_of p = record { state = state_of p.state; tally = record { blanks = p.blanks; first = first_back p.first } }

@@ -7,7 +7,7 @@ use Rattle.step.specs.Step.{after, step_of, is_code}
 use Rattle.step.specs.Inner.{DidStep}
 use Rattle.machine.proofs.Laws.Run.{rest_more, rest-none, cause-more, cause-none, Hearing, hearing-new, hearing-old}
 use Rattle.machine.proofs.Laws.Turn.{turned-code, turned-blank, turned-other}
-use Rattle.machine.proofs.runs.run_from.Goals.{then-next-line, else-next-line, then-goes_on+in-Done, then-goes_on+in-Blank, else-goes_on}
+use Rattle.machine.proofs.runs.run_from.Goals.{then-next-line, else-next-line, then-goes_on+in-Ok, then-goes_on+in-Err, else-goes_on}
 use Rattle.machine.proofs.runs.run_from.Goals as goal
 
 pub overflow_cast-n : goal.overflow_cast-n
@@ -56,8 +56,8 @@ loop-i-preserved c = let h : Hearing c.args.settings (get_or c.args.lines.now c.
     ] in
     let p : DidStep c.args.map.now (step_of c.args.map.now c.if-next-line.out c.loop-i.state c.loop-i.image) (record { state = c.if-goes_on.state; cause = c.if-goes_on.cause }) (beside c.if-goes_on.image c.if-goes_on.log) =
     elim c.if-goes_on.branch [
-      | then-goes_on+in-Done w ↦ turned-code (sym c.goes_on.ensures ∙ w.if-goes_on.true) w.op_code.ensures w.in-Done.is w.image-is w.log-is w.state-is w.cause-is
-      | then-goes_on+in-Blank w ↦ turned-blank (sym c.goes_on.ensures ∙ w.if-goes_on.true) w.op_code.ensures w.in-Blank.is w.error-turn.ensures w.image-is w.log-is w.state-is w.cause-is
+      | then-goes_on+in-Ok w ↦ turned-code (sym c.goes_on.ensures ∙ w.if-goes_on.true) w.op_code.ensures w.in-Ok.is w.image-is w.log-is w.state-is w.cause-is
+      | then-goes_on+in-Err w ↦ turned-blank (sym c.goes_on.ensures ∙ w.if-goes_on.true) w.op_code.ensures w.in-Err.is w.error-turn.ensures w.image-is w.log-is w.state-is w.cause-is
       | else-goes_on w ↦ turned-other w.other-turn.ensures w.image-is w.log-is w.state-is w.cause-is
     ] in
     let e : after c.if-goes_on.state c.if-goes_on.image c.if-goes_on.cause ≡ step_of c.args.map.now (heard c.args.settings (get_or c.args.lines.now c.loop-i.i 0)) c.loop-i.state c.loop-i.image =
