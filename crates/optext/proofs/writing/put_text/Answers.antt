@@ -1,29 +1,7 @@
-use Rattle.std.proofs.Common.{◌≡◌, length, refl, ◌∙◌, arith, length-set}
-use lib.Seq.{take-length}
-use Rattle.hexdigits.proofs.Laws.Laid.{copy-none, copy_more}
+use Rattle.std.proofs.Common.{List, ℕ, ◌++◌, length, drop, refl, ap}
+use Rattle.hexdigits.specs.Over.{in_front_of}
 use Rattle.optext.proofs.writing.put_text.Goals as goal
 
-pub loop-i-preserved : goal.loop-i-preserved
-loop-i-preserved c = let l = c.loop-i in
-    let a = c.args in
-    (omega arith, length-set l.out l.i _ ∙ l.invariant.1, copy_more a.s.now a.out.now l.out l.i l.invariant.2 (omega arith) c.requires)
-
 pub returns : goal.returns
-returns c = let l = c.loop-i in
-    let e : l.i ≡ length c.args.s.now = omega arith in
-    record { bytes = l.invariant.2 ∙ rw (e, take-length) refl; count = e }
-
-pub loop-i-init : goal.loop-i-init
-loop-i-init c = (omega arith, refl, copy-none c.args.s.now c.args.out.now)
-
-pub bounds-s-i : goal.bounds-s-i
-bounds-s-i c = omega arith
-
-pub bounds-out-i : goal.bounds-out-i
-bounds-out-i c = omega arith
-
-pub overflow_add-i : goal.overflow_add-i
-overflow_add-i c = omega arith
-
-pub loop-i-smaller : goal.loop-i-smaller
-loop-i-smaller c = omega arith
+unfolding in_front_of
+returns c = record { bytes = ap (λ (l : List ℕ). l ++ drop (length c.args.s.now) c.args.out.now) c.copy_from_slice.ensures.after; count = refl }
