@@ -9,7 +9,6 @@ use layout::{
     put_state, put_tally, refused_run, refused_step, refused_up, settings_from, state_from,
 };
 use refusal::Refusal;
-use step::Reached;
 
 pub mod layout;
 pub mod runs;
@@ -29,7 +28,7 @@ pub extern "C" fn wd16_power_up(
     }
     match machine::power_up(image, map, settings_from(settings)) {
         Ok(s) => {
-            put_state(state, s, 0, Reached::Nowhere);
+            put_state(state, s, 0, None);
             0
         }
         Err(why) => u8::from(why),
@@ -91,7 +90,7 @@ pub extern "C" fn wd16_run(
         Ok(ran) => {
             let after = ran.state;
             let counted = ran.tally;
-            put_state(state, after, 0, Reached::Nowhere);
+            put_state(state, after, 0, None);
             put_tally(tally, counted);
             0
         }

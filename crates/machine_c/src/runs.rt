@@ -11,7 +11,6 @@ use crate::layout::{
 };
 use machine::{Tally, Until};
 use refusal::Refusal;
-use step::Reached;
 use wordbytes::{high, low};
 
 // So many steps over one line word; or 21, 1, 2, 3, 35 or 5.
@@ -41,7 +40,7 @@ pub extern "C" fn wd16_run_same(
         Ok(ran) => {
             let after = ran.state;
             let counted = ran.tally;
-            put_state(state, after, 0, Reached::Nowhere);
+            put_state(state, after, 0, None);
             put_tally(tally, counted);
             0
         }
