@@ -16,8 +16,8 @@ LONGEST = 90
 # Refusal numbers that are the text's own: cases of optext's answers, named in optext_c.
 OF_TEXT = {6, 7, 9, 30, 31, 32}
 # A function in the code: its name, its parameters, its type, its contract. And one in the paper.
-HEAD = re.compile(r'^ *pub (?:extern "C" )?fn (\w+)\(([^)]*)\)(?: -> ([^\n]+))?\n((?: +(?:requires|ensures).*\n(?: {8,}.*\n)*)+)', re.M)
-SIGNATURE = re.compile(r"(?:\w+::)*(\w+)\(([^()]*)\)(?: -> (\w+))?")
+HEAD = re.compile(r'^ *pub (?:extern "C" )?fn (\w+)(?:<[^>]*>)?\(([^)]*)\)(?: -> ([^\n]+))?\n((?: +(?:requires|ensures).*\n(?: {8,}.*\n)*)+)', re.M)
+SIGNATURE = re.compile(r"(?:\w+::)*(\w+)\(([^()]*)\)(?: -> ([\w<>(), ]+))?")
 
 
 def read(path):
