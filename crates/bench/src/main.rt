@@ -3,14 +3,15 @@
 
 use benchline::Printed;
 use job::READ_OF_JOB;
-use printing::{put_line, put_refused, read_full, say_unless};
+use printing::{first, put_line, put_refused, read_full, say_unless};
 use refusal::MOST_LINE_WORDS;
+use std::io;
 use std::io::Print;
 
 // Prints a line that was written into a text, or a refusal's.
-fn put_answer(out: &impl Print, text: &[u8], printed: Printed) -> bool {
+fn put_answer(out: &impl Print, text: &[u8], printed: Printed) -> io::Result<()> {
     match printed {
-        Printed::Line(n) => put_line(out, text, n),
+        Printed::Line(n) => put_line(out, first(text, n)?),
         Printed::Refused(why) => put_refused(out, why),
     }
 }
@@ -24,5 +25,5 @@ fn main(rt: HostRuntime) {
     let mut text = [0u8; 64];
     let printed = runjob::run_job(&mut text, &input[..got], &mut image, &mut map, &mut lines);
     let written = put_answer(&rt.stdout(), &text, printed);
-    say_unless(&rt.stderr(), written, b"bench");
+    say_unless(&rt.stderr(), written, "bench");
 }
