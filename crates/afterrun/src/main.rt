@@ -3,11 +3,10 @@
 // each. Where the answer could not be written standard error says so.
 #![tactic(auto)]
 
-use job::{JobRead, READ_OF_JOB};
-use machine::{Finished, Powered, Ran};
+use job::READ_OF_JOB;
+use machine::Ran;
 use printing::{put_printed, put_refused, read_board, read_full, say_unless};
-use refusal::MOST_LINE_WORDS;
-use refusal::number::LINES_LENGTH;
+use refusal::{MOST_LINE_WORDS, Refusal};
 use state::{Settings, State};
 use std::io;
 use std::io::Print;
@@ -38,12 +37,12 @@ fn run_from(
     lines: &[u16],
 ) -> io::Result<()> {
     match machine::run(s, image, map, board, lines) {
-        Finished::Done(ran) => {
+        Ok(ran) => {
             put_end(out, ran, board)?;
             out.write_all(map)?;
             put_pages(out, image, map)
         }
-        Finished::Refused(why) => put_refused(out, why),
+        Err(why) => put_refused(out, why),
     }
 }
 
@@ -55,8 +54,8 @@ fn run_up(
     lines: &[u16],
 ) -> io::Result<()> {
     match machine::power_up(image, map, board) {
-        Powered::Up(s) => run_from(out, s, image, map, board, lines),
-        Powered::Refused(why) => put_refused(out, why),
+        Ok(s) => run_from(out, s, image, map, board, lines),
+        Err(why) => put_refused(out, why),
     }
 }
 
@@ -70,7 +69,7 @@ fn run_first(
 ) -> io::Result<()> {
     match lines.get(..usize::from(count)) {
         Some(lines) => run_up(out, image, map, board, lines),
-        None => put_refused(out, LINES_LENGTH),
+        None => put_refused(out, Refusal::LinesLength),
     }
 }
 
@@ -80,8 +79,8 @@ fn run_job(out: &impl Print, input: &[u8], board: Settings) -> io::Result<()> {
     let mut map = [0u8; 256];
     let mut lines = [0u16; MOST_LINE_WORDS];
     match job::read_job(input, &mut image, &mut map, &mut lines) {
-        JobRead::Refused(why) => put_refused(out, why),
-        JobRead::Lines(count) => run_first(out, &mut image, &map, board, &lines, count),
+        Ok(count) => run_first(out, &mut image, &map, board, &lines, count),
+        Err(why) => put_refused(out, why),
     }
 }
 

@@ -6,11 +6,9 @@
 
 ghost use Rattle.std.specs.Prelude.{◌≡◌, ◌≤◌, ◌<◌, length, IfOk};
 
-use assembler::{Assembled, LONGEST_SECTION, Labelled, MOST_LABELS};
+use assembler::{LONGEST_SECTION, MOST_LABELS, SourceRefusal};
 use printing::{first, put_line, read_full, say_unless};
-use refusal::number::{
-    LABEL_AGAIN, LABEL_MISSING, OUT_OF_PLACE, OUT_OF_REACH, SOURCE_LINES, UNKNOWN_TEXT,
-};
+use refusal::Refusal;
 use std::env::{Env, FillError};
 use std::io;
 use std::io::Print;
@@ -60,16 +58,18 @@ fn pad(input: &[u8], source: &mut [u8]) -> Result<usize, LongLine>
     Ok(lines)
 }
 
-fn words_of(why: u8) -> &'static str {
+fn words_of(why: Refusal) -> &'static str {
     match why {
-        UNKNOWN_TEXT => {
+        Refusal::UnknownText => {
             "a line is no text; a label is one to six capitals, no hex number, not SP or PC"
         }
-        LABEL_AGAIN => "a line's label is already given",
-        LABEL_MISSING => "no line gives a label that a line names",
-        OUT_OF_REACH => "a branch further than -128 to 127 words, or SOB further than 0 to 63 back",
-        OUT_OF_PLACE => "an odd origin, or words that overlap an earlier line's or run past FFFF",
-        SOURCE_LINES => "the source is not whole lines of 32 bytes, or over 1,024 of them",
+        Refusal::LabelAgain => "a line's label is already given",
+        Refusal::LabelMissing => "no line gives a label that a line names",
+        Refusal::OutOfReach =>
+            "a branch further than -128 to 127 words, or SOB further than 0 to 63 back",
+        Refusal::OutOfPlace =>
+            "an odd origin, or words that overlap an earlier line's or run past FFFF",
+        Refusal::SourceLines => "the source is not whole lines of 32 bytes, or over 1,024 of them",
         _ => "the output is too short",
     }
 }
@@ -82,17 +82,24 @@ fn padding(line: &[u8]) -> usize {
 }
 
 // The line as it was read, the reason and the number of the refusal.
-fn say_refused_at(err: &impl Print, source: &[u8], why: u8, line: u16) -> io::Result<()> {
+fn say_refused_at(err: &impl Print, source: &[u8], why: Refusal, line: u16) -> io::Result<()> {
     if let Some(padded) = source.chunks_exact(LINE).nth(usize::from(line)) {
         put_line(err, first(padded, padding(padded))?)?;
     }
     let words = words_of(why);
-    println!(err; "{words} (refusal {why} at line {line}, from 0)")
+    let refusal = u8::from(why);
+    println!(err; "{words} (refusal {refusal} at line {line}, from 0)")
 }
 
-fn say_refused(err: &impl Print, why: u8) -> io::Result<()> {
-    let words = words_of(why);
-    println!(err; "{words} (refusal {why})")
+fn say_refused(err: &impl Print, source: &[u8], why: SourceRefusal) -> io::Result<()> {
+    match why {
+        SourceRefusal::Whole(why) => {
+            let words = words_of(why);
+            let refusal = u8::from(why);
+            println!(err; "{words} (refusal {refusal})")
+        }
+        SourceRefusal::At(why, line) => say_refused_at(err, source, why, line),
+    }
 }
 
 // Writes the first bytes of an answer.
@@ -103,24 +110,22 @@ fn put_answer(out: &impl Print, bytes: &[u8], n: u16) -> io::Result<()> {
 fn answer_section(out: &impl Print, err: &impl Print, source: &[u8]) -> io::Result<()> {
     let mut section = [0u8; LONGEST_SECTION];
     match assembler::assemble(source, &mut section) {
-        Assembled::Section(n) => {
+        Ok(n) => {
             say_unless(err, put_answer(out, &section, n), "assemble");
             Ok(())
         }
-        Assembled::Refused(why) => say_refused(err, why),
-        Assembled::RefusedAt(why, line) => say_refused_at(err, source, why, line),
+        Err(why) => say_refused(err, source, why),
     }
 }
 
 fn answer_labels(out: &impl Print, err: &impl Print, source: &[u8]) -> io::Result<()> {
     let mut labels = [0u8; MOST_LABELS];
     match assembler::labels(source, &mut labels) {
-        Labelled::Bytes(n) => {
+        Ok(n) => {
             say_unless(err, put_answer(out, &labels, n), "assemble");
             Ok(())
         }
-        Labelled::Refused(why) => say_refused(err, why),
-        Labelled::RefusedAt(why, line) => say_refused_at(err, source, why, line),
+        Err(why) => say_refused(err, source, why),
     }
 }
 

@@ -1,18 +1,17 @@
 // Reads a job on standard input, powers up, runs, and prints one line. Where it could not be written standard error says so.
 #![tactic(auto)]
 
-use benchline::Printed;
 use job::READ_OF_JOB;
 use printing::{first, put_line, put_refused, read_full, say_unless};
-use refusal::MOST_LINE_WORDS;
+use refusal::{MOST_LINE_WORDS, Refusal};
 use std::io;
 use std::io::Print;
 
 // Prints a line that was written into a text, or a refusal's.
-fn put_answer(out: &impl Print, text: &[u8], printed: Printed) -> io::Result<()> {
+fn put_answer(out: &impl Print, text: &[u8], printed: Result<usize, Refusal>) -> io::Result<()> {
     match printed {
-        Printed::Line(n) => put_line(out, first(text, n)?),
-        Printed::Refused(why) => put_refused(out, why),
+        Ok(n) => put_line(out, first(text, n)?),
+        Err(why) => put_refused(out, why),
     }
 }
 

@@ -11,7 +11,7 @@ use std::env::Env;
 use std::io::{Cursor, ErrorKind, Print, Write};
 use std::rt::Files;
 use std::{fs, io};
-use trace::{Checked, READ_OF_TRACE, Verdict};
+use trace::{READ_OF_TRACE, Verdict};
 use wordbytes::word_at;
 
 // A field's name in the bench line's order.
@@ -56,8 +56,11 @@ fn answer(out: &impl Print, job: &[u8], trace: &[u8]) -> io::Result<()> {
     let mut map = [0u8; 256];
     let mut lines = [0u16; MOST_LINE_WORDS];
     match trace::check(job, trace, &mut image, &mut map, &mut lines) {
-        Checked::Done(found) => put_verdict(out, found, trace),
-        Checked::Refused(why) => println!(out; "REFUSED {why}"),
+        Ok(found) => put_verdict(out, found, trace),
+        Err(why) => {
+            let number = u8::from(why);
+            println!(out; "REFUSED {number}")
+        }
     }
 }
 

@@ -5,7 +5,6 @@
 ghost use Rattle.std.specs.Prelude.{◌≡◌, length};
 ghost use Rattle.listjob.specs.Stretch.{stretch_room};
 
-use benchline::Printed;
 use job::READ_OF_JOB;
 use listjob::STRETCH_ROOM;
 use printing::{first, put_refused, read_full, say_unless};
@@ -26,8 +25,8 @@ fn list_input(out: &impl Print, input: &[u8]) -> io::Result<()> {
     let mut lines = [0u16; MOST_LINE_WORDS];
     let mut text = whole_listing();
     match listjob::list_job(&mut text, input, &mut image, &mut map, &mut lines) {
-        Printed::Line(n) => out.write_all(first(&text, n)?),
-        Printed::Refused(why) => put_refused(out, why),
+        Ok(n) => out.write_all(first(&text, n)?),
+        Err(why) => put_refused(out, why),
     }
 }
 

@@ -7,7 +7,7 @@ use printing::{first, read_full, say_unless};
 use refusal::MOST_LINE_WORDS;
 use std::io;
 use std::io::Print;
-use trace::{LONGEST_TRACE, Made};
+use trace::LONGEST_TRACE;
 
 // Writes the first bytes of what a trace was made in.
 fn put_trace(out: &impl Print, bytes: &[u8], n: usize) -> io::Result<()> {
@@ -22,12 +22,13 @@ fn main(rt: HostRuntime) {
     let mut lines = [0u16; MOST_LINE_WORDS];
     let mut out = [0u8; LONGEST_TRACE];
     match trace::make(&input[..got], &mut out, &mut image, &mut map, &mut lines) {
-        Made::Bytes(n) => {
+        Ok(n) => {
             let written = put_trace(&rt.stdout(), &out, n);
             say_unless(&rt.stderr(), written, "make_trace");
         }
-        Made::Refused(why) => {
-            let _ = eprintln!(rt; "REFUSED {why}");
+        Err(why) => {
+            let number = u8::from(why);
+            let _ = eprintln!(rt; "REFUSED {number}");
         }
     }
 }

@@ -6,7 +6,7 @@ ghost use Rattle.std.specs.Prelude.{◌≡◌, ◌≤◌, ◌==◌, not, length}
 ghost use Rattle.std.specs.List.{prefix_len};
 ghost use Rattle.printing.specs.Lines as Spec;
 
-use benchline::Printed;
+use refusal::Refusal;
 use state::Settings;
 use std::io;
 use std::io::{ErrorKind, Print, Read};
@@ -30,17 +30,21 @@ pub fn put_spaces(out: &impl Print, n: usize) -> io::Result<()> {
 }
 
 // A line that was printed into a text.
-pub fn put_printed(out: &impl Print, text: &[u8], printed: Printed) -> io::Result<()> {
+pub fn put_printed(
+    out: &impl Print,
+    text: &[u8],
+    printed: Result<usize, Refusal>,
+) -> io::Result<()> {
     match printed {
-        Printed::Line(n) => put_line(out, first(text, n)?),
-        Printed::Refused(_) => Err(ErrorKind::InvalidInput.into()),
+        Ok(n) => put_line(out, first(text, n)?),
+        Err(_) => Err(ErrorKind::InvalidInput.into()),
     }
 }
 
 // bench's line of a refusal: REFUSED and its number.
-pub fn put_refused(out: &impl Print, why: u8) -> io::Result<()> {
+pub fn put_refused(out: &impl Print, why: Refusal) -> io::Result<()> {
     let mut text = [0u8; 16];
-    let printed = benchline::write_refused(&mut text, why);
+    let printed = benchline::write_refused(&mut text, u8::from(why));
     put_printed(out, &text, printed)
 }
 

@@ -3,8 +3,9 @@
 
 ghost use Rattle.std.specs.Prelude.{◌<◌};
 
-use machine::{Finished, First, Powered, Ran, Tally};
+use machine::{Ran, Tally};
 use printing::read_full;
+use refusal::Refusal;
 use state::State;
 use std::io;
 use std::io::Print;
@@ -74,19 +75,13 @@ fn repeat(
 ) {
     let tally = Tally {
         blanks: 0,
-        first: First::Never,
+        first: None,
     };
     let mut last = Ran { state: s, tally };
     let mut blanks: u32 = 0;
     for _ in 0..runs {
         let state = last.state;
-        if let Finished::Done(ran) = machine::run(
-            state,
-            image,
-            map,
-            endline::bench_board(),
-            lines,
-        ) {
+        if let Ok(ran) = machine::run(state, image, map, endline::bench_board(), lines) {
             blanks = blanks.wrapping_add(u32::from(ran.tally.blanks));
             last = ran;
         }
@@ -94,7 +89,7 @@ fn repeat(
     let _ = print_end(out, name, last, blanks, image);
 }
 
-fn powered(image: &mut [u8; 65536], map: &[u8; 256]) -> Powered {
+fn powered(image: &mut [u8; 65536], map: &[u8; 256]) -> Result<State, Refusal> {
     machine::power_up(image, map, endline::bench_board())
 }
 
@@ -113,7 +108,7 @@ fn measure(
     put(&mut image, words);
     let mut lines = [0u16; 4096];
     fill(&mut lines, sixteen);
-    if let Powered::Up(s) = powered(&mut image, &map) {
+    if let Ok(s) = powered(&mut image, &map) {
         repeat(out, name, s, &mut image, &map, &lines, runs);
     }
 }

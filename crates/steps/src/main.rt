@@ -2,15 +2,13 @@
 // line alone. The board is its four settings as for C, a byte each. Where the answer could not be written standard error says so.
 #![tactic(auto)]
 
-use job::{JobRead, READ_OF_JOB};
-use machine::Powered;
+use job::READ_OF_JOB;
 use printing::{first, put_line, put_refused, read_board, read_full, say_unless};
-use refusal::MOST_LINE_WORDS;
-use refusal::number::LINES_LENGTH;
+use refusal::{MOST_LINE_WORDS, Refusal};
 use state::{Settings, State};
 use std::io;
 use std::io::Print;
-use stepline::{Shown, write_step};
+use stepline::write_step;
 
 // Steps over the line words, and writes each step's line.
 fn put_steps(
@@ -26,11 +24,11 @@ fn put_steps(
     for (i, line) in lines.iter().enumerate() {
         let number = (i % 0x1_0000) as u16;
         match write_step(&mut text, state, image, map, board, *line, number) {
-            Shown::Line(n, turn) => {
-                put_line(out, first(&text, n)?)?;
-                state = turn.state;
+            Ok(shown) => {
+                put_line(out, first(&text, shown.length)?)?;
+                state = shown.turn.state;
             }
-            Shown::Refused(why) => return put_refused(out, why),
+            Err(why) => return put_refused(out, why),
         }
     }
     Ok(())
@@ -44,8 +42,8 @@ fn step_up(
     lines: &[u16],
 ) -> io::Result<()> {
     match machine::power_up(image, map, board) {
-        Powered::Up(s) => put_steps(out, s, image, map, board, lines),
-        Powered::Refused(why) => put_refused(out, why),
+        Ok(s) => put_steps(out, s, image, map, board, lines),
+        Err(why) => put_refused(out, why),
     }
 }
 
@@ -59,7 +57,7 @@ fn step_first(
 ) -> io::Result<()> {
     match lines.get(..usize::from(count)) {
         Some(lines) => step_up(out, image, map, board, lines),
-        None => put_refused(out, LINES_LENGTH),
+        None => put_refused(out, Refusal::LinesLength),
     }
 }
 
@@ -69,8 +67,8 @@ fn step_job(out: &impl Print, input: &[u8], board: Settings) -> io::Result<()> {
     let mut map = [0u8; 256];
     let mut lines = [0u16; MOST_LINE_WORDS];
     match job::read_job(input, &mut image, &mut map, &mut lines) {
-        JobRead::Refused(why) => put_refused(out, why),
-        JobRead::Lines(count) => step_first(out, &mut image, &map, board, &lines, count),
+        Ok(count) => step_first(out, &mut image, &map, board, &lines, count),
+        Err(why) => put_refused(out, why),
     }
 }
 

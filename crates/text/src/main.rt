@@ -4,7 +4,7 @@
 #![tactic(auto)]
 
 use optext::reading::{after, un_hex4};
-use optext::{ReadBack, Written};
+use optext::{ReadRefusal, WriteRefusal};
 use printing::{first, line_end, put_line, put_spaces, read_full, say_unless};
 use std::io;
 use std::io::{Print, Read};
@@ -41,10 +41,11 @@ fn put_op(out: &impl Print, line: &[u8], text: &[u8], taken: usize) -> io::Resul
 fn put_text(out: &impl Print, line: &[u8], words: &[u16]) -> io::Result<()> {
     let mut text = [0u8; 32];
     match optext::write(words, &mut text) {
-        Written::Line(length, taken) => put_op(out, line, first(&text, length)?, taken),
-        Written::TextShort => out.write_all(b"\n"),
-        Written::NoWords => out.write_all(b"\n"),
-        Written::WordMissing => put_refused(out, line, line.len(), "a next word is missing", 7),
+        Ok(written) => put_op(out, line, first(&text, written.length)?, written.taken),
+        Err(WriteRefusal::TextShort | WriteRefusal::NoWords) => out.write_all(b"\n"),
+        Err(WriteRefusal::WordMissing) => {
+            put_refused(out, line, line.len(), "a next word is missing", 7)
+        }
     }
 }
 
@@ -91,12 +92,18 @@ fn put_refused(
 fn read_text(out: &impl Print, line: &[u8]) -> io::Result<()> {
     let mut words = [0u16; 3];
     match optext::read(line, &mut words) {
-        ReadBack::Words(n) => put_words(out, first(&words, n)?),
-        ReadBack::WordsShort => out.write_all(b"\n"),
-        ReadBack::EarlyEnd(c) => put_refused(out, line, c, "the line ends too early", 32),
-        ReadBack::AfterText(c) => put_refused(out, line, c, "the text is whole before this", 31),
-        ReadBack::UnknownName(c) => put_refused(out, line, c, "unknown mnemonic", 9),
-        ReadBack::BadOperand(c) => put_refused(out, line, c, "bad operand", 30),
+        Ok(n) => put_words(out, first(&words, n)?),
+        Err(ReadRefusal::WordsShort) => out.write_all(b"\n"),
+        Err(ReadRefusal::EarlyEnd(c)) => put_refused(out, line, c, "the line ends too early", 32),
+        Err(ReadRefusal::AfterText(c)) => put_refused(
+            out,
+            line,
+            c,
+            "the text is whole before this",
+            31,
+        ),
+        Err(ReadRefusal::UnknownName(c)) => put_refused(out, line, c, "unknown mnemonic", 9),
+        Err(ReadRefusal::BadOperand(c)) => put_refused(out, line, c, "bad operand", 30),
     }
 }
 
