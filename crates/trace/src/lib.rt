@@ -178,7 +178,7 @@ pub fn check(
     ensures { left (Spec.checked_page result) (image.new, map.new, lines.new)
         ≡ Spec.check_of input.now trace.now image.old map.old lines.old }
 {
-    job::refusal(image.len(), map.len(), lines.len(), input)?;
+    job::refusal(image.len(), map.len(), lines.len(), input)?; // The job's own first.
     trace_refusal(trace)?;
     let begun = begin(input, image, map, lines);
     let s = begun.state;
