@@ -49,7 +49,7 @@ fn sum(image: &[u8]) -> u32 {
 // Where a program ends: its name, bench's line of the last run, the blanks of all runs, the sum of the image's bytes.
 fn print_end(out: &impl Print, name: &str, last: Ran, blanks: u32, image: &[u8]) -> io::Result<()> {
     let mut line = [0u8; 61];
-    endline::write_end(&mut line, last);
+    let _ = endline::write_end(&mut line, last);
     let sum = sum(image);
     print!(out; "end {name} ")?;
     out.write_all(&line)?;
