@@ -1,5 +1,5 @@
 -- The run for C: from its bytes to the run's answer.
-use Rattle.std.specs.Prelude.{Option, Some, None}
+use Rattle.std.specs.Prelude.{Option, Some, None, Ok}
 use Prim.Native.Nat.{ℕ, ◌<◌, ◌≤◌}
 use native.Mathlib.Omega.{arith}
 use mathlib.Core.Bool.{Bool, true, false, cond}
@@ -20,17 +20,14 @@ use Rattle.wordbytes.specs.Words.{byte_at, word_at}
 use Rattle.wordbytes.proofs.Laws.{word-again}
 use Rattle.machine.specs.declared.Ran.{Ran}
 use Rattle.machine.specs.declared.FirstBlank.{FirstBlank}
-use Rattle.machine.specs.declared.Finished.TheVariants as Finished
 use Rattle.machine.specs.Numbers.{state_page, Address, nowhere, first_page, FirstPage, turn_page}
 use Rattle.machine.specs.Run.{End, end, run_of, ran_of}
 use Rattle.machine.specs.Trail.{trail_of, place_moved, first_blank_in, Least, least}
 use Rattle.machine.specs.Counted.{or_first}
 use Rattle.machine.proofs.Laws.Counted.{run-trail, first-least, trail-length}
-use Rattle.machine.specs.declared.Stepped.TheVariants as Stepped
 use Rattle.step.specs.declared.Turn.{Turn}
 use Rattle.machine_c.proofs.Laws.Again.{state-again}
 use Rattle.machine.specs.Entry.{run_why, finished_page, run_page, step_why, stepped_page, step_page, power_why, powered_page, power_up_page}
-use Rattle.machine.specs.declared.Powered.TheVariants as Powered
 use Rattle.machine.proofs.Laws.Entry.{run-answered}
 use Rattle.machine.specs.Entry as Entry
 use Rattle.machine_c.specs.Layout.{state_bytes, tally_bytes, place_number, place_told, state_from, settings_from, refused_state, refused_settings, refused_up, refused_step, refused_run, not_tally}
@@ -47,7 +44,7 @@ bytes_for a = tally_bytes a.tally.blanks (first_page a.tally.first)
 
 pub record CallDone (b m map w lines b' t' m' : List ℕ) : Type 0 where
   pub ran : Ran
-  pub page : left (finished_page (Finished.Done ran)) m' ≡ run_page (settings_from w) m map lines (state_from b)
+  pub page : left (finished_page (Ok ran)) m' ≡ run_page (settings_from w) m map lines (state_from b)
   pub state : b' ≡ state_bytes (state_page ran.state) 0 nowhere
   pub tally : t' ≡ bytes_for ran
 
@@ -181,7 +178,7 @@ number-no-blank Cause.Locked f s n = refl
 
 pub record StepDone (w b m map : List ℕ) (line : ℕ) (b' m' : List ℕ) : Type 0 where
   pub turn : Turn
-  pub page : left (stepped_page (Stepped.Done turn)) m' ≡ step_page (settings_from w) m map line (state_from b)
+  pub page : left (stepped_page (Ok turn)) m' ≡ step_page (settings_from w) m map line (state_from b)
   pub state : state_from b' ≡ turn.state
   pub cause : byte_at b' 19 ≡ cause_number turn.cause
 
@@ -228,7 +225,7 @@ cause-5 Cause.Locked e = absurd (omega (arith, e))
 
 pub record PowerDone (w b m map b' m' : List ℕ) : Type 0 where
   pub up : State
-  pub page : left (powered_page (Powered.Up up)) m' ≡ power_up_page (settings_from w) m map
+  pub page : left (powered_page (Ok up)) m' ≡ power_up_page (settings_from w) m map
   pub state : state_from b' ≡ up
 
 pub power-done : (w b m map b' m' : List ℕ) → told 0 (b', m') ≡ power_up_call b m map w → PowerDone w b m map b' m'
