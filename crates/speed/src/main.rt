@@ -69,7 +69,7 @@ fn sum(image: &[u8]) -> u32 {
 // Bench's line of a run.
 fn print_line(out: &impl Print, ran: Ran) {
     let mut text = [0u8; 61];
-    endline::write_end(&mut text, ran);
+    let _ = endline::write_end(&mut text, ran);
     let _ = out.write_all(&text);
 }
 
