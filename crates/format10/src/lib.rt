@@ -32,17 +32,7 @@ fn binary_number(op: u16) -> u16
 fn stores(b: Binary) -> bool
     ensures { result ≡ Spec.stores b }
 {
-    match b {
-        Binary::Add => true,
-        Binary::Sub => true,
-        Binary::And => true,
-        Binary::Bic => true,
-        Binary::Bis => true,
-        Binary::Xor => true,
-        Binary::Cmp => false,
-        Binary::Bit => false,
-        Binary::Mov => true,
-    }
+    !matches!(b, Binary::Cmp | Binary::Bit)
 }
 
 fn settle(
@@ -64,7 +54,7 @@ fn settle(
     Ok(s)
 }
 
-// The op code on words, with the source x: MOV, which does not read its destination, is tried first.
+// The op code on words, with the source x; words and bytes have other op codes, and MOV and MOVB other ends: MOV, which does not read its destination, is tried first.
 fn onto_words(
     s: State,
     image: &mut [u8],

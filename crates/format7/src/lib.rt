@@ -84,7 +84,7 @@ fn stored(
     operand::write(s, image, map, log, bytes, k, place, v)
 }
 
-// ROR to DEC, IW2, SXT, ADC, SBC.
+// ROR to DEC, IW2, SXT, ADC, SBC. Words and bytes have other rows of op codes: one function would ask at each line which it is.
 fn modify_word(
     s: State,
     image: &mut [u8],

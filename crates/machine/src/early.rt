@@ -31,14 +31,7 @@ fn asks(until: Until, cause: Cause) -> bool
 fn rests(mode: Mode) -> bool
     ensures { result ≡ Spec.rests mode }
 {
-    match mode {
-        Mode::Running => false,
-        Mode::Waiting => true,
-        Mode::PowerHalt => true,
-        Mode::SwitchHalt => true,
-        Mode::Locked => false,
-        Mode::Saved => true,
-    }
+    !matches!(mode, Mode::Running | Mode::Locked)
 }
 
 // Does a run end here?

@@ -131,7 +131,7 @@ pub fn moved(s: State, place: Place) -> State
     }
 }
 
-// The word at a place; r is what its register holds.
+// The word at a place; r is what its register holds. A byte answers a u8, so that no op code on bytes has to show its operand's range.
 pub fn read_word(image: &[u8], map: &[u8], place: Place, r: u16) -> Result<u16, Blank>
     requires { Lent map.now image.now }
     ensures { Saw map.now (Spec.read_of word r place) image.now result }

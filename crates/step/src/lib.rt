@@ -25,7 +25,7 @@ pub(crate) enum Begun {
 }
 
 // What a line word makes of a step: an op code; the end of a halt on power fail; bootstrap, save, lock-up, a fetch from 16, the end of a save; I1, I0; nothing is done; locked.
-#[derive(Clone, Copy)]
+#[derive(Clone, Copy, Debug, PartialEq, Eq)]
 pub enum Kind {
     OpCode,
     HaltEnd,
@@ -301,19 +301,7 @@ fn seldom(
 pub fn is_code(k: Kind) -> bool
     ensures { result ≡ Spec.is_code k }
 {
-    match k {
-        Kind::OpCode => true,
-        Kind::HaltEnd => false,
-        Kind::Boots => false,
-        Kind::Saves => false,
-        Kind::LocksUp => false,
-        Kind::Restarts => false,
-        Kind::Restores => false,
-        Kind::NonVectored => false,
-        Kind::Vectored => false,
-        Kind::Waits => false,
-        Kind::Stuck => false,
-    }
+    matches!(k, Kind::OpCode)
 }
 
 // Nothing is asked for: no I3, no I1, no I0.
@@ -326,14 +314,7 @@ pub fn calm(out: Outside) -> bool
 fn running(mode: Mode) -> bool
     ensures { result ≡ Inner.running mode }
 {
-    match mode {
-        Mode::Running => true,
-        Mode::Waiting => false,
-        Mode::PowerHalt => false,
-        Mode::SwitchHalt => false,
-        Mode::Locked => false,
-        Mode::Saved => false,
-    }
+    matches!(mode, Mode::Running)
 }
 
 // Is the next step an op code? Where nothing is asked for and the processor runs it is.
