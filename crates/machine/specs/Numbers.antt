@@ -6,7 +6,6 @@ use Rattle.state.specs.declared.State.{State}
 use Rattle.state.specs.State.{mode_number}
 use Rattle.step.specs.declared.Turn.{Turn}
 use Rattle.step.specs.declared.Reached.{Reached}
-use Rattle.step.specs.declared.Reached.TheVariants as Reached
 use Rattle.step.specs.Step.{cause_number, cause_address}
 use Rattle.machine.specs.declared.Ran.{Ran}
 use Rattle.machine.specs.declared.First.{First}

@@ -10,9 +10,7 @@ use Rattle.machine.specs.declared.Tally.{Tally}
 use Rattle.machine.specs.declared.First.{First}
 use Rattle.machine.specs.declared.First.TheVariants.{At, Never}
 use Rattle.step.specs.declared.Cause.{Cause}
-use Rattle.step.specs.declared.Cause.TheVariants as Cause
 use Rattle.step.specs.declared.Reached.{Reached}
-use Rattle.step.specs.declared.Reached.TheVariants as Reached
 use Rattle.step.specs.Step.{step_of, blank_at}
 
 -- the place of the first blank and the address that it told: the earlier one stays

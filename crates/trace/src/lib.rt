@@ -6,6 +6,7 @@ ghost use Rattle.std.proofs.lemmas.List.Edits.{sets};
 ghost use Rattle.wordbytes.specs.Words.{low, high, bytes_in};
 ghost use Rattle.board.specs.Exec.{Board, beside};
 ghost use Rattle.step.specs.Step.{up};
+ghost use Rattle.refusal.specs.Answer.{why_of};
 ghost use Rattle.refusal.specs.Page.{left};
 ghost use Rattle.machine.specs.Door.{GoodBoard};
 ghost use Rattle.trace.specs.Trace as Spec;
@@ -13,7 +14,7 @@ ghost use Rattle.trace.specs.Walk as Walk;
 
 use endline::bench_board;
 use machine::door;
-use refusal::number;
+use refusal::Refusal;
 use runjob::begin;
 use state::State;
 use wordbytes::{high, low, word_at};
@@ -26,20 +27,6 @@ pub enum Verdict {
     Wrong(u16, u16, u16),
     Missing(u16),
     Extra(u16),
-}
-
-// What the check answers.
-#[derive(Clone, Copy)]
-pub enum Checked {
-    Done(Verdict),
-    Refused(u8),
-}
-
-// What is answered where a trace is made: how many bytes it has.
-#[derive(Clone, Copy)]
-pub enum Made {
-    Bytes(usize),
-    Refused(u8),
 }
 
 // The bytes of the longest trace of a job, of 4,096 entries.
@@ -166,17 +153,17 @@ fn judge_first(
     judge_steps(s, image, map, &lines[..n], trace)
 }
 
-// The refusal of a trace, or 0: it is cut inside its count; inside a state, or bytes are left over.
-fn trace_refusal(trace: &[u8]) -> u8
-    ensures { result ≡ Spec.why_trace trace.now }
+// The refusal of a trace: it is cut inside its count; inside a state, or bytes are left over.
+fn trace_refusal(trace: &[u8]) -> Result<(), Refusal>
+    ensures { why_of result ≡ Spec.why_trace trace.now }
 {
     if trace.len() < 2 {
-        return number::TRACE_CUT;
+        return Err(Refusal::TraceCut);
     }
     if trace.len() != 2 + word_at(trace, 0) as usize * 20 {
-        return number::TRACE_CUT;
+        return Err(Refusal::TraceCut);
     }
-    0
+    Ok(())
 }
 
 // Checks a trace of a job that is read into the lent buffers. A refusal is the job's own or else the trace's, and leaves every buffer
@@ -187,22 +174,16 @@ pub fn check(
     image: &mut [u8],
     map: &mut [u8],
     lines: &mut [u16],
-) -> Checked
+) -> Result<Verdict, Refusal>
     ensures { left (Spec.checked_page result) (image.new, map.new, lines.new)
         ≡ Spec.check_of input.now trace.now image.old map.old lines.old }
 {
-    let why = job::refusal(image.len(), map.len(), lines.len(), input);
-    if why != 0 {
-        return Checked::Refused(why);
-    }
-    let cut = trace_refusal(trace);
-    if cut != 0 {
-        return Checked::Refused(cut);
-    }
+    job::refusal(image.len(), map.len(), lines.len(), input)?; // The job's own first.
+    trace_refusal(trace)?;
     let begun = begin(input, image, map, lines);
     let s = begun.state;
     let count = begun.count;
-    Checked::Done(judge_first(s, image, map, lines, count, trace))
+    Ok(judge_first(s, image, map, lines, count, trace))
 }
 
 // ---- the trace made
@@ -281,20 +262,17 @@ pub fn make(
     image: &mut [u8],
     map: &mut [u8],
     lines: &mut [u16],
-) -> Made
+) -> Result<usize, Refusal>
     ensures { left (Spec.made_page result) (out.new, image.new, map.new, lines.new)
         ≡ Spec.make_of input.now out.old image.old map.old lines.old }
 {
-    let why = job::refusal(image.len(), map.len(), lines.len(), input);
-    if why != 0 {
-        return Made::Refused(why);
-    }
+    job::refusal(image.len(), map.len(), lines.len(), input)?;
     if out.len() < LONGEST_TRACE {
-        return Made::Refused(number::OUTPUT_SHORT);
+        return Err(Refusal::OutputShort);
     }
     let begun = begin(input, image, map, lines);
     let s = begun.state;
     let count = begun.count;
     put_first(s, image, map, lines, count, out);
-    Made::Bytes(2 + count as usize * 20)
+    Ok(2 + count as usize * 20)
 }

@@ -10,7 +10,6 @@ use Rattle.state.specs.declared.Settings.{Settings}
 use Rattle.state.specs.State.{heard}
 use Rattle.step.specs.declared.Cause.{Cause}
 use Rattle.step.specs.declared.Reached.{Reached}
-use Rattle.step.specs.declared.Reached.TheVariants as Reached
 use Rattle.step.specs.Step.{After, after, step_of, blank_at, is_told, is_blank}
 use Rattle.machine.specs.declared.Tally.{Tally}
 use Rattle.machine.specs.declared.First.{First}

@@ -1,5 +1,5 @@
 -- Laws of specs/Same.antt.
-use Prim.Native.Nat.{ℕ, zero, suc, ◌+◌, ◌-◌, ◌<◌, ◌≤◌}
+use Prim.Native.Nat.{ℕ, zero, suc, ◌+◌, ◌≤◌}
 use native.Mathlib.Omega.{arith}
 use mathlib.Core.Bool.{Bool, true, false, cond}
 use mathlib.Core.List.{List, [], ◌∷◌}
@@ -17,8 +17,8 @@ use Rattle.machine.specs.declared.First.TheVariants.{At, Never}
 use Rattle.refusal.specs.Page.{refused, answered, left}
 use Rattle.refusal.proofs.Laws.Page.{call-refused, call-answered}
 use Rattle.machine.specs.Numbers.{first_page, ran_page}
-use Rattle.machine.specs.Run.{End, end, rest_of_run, run_of, ran_of, blank_noted, no_blanks}
-use Rattle.machine.specs.Trail.{trail_of, blanks_in, first_blank_in, tally_in, place_moved, Least, least, nowhere}
+use Rattle.machine.specs.Run.{End, end, rest_of_run, run_of, ran_of, blank_noted}
+use Rattle.machine.specs.Trail.{trail_of, blanks_in, first_blank_in, place_moved, Least, least}
 use Rattle.machine.specs.Counted.{or_first, tally_joined}
 use Rattle.machine.specs.Entry.{run_end, step_why}
 use Rattle.board.specs.Exec.{Lent}

@@ -7,11 +7,9 @@ use Rattle.board.specs.Exec.{beside, undone}
 use Rattle.state.specs.declared.State.{State}
 use Rattle.state.specs.declared.Outside.{Outside}
 use Rattle.state.specs.declared.Went.{Went}
-use Rattle.state.specs.declared.Went.TheVariants as Went
 use Rattle.step.specs.declared.Kind.TheVariants as Kind
 use Rattle.step.specs.declared.Turn.{Turn}
 use Rattle.step.specs.declared.Cause.{Cause}
-use Rattle.step.specs.declared.Cause.TheVariants as Cause
 use Rattle.step.specs.Step.{After, kind_of, is_code, work_of, error_of, step_of}
 use Rattle.step.specs.Inner.{Coded, DidStep}
 use Rattle.step.proofs.Laws.Ends.{step-well, step-ill, code_is}

@@ -1,9 +1,8 @@
 -- What a check's answer says of the number: a refusal that `?` passes on is the first met, and where nothing was refused the later one is.
 use Rattle.std.proofs.Common.{◌≡◌, ℕ, cond, Result, Ok, Err, eqb, sym, refl, ap, ◌∙◌, arith}
 use Rattle.refusal.specs.declared.Refusal.{Refusal}
-use Rattle.refusal.specs.declared.Refusal.TheVariants as Refusal
 use Rattle.refusal.specs.Answer.{number, page_of}
-use Rattle.refusal.specs.Page.{Page, refused, answered, first}
+use Rattle.refusal.specs.Page.{first}
 use Rattle.refusal.proofs.Laws.Page.{first_some, apart, refused-one, answered-one}
 
 -- no refusal has the number 0
