@@ -66,11 +66,16 @@ fn sum(image: &[u8]) -> u32 {
     total
 }
 
+// Whether all was written, which no one is told. Apart, since a step took up to 13 instructions more where each caller wrote.
+fn put_text(out: &impl Print, text: &[u8]) -> bool {
+    out.write_all(text).is_ok()
+}
+
 // Bench's line of a run.
 fn print_line(out: &impl Print, ran: Ran) {
     let mut text = [0u8; 61];
     let _ = endline::write_end(&mut text, ran);
-    let _ = out.write_all(&text);
+    put_text(out, &text);
 }
 
 // The last hex digit of a number.
@@ -80,7 +85,7 @@ fn hex(number: u32) -> u8 {
 }
 
 fn print_nine(out: &impl Print, text: &[u8; 9]) {
-    let _ = out.write_all(text);
+    put_text(out, text);
 }
 
 // A space and eight hex digits.
@@ -98,13 +103,13 @@ fn print_eight(out: &impl Print, number: u32) {
 
 // Where a program ends: its name, bench's line of the last run, the blanks of all runs, the sum of the image's bytes.
 fn print_end(out: &impl Print, name: &[u8], last: Ran, blanks: u32, image: &[u8]) {
-    let _ = out.write_all(b"end ");
-    let _ = out.write_all(name);
-    let _ = out.write_all(b" ");
+    put_text(out, b"end ");
+    put_text(out, name);
+    put_text(out, b" ");
     print_line(out, last);
     print_eight(out, blanks);
     print_eight(out, sum(image));
-    let _ = out.write_all(b"\n");
+    put_text(out, b"\n");
 }
 
 // Sixteen line words, over and over.
