@@ -1,5 +1,5 @@
 -- Demand 3 for the runs that a board makes: over one line word, and until something happens.
-use Rattle.std.specs.Prelude.{Option, Ok, Err}
+use Rattle.std.specs.Prelude.{Option}
 use Prim.Native.Nat.{ℕ, ◌+◌}
 use mathlib.Core.Bool.{cond}
 use mathlib.Core.List.{List, [], ◌∷◌}
@@ -10,10 +10,9 @@ use Rattle.state.specs.declared.State.{State}
 use Rattle.state.specs.declared.Settings.{Settings}
 use Rattle.state.specs.State.{heard}
 use Rattle.step.specs.declared.Cause.{Cause}
-use Rattle.step.specs.declared.Cause.TheVariants as Cause
 use Rattle.step.specs.Step.{step_of}
 use Rattle.step.proofs.Laws.Alike.{step-alike}
-use Rattle.refusal.proofs.Laws.Page.{apart, refused-one, answered-one}
+use Rattle.refusal.proofs.Laws.Answer.{page-one}
 use Rattle.machine.specs.declared.FirstBlank.{FirstBlank}
 use Rattle.machine.specs.declared.Stop.{Stop}
 use Rattle.machine.specs.Until.{Stopped, ends, steps_to, stop_page, stopped_page, stopped, run_for, until_of, run_until_page}
@@ -105,7 +104,4 @@ stop-one r q e =
     rw (turn, first, blanks, steps)
 
 pub stopped-one : (r q : Stopped) → stopped_page r ≡ stopped_page q → r ≡ q
-stopped-one (Ok r) (Ok q) e = ap Ok (stop-one r q (answered-one e))
-stopped-one (Err why) (Err y) e = ap Err (refused-one e)
-stopped-one (Ok r) (Err why) e = absurd (apart e)
-stopped-one (Err why) (Ok r) e = absurd (apart (sym e))
+stopped-one = page-one stop-one
