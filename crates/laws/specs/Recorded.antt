@@ -7,6 +7,7 @@ use Rattle.std.specs.Prelude.{ℕ, ◌<◌, ◌≤◌, List, [], ◌∷◌, ◌+
 use Rattle.state.specs.declared.State.{State}
 use Rattle.state.specs.declared.Settings.{Settings}
 use Rattle.wordbytes.specs.Words.{word_at}
+use Rattle.refusal.specs.declared.Refusal.{Refusal}
 use Rattle.refusal.specs.Page.{left, nothing, told}
 use Rattle.machine.specs.declared.Tally.{Tally}
 use Rattle.plugs.specs.Plugs.{Channel}
@@ -36,7 +37,7 @@ pub data Recorded : Recorder → List (List Channel) → Type 0 where
       → Recorded r' (scans ++ (channels ∷ []))
   -- one that was refused
   turned_away : {r : Recorder} {scans : List (List Channel)} → Recorded r scans
-      → (s : State) (channels : List Channel) (m map : List ℕ) (settings : Settings) (lines : List ℕ) (why : ℕ) (r' : Recorder) (m' : List ℕ)
+      → (s : State) (channels : List Channel) (m map : List ℕ) (settings : Settings) (lines : List ℕ) (why : Refusal) (r' : Recorder) (m' : List ℕ)
       → left (answer_page (Err why)) (r', m') ≡ scan_of (in_state s r) channels m map settings lines
       → Recorded r' scans
 

@@ -19,7 +19,7 @@ mod xct;
 
 // What is to be done after an op code's fetch: an op code to execute, traced or not; an XCT that is aborted.
 #[derive(Clone, Copy)]
-pub(crate) enum Begun {
+pub enum Begun {
     Code(State, u16, bool),
     Abort(State),
 }

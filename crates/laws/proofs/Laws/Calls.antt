@@ -122,8 +122,12 @@ run-low settings map lines s m a n e l =
     first_of : End → Option FirstBlank
     first_of (end t k y) = y.first
 
+    place_of : Option FirstBlank → ℕ
+    place_of (Some b) = b.place
+    place_of None = 0
+
     low : (f : Option FirstBlank) (rs : List After) → length rs ≡ length lines → Least rs (first_page f) → Within f
-    low (Some f) rs k (least i h g) b d = let z : f ≡ b = cc in rw (← z) i
+    low (Some f) rs k (least i h g) b d = let z : f.place ≡ b.place = ap place_of d in omega arith
     low None rs k h b d = let z : ◌≡◌ {A = ℕ} 0 1 = cc in absurd (omega arith)
 
 -- ---- a call that answers 0 wasn't refused

@@ -91,7 +91,7 @@ wd16-step-plugged b m map big w line k b₁ m₁ b₂ m₂ p h e five six nine f
     f ∙ step-call-is b m big w line free.0 (step-taken settings m map big line h free.1) ∙ ap stepped_in (step-more map (heard settings line) (state_from b) m big (plugged-more map big p) sound) ∙ sym left₁ in
     (ap (λ z. z.number) left₂, ap (λ z. z.lent.0) left₂, ap (λ z. z.lent.1) left₂)
 
-pub done-one : {a b : Ran} → Ok a ≡ Ok b → a ≡ b
+pub done-one : {a b : Ran} → ◌≡◌ {A = Finished} (Ok a) (Ok b) → a ≡ b
 done-one {a} {b} e = cc
 
 same_bytes : (a c : Ran) {b₁ b₂ t₁ t₂ : List ℕ} → c ≡ a → b₁ ≡ state_bytes (state_page a.state) 0 nowhere → b₂ ≡ state_bytes (state_page c.state) 0 nowhere → t₁ ≡ bytes_for a → t₂ ≡ bytes_for c → (b₂ ≡ b₁) × (t₂ ≡ t₁)

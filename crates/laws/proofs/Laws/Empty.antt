@@ -1,5 +1,5 @@
--- What an empty run leaves of a state's bytes: all but the cause Rattle.std.proofs.Common.{Ok}
-use and the address of the step before, which become 0.
+-- What an empty run leaves of a state's bytes: all but the cause and the address of the step before, which become 0.
+use Rattle.std.proofs.Common.{Ok}
 use Prim.Native.Nat.{ℕ, ◌<◌}
 use native.Mathlib.Omega.{arith}
 use mathlib.Core.Bool.{false}

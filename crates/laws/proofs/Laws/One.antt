@@ -15,6 +15,7 @@ use Rattle.step.specs.declared.Cause.TheVariants as Cause
 use Rattle.step.specs.Step.{After, step_of, cause_number, blank_at, cause_address}
 use Rattle.refusal.specs.Numbers.{line_bit, no_state}
 use Rattle.refusal.specs.Page.{first, left, call, told, reading}
+use Rattle.refusal.specs.Answer.{number}
 use Rattle.refusal.proofs.Laws.Page.{apart, answered-one, refused-one}
 use Rattle.refusal.specs.Refusal.{all_of, plain, lines_refusal, step_refusal, run_refusal}
 use Rattle.machine.specs.Entry.{Stepped, step_why, power_why, run_why, turned, stepped_page, finished_page, step_page, run_page}
@@ -48,7 +49,7 @@ page-one zero a m n (Ok t) e =
 page-one zero a m n (Err why) e = absurd (apart (sym (ap (λ z. z.page) e)))
 page-one (suc why) a m n (Ok t) e = absurd (apart (ap (λ z. z.page) e))
 page-one (suc why) a m n (Err k) e =
-    let same : k ≡ suc why = refused-one (ap (λ z. z.page) e) in
+    let same : number k ≡ suc why = refused-one (ap (λ z. z.page) e) in
     let image : n ≡ m = ap (λ z. z.lent) e in
     rw (same, image)
 

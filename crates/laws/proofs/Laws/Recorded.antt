@@ -140,7 +140,7 @@ held-recorded r ss (Spec.Recorded.done {r = q} {scans = qs} w s channels m map s
     let is = scan-done (in_state s q) channels m map settings lines r t m' e in
     held-is is.scans is.plugs (held_more channels (held-recorded q qs w) is.room is.range l)
 held-recorded r ss (Spec.Recorded.turned_away {r = q} w s channels m map settings lines why r' m' e) =
-    let same : r ≡ in_state s q = scan-refused (in_state s q) channels m map settings lines r why m' e in
+    let same : r ≡ in_state s q = scan-refused (in_state s q) channels m map settings lines r (number why) m' e in
     subst (λ (x : Recorder). Held x.scans x.plugs ss) (sym same) (held-recorded q ss w)
 
 pub scans-counted : ScansCounted

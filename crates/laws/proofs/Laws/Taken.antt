@@ -14,6 +14,7 @@ use Rattle.state.specs.State.{heard}
 use Rattle.step.specs.declared.Cause.TheVariants as Cause
 use Rattle.step.specs.Step.{step_of}
 use Rattle.refusal.specs.Numbers.{lines_length, line_bit}
+use Rattle.refusal.specs.Answer.{number}
 use Rattle.refusal.specs.Page.{refused, left}
 use Rattle.refusal.proofs.Laws.Page.{first-both, apart}
 use Rattle.refusal.specs.Refusal.{all_of, plain, lines_refusal, run_refusal, step_refusal}
@@ -63,7 +64,7 @@ module _ (settings : Settings) (m map lines : List ℕ) (s : State) where
   pub run-answer-of : (r : Finished) (n : List ℕ) → run_why settings m map lines ≡ 0 → left (finished_page r) n ≡ run_page settings m map lines s → (a : Ran) × (r ≡ Ok a) × (ran_of a n ≡ run_of settings map lines s m)
   unfolding run_page
   run-answer-of (Ok a) n h e = (a, refl, (run-done settings m map lines s a n e).1)
-  run-answer-of (Err why) n h e = absurd (refused-not why n (run_of settings map lines s m) (rw h at e))
+  run-answer-of (Err why) n h e = absurd (refused-not (number why) n (run_of settings map lines s m) (rw h at e))
 
   -- and leaves an image of the same length
   pub run-size : (a : Ran) (n : List ℕ) → ran_of a n ≡ run_of settings map lines s m → length n ≡ length m
