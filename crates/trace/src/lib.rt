@@ -87,13 +87,11 @@ fn entry_verdict(step: u16, entry: [u16; 10], trace: &[u8], at: usize) -> Verdic
     requires { (at < 4294967296) × (length entry ≡ 10) }
     ensures { result ≡ Spec.first_wrong step 0 entry (Spec.fields_from trace.now at 10) }
 {
-    let mut field: usize = 0;
-    while field < 10 {
+    for field in 0..10 {
         let right = entry[field];
         if right != word_at(trace, at + field * 2) {
             return Verdict::Wrong(step, field as u16, right);
         }
-        field += 1;
     }
     Verdict::Accepted
 }
@@ -127,13 +125,11 @@ fn judge_steps(s: State, image: &mut [u8], map: &[u8], lines: &[u16], trace: &[u
     let mut log = [0u16; 32];
     let mut state = s;
     let mut found = Verdict::Accepted;
-    let mut i: usize = 0;
-    while i < lines.len() {
+    for i in 0..lines.len() {
         state = stepped(state, image, map, &mut log, lines[i]);
         found = or_else(found, step_verdict(i as u16, state, trace));
-        i += 1;
     }
-    or_else(found, end_verdict(i as u16, trace))
+    or_else(found, end_verdict(lines.len() as u16, trace))
 }
 
 // The same over the first line words of the buffer.
@@ -211,10 +207,8 @@ fn put_entry(out: &mut [u8], at: usize, entry: [u16; 10])
     requires { (at < 4294967296) × (length entry ≡ 10) }
     ensures { out.new ≡ sets out.old at (bytes_in entry) }
 {
-    let mut field: usize = 0;
-    while field < 10 {
+    for field in 0..10 {
         put_word(out, at + field * 2, entry[field]);
-        field += 1;
     }
 }
 
@@ -226,11 +220,9 @@ fn put_steps(s: State, image: &mut [u8], map: &[u8], lines: &[u16], out: &mut [u
 {
     let mut log = [0u16; 32];
     let mut state = s;
-    let mut i: usize = 0;
-    while i < lines.len() {
+    for i in 0..lines.len() {
         state = stepped(state, image, map, &mut log, lines[i]);
         put_entry(out, 2 + i * 20, entry_of(state));
-        i += 1;
     }
 }
 
