@@ -8,9 +8,6 @@ use Rattle.trace.proofs.entry_verdict.Goals as goal
 pub loop-field-init : goal.loop-field-init
 loop-field-init c = refl
 
-pub bounds-entry-field : goal.bounds-entry-field
-bounds-entry-field c = omega arith
-
 pub overflow_mul-field : goal.overflow_mul-field
 overflow_mul-field c = omega arith
 

@@ -13,9 +13,6 @@ overflow_mul-field c = omega arith
 pub overflow_add-at : goal.overflow_add-at
 overflow_add-at c = omega arith
 
-pub bounds-entry-field : goal.bounds-entry-field
-bounds-entry-field c = omega arith
-
 pub put_word-requires : goal.put_word-requires
 put_word-requires c = omega arith
 

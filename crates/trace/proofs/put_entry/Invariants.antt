@@ -6,4 +6,4 @@ use Rattle.wordbytes.specs.Words.{bytes_in}
 use Rattle.trace.proofs.put_entry.Given as goal
 
 abbrev pub invariant-loop-field : goal.invariant-loop-field
-invariant-loop-field l = (length l.out ≡ length l.initial.out) × (sets l.out (l.at + l.field * 2) (bytes_in (drop l.field l.entry)) ≡ sets l.initial.out l.at (bytes_in l.entry))
+invariant-loop-field l = (length l.out ≡ length l.initial.out) × (sets l.out (l.at + l.field * 2) (bytes_in (drop l.field l.fn.entry)) ≡ sets l.initial.out l.at (bytes_in l.fn.entry))
