@@ -171,6 +171,7 @@ fn lines_refusal(lines: &[u16]) -> Result<(), Refusal>
 }
 
 // The jumpers of the power-up option, those of the halt option, the address register.
+// Three numbers and no struct: theirs is `Settings` of state, and this crate, which the crates of text use without a processor, stands on none.
 fn jumpers_fit(p: u8, h: u8, r: u8) -> bool
     ensures { result ≡ Spec.jumpers_fit p h r }
 {

@@ -76,9 +76,7 @@ fn or_else(found: Verdict, later: Verdict) -> Verdict
 {
     match found {
         Verdict::Accepted => later,
-        Verdict::Wrong(_, _, _) => found,
-        Verdict::Missing(_) => found,
-        Verdict::Extra(_) => found,
+        _ => found,
     }
 }
 
@@ -87,13 +85,10 @@ fn entry_verdict(step: u16, entry: [u16; 10], trace: &[u8], at: usize) -> Verdic
     requires { (at < 4294967296) × (length entry ≡ 10) }
     ensures { result ≡ Spec.first_wrong step 0 entry (Spec.fields_from trace.now at 10) }
 {
-    let mut field: usize = 0;
-    while field < 10 {
-        let right = entry[field];
+    for (field, &right) in entry.iter().enumerate() {
         if right != word_at(trace, at + field * 2) {
             return Verdict::Wrong(step, field as u16, right);
         }
-        field += 1;
     }
     Verdict::Accepted
 }
@@ -127,13 +122,11 @@ fn judge_steps(s: State, image: &mut [u8], map: &[u8], lines: &[u16], trace: &[u
     let mut log = [0u16; 32];
     let mut state = s;
     let mut found = Verdict::Accepted;
-    let mut i: usize = 0;
-    while i < lines.len() {
-        state = stepped(state, image, map, &mut log, lines[i]);
+    for (i, &line) in lines.iter().enumerate() {
+        state = stepped(state, image, map, &mut log, line);
         found = or_else(found, step_verdict(i as u16, state, trace));
-        i += 1;
     }
-    or_else(found, end_verdict(i as u16, trace))
+    or_else(found, end_verdict(lines.len() as u16, trace))
 }
 
 // The same over the first line words of the buffer.
@@ -192,6 +185,7 @@ pub fn check(
 fn put_byte(out: &mut [u8], at: usize, byte: u8)
     ensures { out.new ≡ set out.old at byte }
 {
+    // The test by hand: over `get_mut` the proof didn't close, since its contract doesn't say what a slice is after a write through it.
     if at < out.len() {
         out[at] = byte;
     }
@@ -211,10 +205,8 @@ fn put_entry(out: &mut [u8], at: usize, entry: [u16; 10])
     requires { (at < 4294967296) × (length entry ≡ 10) }
     ensures { out.new ≡ sets out.old at (bytes_in entry) }
 {
-    let mut field: usize = 0;
-    while field < 10 {
-        put_word(out, at + field * 2, entry[field]);
-        field += 1;
+    for (field, &word) in entry.iter().enumerate() {
+        put_word(out, at + field * 2, word);
     }
 }
 
@@ -226,11 +218,9 @@ fn put_steps(s: State, image: &mut [u8], map: &[u8], lines: &[u16], out: &mut [u
 {
     let mut log = [0u16; 32];
     let mut state = s;
-    let mut i: usize = 0;
-    while i < lines.len() {
-        state = stepped(state, image, map, &mut log, lines[i]);
+    for (i, &line) in lines.iter().enumerate() {
+        state = stepped(state, image, map, &mut log, line);
         put_entry(out, 2 + i * 20, entry_of(state));
-        i += 1;
     }
 }
 
