@@ -24,10 +24,9 @@ use Rattle.optext.specs.declared.Written.{Written}
 use Rattle.std.proofs.Common.{Result, Ok, Err}
 use Rattle.optext.specs.declared.WriteRefusal.{WriteRefusal}
 use Rattle.optext.specs.declared.WriteRefusal.TheVariants.{TextShort, NoWords, WordMissing}
-use Rattle.optext.proofs.Laws.Meets.{line}
 use Rattle.optext.specs.Rows.{rows, the_row}
 use Rattle.optext.specs.Line.{sep_text, word_text, taken, text_of}
-use Rattle.optext.specs.Answer.{LinePage, written_page, in_front, Writes, write_word_of}
+use Rattle.optext.specs.Answer.{line, LinePage, written_page, in_front, Writes, write_word_of}
 use Rattle.optext.proofs.Laws.Calls.{line-written}
 use Rattle.listing.specs.declared.CodeFound.{CodeFound}
 use Rattle.listing.specs.declared.CodeFound.TheVariants.{Nothing, Cut, Whole}

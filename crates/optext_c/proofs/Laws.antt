@@ -18,12 +18,11 @@ use Rattle.answer.specs.Answer.{three_words, answer_why, place_words, answering}
 use Rattle.answer.proofs.Laws.{bad}
 use Rattle.optext.specs.declared.Written.{Written}
 use Rattle.optext.specs.declared.WriteRefusal.{WriteRefusal}
-use Rattle.optext.proofs.Laws.Meets.{line}
 use Rattle.std.proofs.Common.{Result, Ok, Err}
 use Rattle.optext.specs.declared.ReadRefusal.{ReadRefusal}
 use Rattle.optext.specs.declared.ReadRefusal.TheVariants.{WordsShort}
 use Rattle.optext.specs.Line.{taken}
-use Rattle.optext.specs.Answer.{written_page, write_of, Writes, read_page}
+use Rattle.optext.specs.Answer.{line, written_page, write_of, Writes, read_page}
 use Rattle.optext.specs.Words.{Accepts, RefusedText, Reads}
 use Rattle.optext.proofs.Laws.Theorems.{words-of}
 use Rattle.optext.proofs.Laws.Calls.{lined}

@@ -11,6 +11,7 @@ use borrow.Author.Tests.{ltb-true}
 use Rattle.wordbytes.specs.Words.{word_at}
 use Rattle.state.specs.declared.State.{State}
 use Rattle.state.specs.declared.Settings.{Settings}
+use Rattle.refusal.specs.Answer.{number}
 use Rattle.refusal.specs.Page.{refused, answered, left, call, nothing, told, reading}
 use Rattle.refusal.specs.Page as Page
 use Rattle.refusal.proofs.Laws.Page.{apart, answered-one, call-right}

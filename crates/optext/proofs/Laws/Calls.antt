@@ -13,12 +13,11 @@ use Rattle.optext.specs.Line.{row_of, takes, operand_text, sep_text, op_text, ta
 use Rattle.refusal.specs.Numbers.{text_short}
 use Rattle.refusal.specs.Page.{Page, answered, left}
 use Rattle.refusal.proofs.Laws.Page.{answered-one, first-both, call-right, one-call}
-use Rattle.optext.specs.Answer.{line_page, written_page, room_why, write_why, in_front, write_of, Writes, read_page}
+use Rattle.optext.specs.Answer.{line, line_page, written_page, room_why, write_why, in_front, write_of, Writes, read_page}
 use Rattle.optext.specs.Column.{Whole}
 use Rattle.optext.specs.Words.{Reads}
 use Rattle.optext.proofs.Laws.Once.{reads-one}
 use Rattle.optext.proofs.Laws.Forms.{takes-le}
-use Rattle.optext.proofs.Laws.Meets.{line}
 use Rattle.optext.proofs.Laws.Back.{op-ignores}
 use Rattle.optext.proofs.Laws.Theorems.{reads-text, written_one, read_one}
 

@@ -10,7 +10,7 @@ use Rattle.optext.specs.Rows.{word_row, name_of, base_of, first_of, second_of}
 use Rattle.optext.specs.Line.{row_of, operand_text, takes, sep_text, row_text, word_text, op_text, taken, text_of}
 use Rattle.optext.specs.Guess.{row_for, un_op, guess, guess_a, guess_b, guess_of}
 use Rattle.refusal.specs.Page.{left}
-use Rattle.optext.specs.Answer.{written_page, write_why, write_of, Writes, write_word_of}
+use Rattle.optext.specs.Answer.{line, written_page, write_why, write_of, Writes, write_word_of}
 use Rattle.optext.specs.Column.{Whole}
 use Rattle.optext.specs.Words.{Accepts, own, words_of}
 use Rattle.hexdigits.proofs.Laws.Laid.{wrote-take, wrote-rest}
@@ -23,10 +23,6 @@ use Rattle.optext.proofs.Laws.Longest.{text-le}
 pub taken-le : (w : ℕ) → taken w ≤ 3
 unfolding taken
 taken-le w = omega (arith, takes-le (first_of (row_of w)) w, takes-le (second_of (row_of w)) w)
-
--- a line that is written
-abbrev pub line : ℕ → ℕ → Result Written WriteRefusal
-line n m = Ok (record { length = n; taken = m })
 
 -- the writer's four answers
 module _ (ws b : List ℕ) where
