@@ -88,7 +88,8 @@ def functions():
 
 def names(parameters):
     """The parameters' names, without their types; a method's self is s."""
-    return ["s" if name == "self" else name for name in (part.split(":")[0].replace("mut ", "").strip() for part in parameters.split(",")) if name]
+    parts = re.sub(r"<[^<>]*>", "", parameters).split(",")
+    return ["s" if name == "self" else name for name in (part.split(":")[0].replace("mut ", "").strip() for part in parts) if name]
 
 
 def promised(contract):
