@@ -66,16 +66,11 @@ fn sum(image: &[u8]) -> u32 {
     total
 }
 
-// Whether all was written, which no one is told. Apart, since a step took up to 13 instructions more where each caller wrote.
-fn put_text(out: &impl Print, text: &[u8]) -> bool {
-    out.write_all(text).is_ok()
-}
-
 // Bench's line of a run.
 fn print_line(out: &impl Print, ran: Ran) {
     let mut text = [0u8; 61];
     let _ = endline::write_end(&mut text, ran);
-    put_text(out, &text);
+    let _ = out.write_all(&text);
 }
 
 // The last hex digit of a number.
@@ -85,7 +80,7 @@ fn hex(number: u32) -> u8 {
 }
 
 fn print_nine(out: &impl Print, text: &[u8; 9]) {
-    put_text(out, text);
+    let _ = out.write_all(text);
 }
 
 // A space and eight hex digits.
@@ -103,13 +98,13 @@ fn print_eight(out: &impl Print, number: u32) {
 
 // Where a program ends: its name, bench's line of the last run, the blanks of all runs, the sum of the image's bytes.
 fn print_end(out: &impl Print, name: &[u8], last: Ran, blanks: u32, image: &[u8]) {
-    put_text(out, b"end ");
-    put_text(out, name);
-    put_text(out, b" ");
+    let _ = out.write_all(b"end ");
+    let _ = out.write_all(name);
+    let _ = out.write_all(b" ");
     print_line(out, last);
     print_eight(out, blanks);
     print_eight(out, sum(image));
-    put_text(out, b"\n");
+    let _ = out.write_all(b"\n");
 }
 
 // Sixteen line words, over and over.
