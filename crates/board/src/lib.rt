@@ -1,5 +1,5 @@
 // The board: the lent image, the page map, and the log of what a step wrote over. The three are lent apart: as fields of one struct each
-// access loads them again, and a step took 7 to 11 in a hundred instructions more, or 2 to 9 where each call out of line had a struct of its own.
+// access loads them again, and a step took 4 to 12 in a hundred instructions more, or up to 9 where each call out of line had a struct of its own.
 #![tactic(auto)]
 
 ghost use Rattle.std.specs.Prelude.{◌&&◌, ◌≡◌, ◌+◌, ◌*◌, ◌≤◌, ◌<◌, ◌%◌, ◌/◌, length, get_or, set};

@@ -16,7 +16,8 @@ use benchline::{put_dashes, put_field};
 use refusal::{Refusal, board_refusal};
 use wordbytes::{byte_at, word_at};
 
-// What stands at an address: nothing is fitted there; an op code that is cut; or a whole op code, with the number of its words.
+// What stands at an address: nothing is fitted there; an op code that is cut; or a whole op code, with the number of its words. These
+// are three cases, so no Option.
 #[derive(Clone, Copy, PartialEq, Eq)]
 pub enum CodeFound {
     Nothing,

@@ -84,7 +84,7 @@ fn stop_at(stage: Stage) -> Stop
     }
 }
 
-// The log is made once and cleared for each step.
+// The log is made once and cleared for each step. The place is the stage's, which tells where the run ended.
 pub(crate) fn until_on(
     s: State,
     image: &mut [u8],

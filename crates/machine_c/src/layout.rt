@@ -24,7 +24,7 @@ fn indicators(f: Flags) -> u8
     digit(f.n) * 8 + digit(f.z) * 4 + digit(f.v) * 2 + digit(f.c)
 }
 
-// A mode by its number.
+// A mode by its number. A TryFrom would refuse once more what `over` has refused.
 fn mode_of(n: u8) -> Mode
     ensures { result ≡ Back.mode_of n }
 {

@@ -62,7 +62,7 @@ pub struct Turn {
     pub cause: Cause,
 }
 
-// 01's number of a cause.
+// 01's number of a cause. A cause that tells an address has no cast.
 pub fn cause_number(cause: Cause) -> u8
     ensures { result ≡ Spec.cause_number cause }
 {

@@ -67,11 +67,9 @@ fn put_columns(text: &mut [u8], values: [u32; 15]) -> usize
     requires { 75 ≤ length text.old }
     ensures { Wrote (Spec.columns values 15) text.old text.new result }
 {
-    let mut i: usize = 0;
     let mut at: usize = 0;
-    while i < 15 {
-        at = column_at(text, at, values[i]);
-        i += 1;
+    for x in values {
+        at = column_at(text, at, x);
     }
     at
 }
@@ -190,11 +188,9 @@ fn put_writes(text: &mut [u8], image: &[u8], log: &[u16; 32]) -> usize
     ensures { Wrote (Spec.writes_text image.now (addresses log.now)) text.old text.new result }
 {
     let entries = log[0] as usize;
-    let mut i: usize = 0;
     let mut at: usize = 0;
-    while i < entries {
+    for i in 0..entries {
         at = word_text_at(text, at, image, log[i * 2 + 1]);
-        i += 1;
     }
     at
 }
