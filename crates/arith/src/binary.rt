@@ -7,6 +7,7 @@ use opcodes::{Binary, ByteBinary};
 use wordmath::result::mov;
 use wordmath::{Done, Flags};
 
+// One arm for each op code, as the manual has them; a table of functions would hide which.
 pub fn binary(op: Binary, s: u16, d: u16, f: Flags) -> Done
     ensures { result ≡ binary_of op s d f }
 {

@@ -29,7 +29,7 @@ fn row_from(bytes: bool, source: u16, destination: u16) -> BlockMove
     }
 }
 
-// The eight op codes; down by n is up by 65,536 - n.
+// The eight op codes, an arm for each; down by n is up by 65,536 - n.
 fn row_at(k: u16) -> BlockMove
     ensures { result ≡ Spec.row_at k }
 {

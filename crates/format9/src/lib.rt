@@ -201,7 +201,7 @@ fn div(s: State, image: &[u8], map: &[u8], op: u16) -> Result<State, Blank>
     Ok(t.with_pair(k, pair))
 }
 
-// All but SOB and JSR, which are tried before: with the indicators preset.
+// All but SOB and JSR, which are tried before: with the indicators preset. Arms, since they take different things: two write, and one asks for the lines outside.
 fn preset_code(
     s: State,
     image: &mut [u8],

@@ -54,13 +54,10 @@ pub(crate) fn run_from(
         first: None,
     };
     let mut cause = Cause::Nothing;
-    let n = lines.len() as u16;
-    let mut i: u16 = 0;
     let mut line: u16 = 0;
     let mut out = hear(settings, 0);
     let mut quiet = calm(out);
-    while i < n {
-        let next = lines[i as usize];
+    for (i, &next) in lines.iter().enumerate() {
         if next != line {
             line = next;
             out = hear(settings, next);
@@ -90,8 +87,7 @@ pub(crate) fn run_from(
             state = turn.state;
             cause = turn.cause;
         }
-        tally = blank_noted(tally, i, blank_at(cause));
-        i += 1;
+        tally = blank_noted(tally, i as u16, blank_at(cause));
     }
     Last {
         ran: Ran { state, tally },

@@ -12,7 +12,7 @@ use optext::{ReadRefusal, WriteRefusal};
 use refusal::Refusal;
 use wordbytes::{high, low, word_at};
 
-// The text's own refusals: no words, a needed next word is missing.
+// The text's own refusals, in the numbers that C is told and no one else: no words, a needed next word is missing.
 const NO_WORDS: u8 = 6;
 
 const WORD_MISSING: u8 = 7;

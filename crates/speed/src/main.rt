@@ -174,7 +174,7 @@ fn quietly(out: &impl Print, name: &[u8], pages: &[u8], words: &[u32], runs: u16
     measure(out, name, pages, words, &programs::QUIET_LINES, runs);
 }
 
-// The program of a number.
+// The program of a number; each has a shape of its own.
 fn measure_at(out: &impl Print, k: u16, runs: u16) {
     match k {
         0 => quietly(out, b"sob", &programs::SOB_PAGES, &programs::SOB, runs),

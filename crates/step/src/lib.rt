@@ -250,7 +250,7 @@ fn bootstrap(settings: Settings, s: State) -> State
         .with_pc(0xc000 + settings.register as u16 % 64 * 256)
 }
 
-// The work of a step that is no op code.
+// The work of a step that is no op code. An arm for each kind, as 01 lists them.
 fn seldom(
     s: State,
     image: &mut [u8],
