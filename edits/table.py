@@ -25,7 +25,7 @@ ALIKE = """destination_mode destination_register source_mode source_register reg
 DEFINED = {"endline write_end": "Report end_text", "state mode_number": "State mode_number"}
 DEFINED |= {f"opcodes fields::{field}": f"Fields {field}" for field in ALIKE.split()}
 # Functions with fewer than two edits, and why.
-PRINTS = "first put_line put_spaces put_printed put_refused say_unless read_board"
+PRINTS = "put_line put_spaces put_printed put_refused say_unless read_board"
 FEWER = {f"printing {name}": "what the C library reads and writes is not in the logic" for name in PRINTS.split()}
 
 Edit = collections.namedtuple("Edit", "name crate gate place words")

@@ -2,7 +2,8 @@
 // until a buffer is full, a board's settings and the lines of an input.
 #![tactic(auto)]
 
-ghost use Rattle.std.specs.Prelude.{◌≡◌, ◌≤◌, ◌==◌, not, length};
+ghost use Rattle.std.specs.Prelude.{◌≡◌, ◌≤◌, ◌<◌, ◌==◌, true, not, length, take};
+ghost use Rattle.std.specs.Result.{IsOkAnd, is_err};
 ghost use Rattle.std.specs.List.{prefix_len};
 ghost use Rattle.printing.specs.Lines as Spec;
 
@@ -12,7 +13,10 @@ use std::io;
 use std::io::{ErrorKind, Print, Read};
 
 // The first n of the bytes of a text, or of words. Where there are fewer there is no answer to write.
-pub fn first<T>(all: &[T], n: usize) -> io::Result<&[T]> {
+pub fn first<T>(all: &[T], n: usize) -> io::Result<&[T]>
+    ensures whole { n ≤ length all.now → IsOkAnd result (λ s. s.now ≡ take n all.now) }
+    ensures none { length all.now < n → is_err result ≡ true }
+{
     Ok(all.get(..n).ok_or(ErrorKind::InvalidInput)?)
 }
 
