@@ -6,7 +6,8 @@ the other four mean nothing. That is harmless if no byte of a pointer's eight is
 copy that takes all eight, or by zeros over all eight. To see it, the places of the whole module are sorted into objects: two
 places that may be the same, by a call, a copy or a load, are in one object, each at its offset. A place at an offset that is not
 a constant makes its object one of bytes, in which no pointer may stand. So an object is wrong where a pointer and anything else
-meet in it, wherever in the module that is.
+meet in it, wherever in the module that is. The library's iterators are looked at anew for each call, since one stands at many places
+of those that are made of it.
 
 Beside that, nothing may be in the text that depends on the width of a pointer or calls for what a chip has not: ptrtoint and
 inttoptr, atomics, vectors, loads of several values at once, globals but constant bytes, 64-bit divisions but those by a power of
@@ -22,6 +23,8 @@ CONSTANT = re.compile(r'(@[\w.]+) = private unnamed_addr constant \[(\d+) x i8\]
 DIVISION = re.compile(r"\b(?:udiv|urem|sdiv|srem)\b.*\bi(?:64|128) \S+, (\S+)")
 NAME = r'(?:"[^"]*"|[\w.]+)'
 BYTES = {"i1": 1, "i8": 1, "i16": 2, "i32": 4, "i64": 8, "ptr": 8, "float": 4, "double": 8}
+# The library's iterators, which stand at different places of those that are made of them: looked at anew for each call.
+ANEW = '"core::iter::'
 WHOLE = 1 << 20  # more bytes than any object has
 POINTER = 8
 
@@ -103,14 +106,13 @@ class Module:
         self.entered = {name: [p and self.objects.new() for p in pointers] for name, pointers, _ in self.functions}
         self.answered = {name: self.objects.new() for name, _, _ in self.functions}
         self.constants = dict(self.constant_bytes())
-        self.places, self.function = {}, ""
+        self.pointers_of = {name: pointers for name, pointers, _ in self.functions}
+        self.bodies = {name: body for name, _, body in self.functions}
+        self.places, self.answer, self.inside = {}, None, []
         for number, line in enumerate(lines, 1):
             self.look_at_words(number, line.split(";")[0])
-        for name, pointers, body in self.functions:
-            self.function = name
-            self.places = {p: place for p, place in zip(pointers, self.entered[name]) if p} | self.constants
-            for number, code in body:
-                self.look_at(number, code)
+        for name, _, _ in self.functions:
+            self.look_through(name, self.entered[name], self.answered[name])
         self.look_at_pointers()
 
     def against(self, number, what):
@@ -177,21 +179,39 @@ class Module:
             if name not in KNOWN_CALLS:
                 self.against(number, f"calls {name}")
             return
-        for entered, one in zip(self.entered[name], given.split(", ")):
-            if entered:
-                self.objects.join(entered, self.place(one.split()[-1]))
-        if answer == "ptr":
-            self.against(number, "a function answers a pointer")
-        elif "ptr" in answer:
-            self.places[to] = self.answered[name]
+        entered, answered = self.anew(name) if name.startswith(ANEW) and name not in self.inside else (self.entered[name], self.answered[name])
+        for lent, one in zip(entered, given.split(", ")):
+            if lent:
+                self.objects.join(lent, self.place(one.split()[-1]))
+        if "ptr" in answer:
+            self.places[to] = answered
 
-    # A pair of a pointer and a number stands for its pointer.
+    def anew(self, name):
+        """A function looked at for one call alone, so that what its other callers lend is not taken for the same."""
+        entered, answered = [p and self.objects.new() for p in self.pointers_of[name]], self.objects.new()
+        outer = self.places, self.answer
+        self.inside.append(name)
+        self.look_through(name, entered, answered)
+        self.inside.pop()
+        self.places, self.answer = outer
+        return entered, answered
+
+    def look_through(self, name, entered, answered):
+        self.places = {p: place for p, place in zip(self.pointers_of[name], entered) if p} | self.constants
+        self.answer = answered
+        for number, code in self.bodies[name]:
+            self.look_at(number, code)
+
+    # A pair of a pointer and a number stands for its pointer: a slice with its length, an Option of a reference with its case.
+
+    def begun(self, number, to):
+        pass
 
     def pair(self, number, to, value):
         self.places[to] = self.place(value)
 
     def ret(self, number, to, value):
-        self.objects.join(self.answered[self.function], self.place(value))
+        self.objects.join(self.answer, self.place(value))
 
     def looked_at(self, number, to, value):
         self.place(value)
@@ -208,7 +228,11 @@ class Module:
         (re.compile(r"insertvalue \{ ptr, i64 \} (%\S+), i64 \S+, 1$"), pair),
         (re.compile(r"extractvalue \{ ptr, i64 \} (%\S+), 0$"), pair),
         (re.compile(r"extractvalue \{ ptr, i64 \} (%\S+), 1$"), looked_at),
-        (re.compile(r"ret \{ ptr, i64 \} (%\S+)$"), ret),
+        (re.compile(r"insertvalue \{ i8, ptr \} poison, i8 \S+, 0$"), begun),
+        (re.compile(r"insertvalue \{ i8, ptr \} %\S+, ptr (%\S+), 1$"), pair),
+        (re.compile(r"extractvalue \{ i8, ptr \} (%\S+), 1$"), pair),
+        (re.compile(r"extractvalue \{ i8, ptr \} (%\S+), 0$"), looked_at),
+        (re.compile(r"ret (?:ptr|\{ ptr, i64 \}|\{ i8, ptr \}) (%\S+)$"), ret),
         (re.compile(r"ptrtoaddr ptr (%\S+) to i64$"), looked_at),
         (re.compile(r"icmp eq ptr (%\S+), null$"), looked_at),
     ]

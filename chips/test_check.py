@@ -12,6 +12,8 @@ import check
 LOAD = re.compile(r"^(  (%r\d+) = load ptr, ptr (%r\d+), align 8, !noundef !1)$", re.M)
 ENTRY = re.compile(r'^define internal .*@"core::slots::Slots::copy_in[^"]*"\(ptr noundef %a0.*\n\w+:.*\n', re.M)
 ANSWER = re.compile(r"^(  (%r\d+) = extractvalue \{ ptr, i64 \} %r\d+, 0)$", re.M)
+OPTION = re.compile(r"^(  (%r\d+) = extractvalue \{ i8, ptr \} %r\d+, 1)$", re.M)
+WHOLE = re.compile(r"^(  (%r\d+) = call ptr @.*)$", re.M)
 
 # What is found, and the line: \2 is the loaded pointer, \3 its slot.
 AFTER_LOAD = {
@@ -46,8 +48,9 @@ def edits(text):
     yield "set meets the pointer", changed(text, LOAD, r"\1\n  call void @llvm.memset.p0.i64(ptr \3, i8 1, i64 8, i1 false)")
     # Behind a call: a pointer that a caller lends the place of is read as a number.
     yield "i64 meets the pointer", changed(text, ENTRY, lambda entry: entry.group() + "  %x = load i64, ptr %a0, align 8\n")
-    # Before a call: a pointer is put among the bytes that a function answers the place of.
-    yield "a pointer in an object of bytes", changed(text, ANSWER, r"\1\n  %z = alloca i8, align 1\n  store ptr %z, ptr \2, align 8")
+    # Before a call: a pointer is put among the bytes that a function answers the place of, with a length, with a case or alone.
+    for answer in (ANSWER, OPTION, WHOLE):
+        yield "a pointer in an object of bytes", changed(text, answer, r"\1\n  %z = alloca i8, align 1\n  store ptr %z, ptr \2, align 8")
     yield "a vector, a type, a global", "@g = global i8 0\n" + text
 
 

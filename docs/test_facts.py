@@ -2,7 +2,7 @@
 """What stands in two places is the same in both. Run by .ci/run.
 
 - the crates: crates.txt, the folders of crates/ and the table of docs/ARCHITECTURE.md;
-- the refusal numbers: c/numbers.tsv, crates/refusal (Numbers.antt and number.rt), the text's own, and the table of docs/PROOFS.md;
+- the refusal numbers: c/numbers.tsv, crates/refusal (Numbers.antt and the enum Refusal), the text's own, and the table of docs/PROOFS.md;
 - the public functions, and what the tables of docs/CONTRACTS.md say that they promise: crates/*/src and docs/CONTRACTS.md;
 - the worked change: what the diffs of docs/CHANGE.md add stands in the tree, beside the lines that they show;
 - no paragraph of README.md is longer than a reader's breath.
@@ -16,8 +16,8 @@ LONGEST = 90
 # Refusal numbers that are the text's own: cases of optext's answers, named in optext_c.
 OF_TEXT = {6, 7, 9, 30, 31, 32}
 # A function in the code: its name, its parameters, its type, its contract. And one in the paper.
-HEAD = re.compile(r'^ *pub (?:extern "C" )?fn (\w+)\(([^)]*)\)(?: -> ([^\n]+))?\n((?: +(?:requires|ensures).*\n(?: {8,}.*\n)*)+)', re.M)
-SIGNATURE = re.compile(r"(?:\w+::)*(\w+)\(([^()]*)\)(?: -> (\w+))?")
+HEAD = re.compile(r'^ *pub (?:extern "C" )?fn (\w+)(?:<[^>]*>)?\(([^)]*)\)(?: -> ([^\n]+))?\n((?: +(?:requires|ensures).*\n(?: {8,}.*\n)*)+)', re.M)
+SIGNATURE = re.compile(r"(?:\w+::)*(\w+)\(([^()]*)\)(?: -> ([\w<>(), ]+))?")
 
 
 def read(path):
@@ -57,13 +57,18 @@ def same(here, some, there, others):
                 yield f"{place} has {item} twice"
 
 
+def snake(name):
+    return re.sub(r"(?<!^)(?=[A-Z])", "_", name).lower()
+
+
 def refusals():
     table = [line.split("\t") for line in read("c/numbers.tsv").splitlines() if line.startswith("refusal\t")]
     numbers = [int(number) for _, number, _, _ in table if number != "0"]
-    code = re.findall(r"^pub const (\w+): u8 = (\d+);", read("crates/refusal/src/number.rt"), re.M)
+    refusal = re.search(r"^pub enum Refusal \{\n(.*?)^\}", read("crates/refusal/src/lib.rt"), re.M | re.S)[1]
+    code = re.findall(r"^    (\w+) = (\d+),", refusal, re.M)
     meaning = re.findall(r"^(\w+) = (\d+)$", read("crates/refusal/specs/Numbers.antt"), re.M)
-    yield from same("refusal number.rt", [f"{name.lower()} {number}" for name, number in code], "refusal Numbers", [f"{name} {number}" for name, number in meaning])
-    yield from same("c/numbers.tsv", numbers, "refusal number.rt with the text's own", [int(number) for _, number in code] + sorted(OF_TEXT))
+    yield from same("refusal Refusal", [f"{snake(name)} {number}" for name, number in code], "refusal Numbers", [f"{name} {number}" for name, number in meaning])
+    yield from same("c/numbers.tsv", numbers, "refusal Refusal with the text's own", [int(number) for _, number in code] + sorted(OF_TEXT))
     paper = section(read("docs/PROOFS.md"), "## Refusal numbers")
     told = {int(number) for cell in first_cells(paper) for number in re.findall(r"\d+", re.sub(r"\([^)]*\)", "", cell))}
     yield from same("c/numbers.tsv", numbers, "the refusal numbers of docs/PROOFS.md", sorted(told))
@@ -83,7 +88,8 @@ def functions():
 
 def names(parameters):
     """The parameters' names, without their types; a method's self is s."""
-    return ["s" if name == "self" else name for name in (part.split(":")[0].replace("mut ", "").strip() for part in parameters.split(",")) if name]
+    parts = re.sub(r"<[^<>]*>", "", parameters).split(",")
+    return ["s" if name == "self" else name for name in (part.split(":")[0].replace("mut ", "").strip() for part in parts) if name]
 
 
 def promised(contract):

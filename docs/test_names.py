@@ -37,7 +37,7 @@ def functions(text):
 
 def other_items(text):
     """Types, their cases and fields, parameters, constants, modules and labels of a source file."""
-    found = set(re.findall(r"\b(?:struct|enum|const|mod|impl) (\w+)", text)) | set(re.findall(r"[(,] ?(\w+): ", text))
+    found = set(re.findall(r"\b(?:struct|enum|const|static|mod|impl) (\w+)", text)) | set(re.findall(r"[(,] ?(\w+): ", text))
     return found | set(re.findall(r"^\s+(?:pub )?([A-Za-z]\w*)(?:\(|:|,|$)", text, re.M))
 
 

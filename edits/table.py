@@ -16,16 +16,16 @@ ROOT = pathlib.Path(__file__).resolve().parent.parent
 PAPER = ROOT / "docs" / "CONTRACTS.md"
 BEGIN, END = "<!-- edits/table.py --write -->", "<!-- the table's end -->"
 HEAD = "| Function | Wrong answers |\n|---|---|\n"
-FUNCTION = re.compile(r"^( *)(pub )?(?:pub\(crate\) )?(?:extern \"C\" )?(?:fn|const) (\w+)", re.M)
+FUNCTION = re.compile(r"^( *)(pub )?(?:pub\(crate\) )?(?:extern \"C\" )?(?:fn|const|static) (\w+)", re.M)
 DEFINITION = re.compile(r"^(?: *(?:abbrev|unfoldable) (?:pub )?|(?:pub )?(?:data|record) |pub )([^\s:({]+)", re.M)
 # Functions whose edits change their definition, which they are proved to be: of a field the one line of code stands in other fields
-# too, and an edit's old text must stand once; `write_end` is one call.
+# too, and an edit's old text must stand once; `write_end` is one call, `mode_number` one cast.
 ALIKE = """destination_mode destination_register source_mode source_register register format9_code offset format2_code only_register
     format4_code argument format8_code block_source block_destination"""
-DEFINED = {"endline write_end": "Report end_text"}
+DEFINED = {"endline write_end": "Report end_text", "state mode_number": "State mode_number"}
 DEFINED |= {f"opcodes fields::{field}": f"Fields {field}" for field in ALIKE.split()}
 # Functions with fewer than two edits, and why.
-PRINTS = "put put_decimal put_first put_line put_spaces put_word put_printed put_refused say_unless read_board"
+PRINTS = "put_line put_spaces put_printed put_refused say_unless read_board"
 FEWER = {f"printing {name}": "what the C library reads and writes is not in the logic" for name in PRINTS.split()}
 
 Edit = collections.namedtuple("Edit", "name crate gate place words")

@@ -48,14 +48,14 @@ class Page(unittest.TestCase):
 
     def test_words_of_programs(self):
         words = {number: words for kind, number, _, words in rows() if kind == "refusal"}
-        with open(os.path.join(ROOT, "crates/refusal/src/number.rt"), encoding="utf-8") as names:
-            numbers = {name: int(number) for name, number in re.findall(r"pub const (\w+): u8 = (\d+);", names.read())}
+        with open(os.path.join(ROOT, "crates/refusal/src/lib.rt"), encoding="utf-8") as names:
+            numbers = {name: int(number) for name, number in re.findall(r"(?m)^    (\w+) = (\d+),", names.read())}
         for program, refusals in (
-            ("record/src/table.rt", {"LINES_LENGTH", "LINE_BIT", "READING_OUT_OF_RANGE", "SCANS_FULL"}),
-            ("assemble/src/main.rt", {"UNKNOWN_TEXT", "LABEL_AGAIN", "LABEL_MISSING", "OUT_OF_REACH", "OUT_OF_PLACE", "SOURCE_LINES"}),
+            ("record/src/table.rt", {"LinesLength", "LineBit", "ReadingOutOfRange", "ScansFull"}),
+            ("assemble/src/main.rt", {"UnknownText", "LabelAgain", "LabelMissing", "OutOfReach", "OutOfPlace", "SourceLines"}),
         ):
             with open(os.path.join(ROOT, "crates", program), encoding="utf-8") as code:
-                said = re.findall(r'why == (\w+) \{\s*(?:return put|say)\(\s*\w+,\s*b"(.*?)"', code.read())
+                said = re.findall(r'Refusal::(\w+) =>[\s{]*"(.*?)"', code.read())
             self.assertEqual({name for name, _ in said}, refusals)
             for name, told in said:
                 with self.subTest(program=program, refusal=name):

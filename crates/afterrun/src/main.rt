@@ -3,62 +3,28 @@
 // each. Where the answer could not be written standard error says so.
 #![tactic(auto)]
 
-ghost use Rattle.std.specs.Prelude.{◌<◌};
-
-use job::{JobRead, READ_OF_JOB};
-use machine::{Finished, Powered, Ran};
-use printing::{put, put_printed, put_refused, read_board, read_full, say_unless};
-use refusal::MOST_LINE_WORDS;
-use refusal::number::LINES_LENGTH;
+use job::READ_OF_JOB;
+use machine::Ran;
+use printing::{put_printed, put_refused, read_board, read_full, say_unless};
+use refusal::{MOST_LINE_WORDS, Refusal};
 use state::{Settings, State};
+use std::io;
 use std::io::Print;
 
-fn put_end(out: &impl Print, ran: Ran, board: Settings) -> bool {
+fn put_end(out: &impl Print, ran: Ran, board: Settings) -> io::Result<()> {
     let mut text = [0u8; 64];
     let printed = endline::write_end_on(&mut text, ran, board);
     put_printed(out, &text, printed)
 }
 
-// The byte at a place, or 0.
-fn byte(t: &[u8], i: usize) -> u8 {
-    if i < t.len() {
-        return t[i];
-    }
-    0
-}
-
-// Writes a page of the image.
-fn put_page(out: &impl Print, image: &[u8], page: usize) -> bool
-    requires { page < 256 }
-{
-    let at = page * 256;
-    let end = at + 256;
-    if end <= image.len() {
-        return put(out, &image[at..end]);
-    }
-    false
-}
-
-// Writes a page if it is fitted.
-fn put_fitted(out: &impl Print, image: &[u8], map: &[u8], page: usize) -> bool
-    requires { page < 256 }
-{
-    if byte(map, page) == 0 {
-        return true;
-    }
-    put_page(out, image, page)
-}
-
-// Writes the fitted pages.
-fn put_pages(out: &impl Print, image: &[u8], map: &[u8]) -> bool {
-    let mut page: usize = 0;
-    while page < 256 {
-        if !put_fitted(out, image, map, page) {
-            return false;
+// Writes the pages of the image that are fitted.
+fn put_pages(out: &impl Print, image: &[u8], map: &[u8]) -> io::Result<()> {
+    for (page, fitted) in image.chunks(256).zip(map) {
+        if *fitted != 0 {
+            out.write_all(page)?;
         }
-        page += 1;
     }
-    true
+    Ok(())
 }
 
 // Runs over line words from a state, and tells the end.
@@ -69,19 +35,27 @@ fn run_from(
     map: &[u8],
     board: Settings,
     lines: &[u16],
-) -> bool {
+) -> io::Result<()> {
     match machine::run(s, image, map, board, lines) {
-        Finished::Done(ran) => put_end(out, ran, board)
-            && put(out, map)
-            && put_pages(out, image, map),
-        Finished::Refused(why) => put_refused(out, why),
+        Ok(ran) => {
+            put_end(out, ran, board)?;
+            out.write_all(map)?;
+            put_pages(out, image, map)
+        }
+        Err(why) => put_refused(out, why),
     }
 }
 
-fn run_up(out: &impl Print, image: &mut [u8], map: &[u8], board: Settings, lines: &[u16]) -> bool {
+fn run_up(
+    out: &impl Print,
+    image: &mut [u8],
+    map: &[u8],
+    board: Settings,
+    lines: &[u16],
+) -> io::Result<()> {
     match machine::power_up(image, map, board) {
-        Powered::Up(s) => run_from(out, s, image, map, board, lines),
-        Powered::Refused(why) => put_refused(out, why),
+        Ok(s) => run_from(out, s, image, map, board, lines),
+        Err(why) => put_refused(out, why),
     }
 }
 
@@ -92,22 +66,21 @@ fn run_first(
     board: Settings,
     lines: &[u16],
     count: u16,
-) -> bool {
-    let n = count as usize;
-    if n <= lines.len() {
-        return run_up(out, image, map, board, &lines[..n]);
+) -> io::Result<()> {
+    match lines.get(..usize::from(count)) {
+        Some(lines) => run_up(out, image, map, board, lines),
+        None => put_refused(out, Refusal::LinesLength),
     }
-    put_refused(out, LINES_LENGTH)
 }
 
 // Reads the job, powers up, runs and tells the end.
-fn run_job(out: &impl Print, input: &[u8], board: Settings) -> bool {
+fn run_job(out: &impl Print, input: &[u8], board: Settings) -> io::Result<()> {
     let mut image = [0u8; 65536];
     let mut map = [0u8; 256];
     let mut lines = [0u16; MOST_LINE_WORDS];
     match job::read_job(input, &mut image, &mut map, &mut lines) {
-        JobRead::Refused(why) => put_refused(out, why),
-        JobRead::Lines(count) => run_first(out, &mut image, &map, board, &lines, count),
+        Ok(count) => run_first(out, &mut image, &map, board, &lines, count),
+        Err(why) => put_refused(out, why),
     }
 }
 
@@ -116,5 +89,5 @@ fn main(rt: HostRuntime) {
     let mut input = [0u8; READ_OF_JOB];
     let got = read_full(&mut rt.stdin(), &mut input);
     let written = run_job(&rt.stdout(), &input[..got], board);
-    say_unless(&rt.stderr(), written, b"afterrun");
+    say_unless(&rt.stderr(), written, "afterrun");
 }

@@ -2,16 +2,21 @@
 #![tactic(auto)]
 
 ghost use Rattle.std.specs.Prelude.{◌≡◌};
+ghost use Rattle.refusal.specs.Answer.{why_of};
 ghost use Rattle.answer.specs.Answer as Spec;
 
-use refusal::number::NO_STATE;
+use refusal::Refusal;
 use wordbytes::{high, low};
 
-// 21 for another length, 0 for none.
-pub fn refusal(answer: &[u8]) -> u8
-    ensures { result ≡ Spec.answer_why answer.now }
+// 21 for another length.
+pub fn refusal(answer: &[u8]) -> Result<(), Refusal>
+    ensures { why_of result ≡ Spec.answer_why answer.now }
 {
-    if answer.len() == 6 { 0 } else { NO_STATE }
+    if answer.len() == 6 {
+        Ok(())
+    } else {
+        Err(Refusal::NoState)
+    }
 }
 
 fn three(a: u16, b: u16, c: u16) -> [u8; 6]

@@ -2,7 +2,7 @@
 ghost use Rattle.std.specs.Prelude.{◌≡◌};
 ghost use Rattle.arith.specs.Immediate.{immediate_of, movi_of};
 
-use super::on_words;
+use super::ops;
 use opcodes::Immediate;
 use wordmath::{Done, Flags};
 
@@ -11,9 +11,9 @@ pub fn immediate(op: Immediate, n: u16, d: u16, f: Flags) -> Done
     ensures { result ≡ immediate_of op n d f }
 {
     match op {
-        Immediate::Addi => on_words::add(n, d),
-        Immediate::Subi => on_words::sub(n, d),
-        Immediate::Bici => on_words::bic(n, d, f),
+        Immediate::Addi => ops::add(n, d),
+        Immediate::Subi => ops::sub(n, d),
+        Immediate::Bici => ops::bic(n, d, f),
         Immediate::Movi => movi(n, f),
     }
 }

@@ -5,5 +5,5 @@ pub mod binary;
 pub mod branch;
 pub mod immediate;
 pub mod on_bytes;
-mod on_words;
+mod ops;
 pub mod wide;

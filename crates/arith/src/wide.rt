@@ -7,7 +7,7 @@ use wordmath::{Flags, Pair};
 pub fn mul(a: u16, b: u16) -> Pair
     ensures { result ≡ mul_of a b }
 {
-    let p = a as u32 * b as u32;
+    let p = u32::from(a) * u32::from(b);
     Pair {
         low: (p % 0x1_0000) as u16,
         high: (p / 0x1_0000) as u16,
@@ -36,11 +36,11 @@ pub fn div(low: u16, high: u16, d: u16) -> Pair
             },
         };
     }
-    let whole = high as u32 * 0x1_0000 + low as u32;
-    let q = whole / d as u32;
+    let whole = u32::from(high) * 0x1_0000 + u32::from(low);
+    let q = whole / u32::from(d);
     Pair {
         low: q as u16,
-        high: (whole % d as u32) as u16,
+        high: (whole % u32::from(d)) as u16,
         flags: Flags {
             n: (q >> 15) % 2 == 1,
             z: q == 0,

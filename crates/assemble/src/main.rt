@@ -4,14 +4,13 @@
 // section could not be written.
 #![tactic(auto)]
 
-ghost use Rattle.std.specs.Prelude.{◌≡◌, ◌≤◌, ◌<◌, length};
+ghost use Rattle.std.specs.Prelude.{◌≡◌, ◌≤◌, ◌<◌, length, IfOk};
 
-use assembler::{Assembled, LONGEST_SECTION, Labelled, MOST_LABELS};
-use printing::{line_end, put, put_decimal, put_first, read_full, say_unless};
-use refusal::number::{
-    LABEL_AGAIN, LABEL_MISSING, OUT_OF_PLACE, OUT_OF_REACH, SOURCE_LINES, UNKNOWN_TEXT,
-};
+use assembler::{LONGEST_SECTION, MOST_LABELS, SourceRefusal};
+use printing::{first, put_line, read_full, say_unless};
+use refusal::Refusal;
 use std::env::{Env, FillError};
+use std::io;
 use std::io::Print;
 
 // A line's bytes, and one line more than a source may have.
@@ -19,193 +18,114 @@ const LINE: usize = 32;
 
 const LINES: usize = 1025;
 
-fn say(err: &impl Print, text: &[u8]) {
-    put(err, text);
-}
+// The line of a number, from 0, has over 32 bytes.
+#[derive(Clone, Copy)]
+struct LongLine(usize);
 
-fn say_number(err: &impl Print, n: u64) {
-    put_decimal(err, n);
-}
-
-// Where the text of a line ends that ends at a place: a CR directly before its newline is not of it.
-fn before_cr(t: &[u8], from: usize, end: usize) -> usize
-    requires { (from ≤ end) × (end ≤ length t.now) }
-    ensures { (from ≤ result) × (result ≤ end) }
-{
-    if end < t.len() {
-        if from < end {
-            if t[end - 1] == b'\r' {
-                return end - 1;
-            }
-        }
+// The text of a line: neither its newline is of it nor a CR directly before that.
+fn text_of(whole: &[u8]) -> &[u8] {
+    match whole.strip_suffix(b"\n") {
+        Some(line) => line.strip_suffix(b"\r").unwrap_or(line),
+        None => whole,
     }
-    end
 }
 
 // Puts a line in its place among the padded ones.
-fn put_line(source: &mut [u8], k: usize, line: &[u8])
+fn pad_line(source: &mut [u8], k: usize, line: &[u8])
     requires { (k < 1025) × (length source.old ≡ 32800) × (length line.now ≤ 32) }
 {
     let at = LINE * k;
     source[at..at + line.len()].copy_from_slice(line);
 }
 
-// The number of lines that were padded, and whether the next one is too long.
-#[derive(Clone, Copy)]
-struct Padded {
-    lines: usize,
-    long: bool,
-}
-
-// Pads each line, up to one more than a source may have.
-fn pad(input: &[u8], source: &mut [u8]) -> Padded
+// Pads each line, up to one more than a source may have, and answers how many these are.
+fn pad(input: &[u8], source: &mut [u8]) -> Result<usize, LongLine>
     requires { length source.old ≡ 32800 }
-    ensures { result.lines ≤ 1025 }
+    ensures { IfOk result (λ n. n ≤ 1025) }
 {
-    let mut at = 0;
-    let mut k = 0;
-    while at < input.len() {
-        if LINES <= k {
+    let mut lines = 0;
+    for whole in input.split_inclusive(|b| *b == b'\n') {
+        if LINES <= lines {
             break;
         }
-        let end = line_end(input, at);
-        let last = before_cr(input, at, end);
-        if LINE < last - at {
-            return Padded {
-                lines: k,
-                long: true,
-            };
+        let line = text_of(whole);
+        if LINE < line.len() {
+            return Err(LongLine(lines));
         }
-        put_line(source, k, &input[at..last]);
-        k += 1;
-        if input.len() <= end {
-            break;
-        }
-        at = end + 1;
+        pad_line(source, lines, line);
+        lines += 1;
     }
-    Padded {
-        lines: k,
-        long: false,
-    }
+    Ok(lines)
 }
 
-fn say_why(err: &impl Print, why: u8) {
-    if why == UNKNOWN_TEXT {
-        say(
-            err,
-            b"a line is no text; a label is one to six capitals, no hex number, not SP or PC",
-        );
-    } else if why == LABEL_AGAIN {
-        say(err, b"a line's label is already given");
-    } else if why == LABEL_MISSING {
-        say(err, b"no line gives a label that a line names");
-    } else if why == OUT_OF_REACH {
-        say(
-            err,
-            b"a branch further than -128 to 127 words, or SOB further than 0 to 63 back",
-        );
-    } else if why == OUT_OF_PLACE {
-        say(
-            err,
-            b"an odd origin, or words that overlap an earlier line's or run past FFFF",
-        );
-    } else if why == SOURCE_LINES {
-        say(
-            err,
-            b"the source is not whole lines of 32 bytes, or over 1,024 of them",
-        );
-    } else {
-        say(err, b"the output is too short");
+fn words_of(why: Refusal) -> &'static str {
+    match why {
+        Refusal::UnknownText => {
+            "a line is no text; a label is one to six capitals, no hex number, not SP or PC"
+        }
+        Refusal::LabelAgain => "a line's label is already given",
+        Refusal::LabelMissing => "no line gives a label that a line names",
+        Refusal::OutOfReach =>
+            "a branch further than -128 to 127 words, or SOB further than 0 to 63 back",
+        Refusal::OutOfPlace =>
+            "an odd origin, or words that overlap an earlier line's or run past FFFF",
+        Refusal::SourceLines => "the source is not whole lines of 32 bytes, or over 1,024 of them",
+        _ => "the output is too short",
     }
 }
 
 // Where the padding begins.
-fn text_end(line: &[u8]) -> usize
-    ensures { result ≤ length line.now }
-{
-    let mut i = line.len();
-    while 0 < i {
-        if line[i - 1] != b' ' {
-            return i;
+fn padding(line: &[u8]) -> usize {
+    line.iter()
+        .rposition(|b| *b != b' ')
+        .map_or(0, |last| last + 1)
+}
+
+// The line as it was read, the reason and the number of the refusal.
+fn say_refused_at(err: &impl Print, source: &[u8], why: Refusal, line: u16) -> io::Result<()> {
+    if let Some(padded) = source.chunks_exact(LINE).nth(usize::from(line)) {
+        put_line(err, first(padded, padding(padded))?)?;
+    }
+    let words = words_of(why);
+    let refusal = u8::from(why);
+    println!(err; "{words} (refusal {refusal} at line {line}, from 0)")
+}
+
+fn say_refused(err: &impl Print, source: &[u8], why: SourceRefusal) -> io::Result<()> {
+    match why {
+        SourceRefusal::Whole(why) => {
+            let words = words_of(why);
+            let refusal = u8::from(why);
+            println!(err; "{words} (refusal {refusal})")
         }
-        i -= 1;
-    }
-    0
-}
-
-// A padded line as it was read.
-fn say_line(err: &impl Print, line: &[u8]) {
-    let n = text_end(line);
-    say(err, &line[..n]);
-    say(err, b"\n");
-}
-
-fn say_line_at(err: &impl Print, source: &[u8], line: u16) {
-    let at = LINE * line as usize;
-    if at + LINE <= source.len() {
-        say_line(err, &source[at..at + LINE]);
+        SourceRefusal::At(why, line) => say_refused_at(err, source, why, line),
     }
 }
 
-// The line, the reason and the number of the refusal.
-fn say_refused_at(err: &impl Print, source: &[u8], why: u8, line: u16) {
-    say_line_at(err, source, line);
-    say_why(err, why);
-    say(err, b" (refusal ");
-    say_number(err, why as u64);
-    say(err, b" at line ");
-    say_number(err, line as u64);
-    say(err, b", from 0)\n");
+// Writes the first bytes of an answer.
+fn put_answer(out: &impl Print, bytes: &[u8], n: u16) -> io::Result<()> {
+    out.write_all(first(bytes, usize::from(n))?)
 }
 
-fn say_refused(err: &impl Print, why: u8) {
-    say_why(err, why);
-    say(err, b" (refusal ");
-    say_number(err, why as u64);
-    say(err, b")\n");
-}
-
-fn say_long(err: &impl Print, line: usize) {
-    say(err, b"line ");
-    say_number(err, line as u64);
-    say(err, b", from 0, is longer than 32 bytes\n");
-}
-
-fn answer_section(out: &impl Print, err: &impl Print, source: &[u8]) {
+fn answer_section(out: &impl Print, err: &impl Print, source: &[u8]) -> io::Result<()> {
     let mut section = [0u8; LONGEST_SECTION];
     match assembler::assemble(source, &mut section) {
-        Assembled::Section(n) => {
-            say_unless(err, put_first(out, &section, n as usize), b"assemble")
+        Ok(n) => {
+            say_unless(err, put_answer(out, &section, n), "assemble");
+            Ok(())
         }
-        Assembled::Refused(why) => say_refused(err, why),
-        Assembled::RefusedAt(why, line) => say_refused_at(err, source, why, line),
+        Err(why) => say_refused(err, source, why),
     }
 }
 
-fn answer_labels(out: &impl Print, err: &impl Print, source: &[u8]) {
+fn answer_labels(out: &impl Print, err: &impl Print, source: &[u8]) -> io::Result<()> {
     let mut labels = [0u8; MOST_LABELS];
     match assembler::labels(source, &mut labels) {
-        Labelled::Bytes(n) => say_unless(err, put_first(out, &labels, n as usize), b"assemble"),
-        Labelled::Refused(why) => say_refused(err, why),
-        Labelled::RefusedAt(why, line) => say_refused_at(err, source, why, line),
-    }
-}
-
-fn answer(out: &impl Print, err: &impl Print, source: &[u8], labels: bool) {
-    if labels {
-        answer_labels(out, err, source);
-    } else {
-        answer_section(out, err, source);
-    }
-}
-
-// Answers the first of the padded lines.
-fn answer_first(out: &impl Print, err: &impl Print, source: &[u8], lines: usize, labels: bool)
-    requires { lines ≤ 1025 }
-{
-    let n = LINE * lines;
-    if n <= source.len() {
-        answer(out, err, &source[..n], labels);
+        Ok(n) => {
+            say_unless(err, put_answer(out, &labels, n), "assemble");
+            Ok(())
+        }
+        Err(why) => say_refused(err, source, why),
     }
 }
 
@@ -222,9 +142,9 @@ fn main(rt: HostRuntime) {
     let mut source = [b' '; LINE * LINES];
     let padded = pad(&input[..got], &mut source);
     let (out, err) = (rt.stdout(), rt.stderr());
-    if padded.long {
-        say_long(&err, padded.lines);
-    } else {
-        answer_first(&out, &err, &source, padded.lines, has_word(&rt));
-    }
+    let _ = match padded {
+        Ok(lines) if has_word(&rt) => answer_labels(&out, &err, &source[..LINE * lines]),
+        Ok(lines) => answer_section(&out, &err, &source[..LINE * lines]),
+        Err(LongLine(line)) => println!(err; "line {line}, from 0, is longer than 32 bytes"),
+    };
 }

@@ -1,12 +1,13 @@
 -- What the assembler answers and leaves in the lent output, on any source and any output. A refusal leaves it as lent.
-use Rattle.std.specs.Prelude.{cond, List, [], ◌∷◌, ℕ, ◌%◌, ltb, eqb, length}
+use Rattle.std.specs.Prelude.{Result, Ok, Err, cond, List, [], ◌∷◌, ℕ, ◌%◌, ltb, eqb, length}
 use Rattle.hexdigits.specs.Over.{in_front_of}
 use Rattle.refusal.specs.Numbers.{unknown_text, label_again, label_missing, out_of_reach, out_of_place, source_lines, output_short}
 use Rattle.refusal.specs.Page.{Page, refused, refused_at, answered, Left, left, call, first}
 use Rattle.assembler.specs.Source.{line_count, most_lines, lowest}
 use Rattle.assembler.specs.Section.{words_placed, section_of}
-use Rattle.assembler.specs.declared.Assembled.{Assembled}
-use Rattle.assembler.specs.declared.Assembled.TheVariants.{Section, Refused, RefusedAt}
+use Rattle.refusal.specs.Answer.{number}
+use Rattle.assembler.specs.declared.SourceRefusal.{SourceRefusal}
+use Rattle.assembler.specs.declared.SourceRefusal.TheVariants.{Whole, At}
 use Rattle.assembler.specs.declared.source.Fault.{Fault}
 use Rattle.assembler.specs.declared.source.Fault.TheVariants.{Text, Given, Missing, Place, Far}
 
@@ -22,10 +23,10 @@ fault_number Place = out_of_place
 fault_number Far = out_of_reach
 
 -- an answer in 02's numbers: the section's length, a refusal's number alone, or with its line
-abbrev pub assembled_page : Assembled → Page ℕ
-assembled_page (Section n) = answered n
-assembled_page (Refused why) = refused why
-assembled_page (RefusedAt why line) = refused_at why line
+abbrev pub assembled_page : Result ℕ SourceRefusal → Page ℕ
+assembled_page (Ok n) = answered n
+assembled_page (Err (Whole why)) = refused (number why)
+assembled_page (Err (At why line)) = refused_at (number why) line
 
 -- ---- a call over a source
 

@@ -8,11 +8,11 @@ ghost use Rattle.assembler.specs.Answer.{section_written, checked};
 ghost use Rattle.assembler.specs.Labels as Spec;
 
 use super::{MOST_LINES, MOST_STARTS};
-use crate::Labelled;
+use crate::SourceRefusal;
 use crate::section::put_count;
 use crate::source::{Fault, count, here, line_at, lowest_line, survey};
 use patchline::text::label;
-use refusal::number::{LABEL_AGAIN, UNKNOWN_TEXT};
+use refusal::Refusal;
 
 fn pair_at(out: &mut [u8], at: usize, n: usize) -> usize
     requires { at + 2 ≤ length out.old }
@@ -37,18 +37,16 @@ fn put_labels(source: &[u8], starts: &[u32; MOST_STARTS], out: &mut [u8]) -> usi
 {
     let lines = count(source);
     let mut at = 0;
-    let mut i = 0;
-    while i < lines {
+    for i in 0..lines {
         let name = label(line_at(source, i));
         let n = name.len();
         at = line_label_at(out, at, n, here(source, starts, i));
-        i += 1;
     }
     at
 }
 
 // A source of whole lines: its first fault of those that make labels doubtful, or its labels in front of the output.
-pub(crate) fn label_lines(source: &[u8], out: &mut [u8]) -> Labelled
+pub(crate) fn label_lines(source: &[u8], out: &mut [u8]) -> Result<u16, SourceRefusal>
     requires { (line_count source.now ≤ most_lines) × (Spec.most_labels ≤ length out.old) }
     ensures { left (Spec.labelled_page result) out.new ≡ checked Spec.label_faults source.now (section_written (Spec.labels_of source.now) out.old) out.old }
 {
@@ -58,12 +56,12 @@ pub(crate) fn label_lines(source: &[u8], out: &mut [u8]) -> Labelled
     survey(source, &mut starts, &mut ends);
     let text = lowest_line(Fault::Text, source, &starts, &ends);
     if text < n {
-        return Labelled::RefusedAt(UNKNOWN_TEXT, text as u16);
+        return Err(SourceRefusal::At(Refusal::UnknownText, text as u16));
     }
     let given = lowest_line(Fault::Given, source, &starts, &ends);
     if given < n {
-        return Labelled::RefusedAt(LABEL_AGAIN, given as u16);
+        return Err(SourceRefusal::At(Refusal::LabelAgain, given as u16));
     }
     let length = put_labels(source, &starts, out);
-    Labelled::Bytes(length as u16)
+    Ok(length as u16)
 }

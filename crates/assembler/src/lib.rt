@@ -5,13 +5,12 @@ ghost use Rattle.std.specs.Prelude.{◌≡◌, ◌≤◌, length};
 ghost use Rattle.assembler.specs.Source.{line_count, most_lines};
 ghost use Rattle.assembler.specs.Answer.{faults, assembled_page, source_why, section_written, checked, assembled, asm_of, longest_section};
 ghost use Rattle.refusal.specs.Page.{left};
+ghost use Rattle.refusal.specs.Answer.{why_of};
+ghost use Rattle.assembler.specs.declared.SourceRefusal.TheVariants.{Whole};
 ghost use Rattle.assembler.specs.Labels.{labelled_page, labels_page};
 
 use crate::source::Fault;
-use refusal::number::{
-    LABEL_AGAIN, LABEL_MISSING, OUT_OF_PLACE, OUT_OF_REACH, OUTPUT_SHORT, SOURCE_LINES,
-    UNKNOWN_TEXT,
-};
+use refusal::Refusal;
 
 mod labelling;
 mod section;
@@ -30,28 +29,25 @@ pub const LONGEST_SECTION: usize = 12290;
 // The bytes of the labels of all lines.
 pub const MOST_LABELS: usize = 4096;
 
-// What the assembler answers: the length of the section, or why the source is refused.
-#[derive(Clone, Copy)]
-pub enum Assembled {
-    Section(u16),
+// Why a source is refused.
+#[derive(Clone, Copy, PartialEq, Eq)]
+pub enum SourceRefusal {
     // 10 or 36.
-    Refused(u8),
+    Whole(Refusal),
     // 24 to 28, and the lowest line that has it, from 0.
-    RefusedAt(u8, u16),
+    At(Refusal, u16),
 }
 
-// What is answered of the labels: the number of bytes written, or why the source is refused.
-#[derive(Clone, Copy)]
-pub enum Labelled {
-    Bytes(u16),
-    // 10 or 36.
-    Refused(u8),
-    // 24 or 25, and the lowest line that has it, from 0.
-    RefusedAt(u8, u16),
+impl From<Refusal> for SourceRefusal {
+    ghost from_gives = { λ why r. r ≡ Whole why };
+
+    fn from(why: Refusal) -> SourceRefusal {
+        SourceRefusal::Whole(why)
+    }
 }
 
 // A source of whole lines: its first fault, or its section in front of the output.
-fn assemble_lines(source: &[u8], out: &mut [u8]) -> Assembled
+fn assemble_lines(source: &[u8], out: &mut [u8]) -> Result<u16, SourceRefusal>
     requires { (line_count source.now ≤ most_lines) × (longest_section ≤ length out.old) }
     ensures { left (assembled_page result) out.new ≡ checked faults source.now (section_written (assembled source.now) out.old) out.old }
 {
@@ -61,66 +57,60 @@ fn assemble_lines(source: &[u8], out: &mut [u8]) -> Assembled
     source::survey(source, &mut starts, &mut ends);
     let text = source::lowest_line(Fault::Text, source, &starts, &ends);
     if text < n {
-        return Assembled::RefusedAt(UNKNOWN_TEXT, text as u16);
+        return Err(SourceRefusal::At(Refusal::UnknownText, text as u16));
     }
     let given = source::lowest_line(Fault::Given, source, &starts, &ends);
     if given < n {
-        return Assembled::RefusedAt(LABEL_AGAIN, given as u16);
+        return Err(SourceRefusal::At(Refusal::LabelAgain, given as u16));
     }
     let missing = source::lowest_line(Fault::Missing, source, &starts, &ends);
     if missing < n {
-        return Assembled::RefusedAt(LABEL_MISSING, missing as u16);
+        return Err(SourceRefusal::At(Refusal::LabelMissing, missing as u16));
     }
     let place = source::lowest_line(Fault::Place, source, &starts, &ends);
     if place < n {
-        return Assembled::RefusedAt(OUT_OF_PLACE, place as u16);
+        return Err(SourceRefusal::At(Refusal::OutOfPlace, place as u16));
     }
     let far = source::lowest_line(Fault::Far, source, &starts, &ends);
     if far < n {
-        return Assembled::RefusedAt(OUT_OF_REACH, far as u16);
+        return Err(SourceRefusal::At(Refusal::OutOfReach, far as u16));
     }
     let mut table = [0u32; MOST_WORDS];
     let words = section::place_all(source, &starts, &mut table);
     let length = section::put_section(out, &table, words);
-    Assembled::Section(length as u16)
+    Ok(length as u16)
 }
 
-// 10 for an output under so many bytes, 36 for a source that is not whole lines or has too many; 0 for none.
-fn source_refusal(source: &[u8], out: usize, room: usize) -> u8
-    ensures { result ≡ source_why room source.now out }
+// 10 for an output under so many bytes, 36 for a source that is not whole lines or has too many.
+fn source_refusal(source: &[u8], out: usize, room: usize) -> Result<(), Refusal>
+    ensures { why_of result ≡ source_why room source.now out }
 {
     if out < room {
-        return OUTPUT_SHORT;
+        return Err(Refusal::OutputShort);
     }
     if source.len() % 32 != 0 {
-        return SOURCE_LINES;
+        return Err(Refusal::SourceLines);
     }
     let lines = source::count(source);
     if MOST_LINES < lines {
-        return SOURCE_LINES;
+        return Err(Refusal::SourceLines);
     }
-    0
+    Ok(())
 }
 
 // Assembles a source into the front of the output; a refusal leaves the output as lent.
-pub fn assemble(source: &[u8], out: &mut [u8]) -> Assembled
+pub fn assemble(source: &[u8], out: &mut [u8]) -> Result<u16, SourceRefusal>
     ensures { left (assembled_page result) out.new ≡ asm_of source.now out.old }
 {
-    let why = source_refusal(source, out.len(), LONGEST_SECTION);
-    if why != 0 {
-        return Assembled::Refused(why);
-    }
+    source_refusal(source, out.len(), LONGEST_SECTION)?;
     assemble_lines(source, out)
 }
 
 // Tells each line's label and its value: four bytes a line in front of the output, the label's length and the address that the line
 // begins at. A refusal leaves the output as lent: 10, 36, 24 or 25.
-pub fn labels(source: &[u8], out: &mut [u8]) -> Labelled
+pub fn labels(source: &[u8], out: &mut [u8]) -> Result<u16, SourceRefusal>
     ensures { left (labelled_page result) out.new ≡ labels_page source.now out.old }
 {
-    let why = source_refusal(source, out.len(), MOST_LABELS);
-    if why != 0 {
-        return Labelled::Refused(why);
-    }
+    source_refusal(source, out.len(), MOST_LABELS)?;
     labelling::label_lines(source, out)
 }

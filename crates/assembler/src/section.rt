@@ -41,12 +41,10 @@ fn insert(table: &mut [u32; MOST_WORDS], n: usize, x: u32) -> usize
     ensures { Inserts table.old table.new n x result }
 {
     let mut carry = x;
-    let mut k = 0;
-    while k < n {
+    for k in 0..n {
         let y = table[k];
         table[k] = lower(carry, y);
         carry = higher(carry, y);
-        k += 1;
     }
     table[n] = carry;
     n + 1
@@ -82,12 +80,10 @@ pub(crate) fn place_all(
 {
     let lines = count(source);
     let mut n = 0;
-    let mut i = 0;
-    while i < lines {
+    for i in 0..lines {
         let h = here(source, starts, i);
         let o = words_in(source, starts, h, text_at(source, i));
         n = enter(table, n, o, h);
-        i += 1;
     }
     n
 }
@@ -127,10 +123,8 @@ fn put_entries(out: &mut [u8], from: usize, table: &[u32; MOST_WORDS], n: usize)
     ensures { WroteAt from (section_bytes (take n table.now)) out.old out.new result }
 {
     let mut at = from;
-    let mut i = 0;
-    while i < n {
+    for i in 0..n {
         at = put_entry_at(out, at, table[i]);
-        i += 1;
     }
     at
 }

@@ -10,7 +10,7 @@ use patchline::oneline::{How, Said, first, label_in, meaning, reach, second, wit
 use patchline::text::{gives, label, rest};
 
 // Why a line is refused.
-#[derive(Clone, Copy)]
+#[derive(Clone, Copy, PartialEq, Eq)]
 pub(crate) enum Fault {
     // 24: unknown text.
     Text,
@@ -60,14 +60,7 @@ fn said_at(source: &[u8], i: usize) -> Said
 fn is_origin(how: How) -> bool
     ensures { result ≡ is_origin how }
 {
-    match how {
-        How::Unknown => false,
-        How::Origin => true,
-        How::Plain => false,
-        How::Branch => false,
-        How::Sob => false,
-        How::Relative => false,
-    }
+    how == How::Origin
 }
 
 // The place after the words of a line that begins at o.
@@ -98,14 +91,12 @@ pub(crate) fn survey(source: &[u8], starts: &mut [u32; MOST_STARTS], ends: &mut 
 {
     let n = count(source);
     let mut o: u32 = 0;
-    let mut i = 0;
-    while i < n {
+    for i in 0..n {
         let s = said_at(source, i);
         let next = next_from(o, s);
         starts[i] = o;
         ends[i] = end_from(o, s);
         o = next;
-        i += 1;
     }
     starts[n] = o;
 }
@@ -123,14 +114,12 @@ fn giver(source: &[u8], u: &[u8]) -> usize
     ensures { (result ≡ giver_of source.now u.now) × (result ≤ line_count source.now) }
 {
     let n = count(source);
-    let mut i = 0;
-    while i < n {
+    for i in 0..n {
         if gives_at(source, u, i) {
             return i;
         }
-        i += 1;
     }
-    i
+    n
 }
 
 // A label's value.
@@ -153,27 +142,13 @@ pub(crate) fn here(source: &[u8], starts: &[u32; MOST_STARTS], i: usize) -> u16
 fn is_unknown(how: How) -> bool
     ensures { result ≡ is_unknown how }
 {
-    match how {
-        How::Unknown => true,
-        How::Origin => false,
-        How::Plain => false,
-        How::Branch => false,
-        How::Sob => false,
-        How::Relative => false,
-    }
+    how == How::Unknown
 }
 
 fn has_labels(how: How) -> bool
     ensures { result ≡ has_labels how }
 {
-    match how {
-        How::Unknown => false,
-        How::Origin => false,
-        How::Plain => false,
-        How::Branch => true,
-        How::Sob => true,
-        How::Relative => true,
-    }
+    matches!(how, How::Branch | How::Sob | How::Relative)
 }
 
 // 24: does no reading take the line?
@@ -256,14 +231,12 @@ fn overlapped(
     requires { Starts source.now starts.now × LineEnds source.now ends.now × (i < line_count source.now) }
     ensures { result ≡ first_from (overlaps source.now i) i 0 }
 {
-    let mut k = 0;
-    while k < i {
+    for k in 0..i {
         if overlap(source, starts, ends, i, k) {
             return k;
         }
-        k += 1;
     }
-    k
+    i
 }
 
 fn misplace(source: &[u8], starts: &[u32; MOST_STARTS], ends: &[u32; MOST_LINES], i: usize) -> bool
@@ -331,14 +304,12 @@ pub(crate) fn lowest_line(
     ensures { (result ≡ lowest f source.now) × (result ≤ line_count source.now) }
 {
     let n = count(source);
-    let mut i = 0;
-    while i < n {
+    for i in 0..n {
         if fail(f, source, starts, ends, i) {
             return i;
         }
-        i += 1;
     }
-    i
+    n
 }
 
 // The words with a label's value in them, if there is a label.

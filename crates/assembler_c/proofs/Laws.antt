@@ -1,17 +1,28 @@
 -- From the code's facts to what the exported calls leave.
 use Prim.Native.Nat.{ℕ}
 use mathlib.Core.List.{List}
-use mathlib.Core.Path.{◌≡◌, refl}
+use mathlib.Core.Path.{◌≡◌, refl, ap, ◌∙◌}
+use Rattle.std.proofs.Common.{Result, Err}
+use Rattle.refusal.specs.declared.Refusal.{Refusal}
+use Rattle.refusal.specs.Answer.{number}
+use Rattle.assembler.specs.declared.SourceRefusal.{SourceRefusal}
+use Rattle.assembler.specs.declared.SourceRefusal.TheVariants.{Whole, At}
 use Rattle.refusal.specs.Page.{Left, left, call, Told, told}
 use Rattle.answer.specs.Answer.{three_words, place_words, answer_why, answering}
 use Rattle.answer.proofs.Laws.{bad, given}
-use Rattle.assembler.specs.declared.Assembled.{Assembled}
-use Rattle.assembler.specs.declared.Assembled.TheVariants.{Section, Refused, RefusedAt}
-use Rattle.assembler.specs.declared.Labelled.{Labelled}
-use Rattle.assembler.specs.declared.Labelled.TheVariants as Labelled
 use Rattle.assembler.specs.Answer.{assembled_page, asm_of}
-use Rattle.assembler.specs.Labels.{labelled_page, labels_page}
+use Rattle.assembler.specs.Labels.{labels_page}
 use Rattle.assembler_c.specs.Call.{size_words, assemble_call, labels_call}
+
+-- ---- what is told of a refusal
+
+pub tell-whole : (r : Result ℕ SourceRefusal) (w : SourceRefusal) (why : Refusal) → r ≡ Err w → w ≡ Whole why → (n : ℕ) → n ≡ number why → (b out : List ℕ)
+    → told n (out, b) ≡ answering size_words b (left (assembled_page r) out)
+tell-whole r w why p q n e b out = rw (e, p, q) refl
+
+pub tell-at : (r : Result ℕ SourceRefusal) (w : SourceRefusal) (why : Refusal) (line : ℕ) → r ≡ Err w → w ≡ At why line → (n : ℕ) → n ≡ number why → (b b' : List ℕ)
+    → b' ≡ three_words 0 0 line → (out : List ℕ) → told n (out, b') ≡ answering size_words b (left (assembled_page r) out)
+tell-at r w why line p q n e b b' d out = rw (e, p, q, d) refl
 
 -- ---- either call
 
@@ -29,18 +40,9 @@ module _ (s out b : List ℕ) (n : ℕ) (h : n ≡ answer_why b) where
   unfolding assemble_call
   assemble-bad some = looked-bad out b n h (asm_of s out) some
 
-  module _ (none : n ≡ 0) (out' : List ℕ) (r : Assembled) (e : left (assembled_page r) out' ≡ asm_of s out) where
-    pub done : (k : ℕ) (b' : List ℕ) → r ≡ Section k → b' ≡ three_words k 0 0 → told 0 (out', b') ≡ assemble_call s out b
-    unfolding assemble_call
-    done k b' q p = looked out b n h (asm_of s out) none _ (rw (← e, q, p) refl)
-
-    pub stopped : (why : ℕ) → r ≡ Refused why → told why (out', b) ≡ assemble_call s out b
-    unfolding assemble_call
-    stopped why q = looked out b n h (asm_of s out) none _ (rw (← e, q) refl)
-
-    pub stopped-at : (why line : ℕ) (b' : List ℕ) → r ≡ RefusedAt why line → b' ≡ three_words 0 0 line → told why (out', b') ≡ assemble_call s out b
-    unfolding assemble_call
-    stopped-at why line b' q p = looked out b n h (asm_of s out) none _ (rw (← e, q, p) refl)
+  pub assemble-told : n ≡ 0 → (l : Left ℕ (List ℕ)) (x : Told (List ℕ × List ℕ)) → l ≡ asm_of s out → x ≡ answering size_words b l → x ≡ assemble_call s out b
+  unfolding assemble_call
+  assemble-told none l x e q = looked out b n h (asm_of s out) none x (q ∙ ap (λ (z : Left ℕ (List ℕ)). answering size_words b z) e)
 
 -- ---- the labels
 
@@ -49,15 +51,6 @@ module _ (s out b : List ℕ) (n : ℕ) (h : n ≡ answer_why b) where
   unfolding labels_call
   labels-bad some = looked-bad out b n h (labels_page s out) some
 
-  module _ (none : n ≡ 0) (out' : List ℕ) (r : Labelled) (e : left (labelled_page r) out' ≡ labels_page s out) where
-    pub labels-done : (k : ℕ) (b' : List ℕ) → r ≡ Labelled.Bytes k → b' ≡ three_words k 0 0 → told 0 (out', b') ≡ labels_call s out b
-    unfolding labels_call
-    labels-done k b' q p = looked out b n h (labels_page s out) none _ (rw (← e, q, p) refl)
-
-    pub labels-stopped : (why : ℕ) → r ≡ Labelled.Refused why → told why (out', b) ≡ labels_call s out b
-    unfolding labels_call
-    labels-stopped why q = looked out b n h (labels_page s out) none _ (rw (← e, q) refl)
-
-    pub labels-stopped-at : (why line : ℕ) (b' : List ℕ) → r ≡ Labelled.RefusedAt why line → b' ≡ three_words 0 0 line → told why (out', b') ≡ labels_call s out b
-    unfolding labels_call
-    labels-stopped-at why line b' q p = looked out b n h (labels_page s out) none _ (rw (← e, q, p) refl)
+  pub labels-told : n ≡ 0 → (l : Left ℕ (List ℕ)) (x : Told (List ℕ × List ℕ)) → l ≡ labels_page s out → x ≡ answering size_words b l → x ≡ labels_call s out b
+  unfolding labels_call
+  labels-told none l x e q = looked out b n h (labels_page s out) none x (q ∙ ap (λ (z : Left ℕ (List ℕ)). answering size_words b z) e)

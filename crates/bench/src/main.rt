@@ -1,17 +1,17 @@
 // Reads a job on standard input, powers up, runs, and prints one line. Where it could not be written standard error says so.
 #![tactic(auto)]
 
-use benchline::Printed;
 use job::READ_OF_JOB;
-use printing::{put_line, put_refused, read_full, say_unless};
-use refusal::MOST_LINE_WORDS;
+use printing::{first, put_line, put_refused, read_full, say_unless};
+use refusal::{MOST_LINE_WORDS, Refusal};
+use std::io;
 use std::io::Print;
 
 // Prints a line that was written into a text, or a refusal's.
-fn put_answer(out: &impl Print, text: &[u8], printed: Printed) -> bool {
+fn put_answer(out: &impl Print, text: &[u8], printed: Result<usize, Refusal>) -> io::Result<()> {
     match printed {
-        Printed::Line(n) => put_line(out, text, n),
-        Printed::Refused(why) => put_refused(out, why),
+        Ok(n) => put_line(out, first(text, n)?),
+        Err(why) => put_refused(out, why),
     }
 }
 
@@ -24,5 +24,5 @@ fn main(rt: HostRuntime) {
     let mut text = [0u8; 64];
     let printed = runjob::run_job(&mut text, &input[..got], &mut image, &mut map, &mut lines);
     let written = put_answer(&rt.stdout(), &text, printed);
-    say_unless(&rt.stderr(), written, b"bench");
+    say_unless(&rt.stderr(), written, "bench");
 }

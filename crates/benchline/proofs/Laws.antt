@@ -10,8 +10,7 @@ use borrow.Author.Tests.{lt-ltb, le-ltb}
 use lib.Dec.{ltb}
 use lib.ListN.{length, length-append}
 use Rattle.hexdigits.specs.Digits.{hex4}
-use Rattle.benchline.specs.declared.WordOrNone.{WordOrNone}
-use Rattle.benchline.specs.declared.WordOrNone.TheVariants.{At, Nowhere}
+use Rattle.std.proofs.Common.{Option, Some, None}
 use Rattle.benchline.proofs.Laws.Lengths.{field-length, fields-length}
 use Rattle.benchline.specs.Line.{mode_digit, place_text, first_text, line_text, name, decimal, refused_text}
 
@@ -20,16 +19,16 @@ pub mode-length : (mode : ℕ) → length (mode_digit mode) ≡ 2
 unfolding mode_digit
 mode-length mode = refl
 
-pub place-length : (place : WordOrNone) → length (place_text place) ≡ 4
+pub place-length : (place : Option ℕ) → length (place_text place) ≡ 4
 unfolding place_text hex4
-place-length (At x) = refl
-place-length Nowhere = refl
+place-length (Some x) = refl
+place-length None = refl
 
-pub first-length : (place address : WordOrNone) → length (first_text place address) ≡ 9
+pub first-length : (place address : Option ℕ) → length (first_text place address) ≡ 9
 unfolding first_text
 first-length place address = simp length-append (omega (arith, place-length place, place-length address))
 
-pub line-length : (regs : List ℕ) (ps mode blanks : ℕ) (place address : WordOrNone) → length (line_text regs ps mode blanks place address) ≡ 61
+pub line-length : (regs : List ℕ) (ps mode blanks : ℕ) (place address : Option ℕ) → length (line_text regs ps mode blanks place address) ≡ 61
 unfolding line_text
 line-length regs ps mode blanks place address =
     simp length-append

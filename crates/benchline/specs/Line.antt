@@ -1,13 +1,12 @@
 -- The line that bench prints: R0-R5, SP, PC, PS, mode digit, blanks, the first one's place and address, or ---- ----. Or REFUSED and a number in decimal.
 -- Written into a lent text: its length is answered, or 8 where it does not fit.
-use Rattle.std.specs.Prelude.{cond, List, [], ◌∷◌, ◌++◌, ℕ, zero, suc, ◌+◌, ◌/◌, ◌%◌, leb, ltb, length, get_or}
+use Rattle.std.specs.Prelude.{Option, Some, None, Result, cond, List, [], ◌∷◌, ◌++◌, ℕ, zero, suc, ◌+◌, ◌/◌, ◌%◌, leb, ltb, length, get_or}
 use Rattle.hexdigits.specs.Digits.{hex_of, hex4}
 use Rattle.hexdigits.specs.Over.{in_front_of}
 use Rattle.refusal.specs.Numbers.{text_short}
-use Rattle.refusal.specs.Page.{Page, refused, answered, Left, left, call}
-use Rattle.benchline.specs.declared.WordOrNone.{WordOrNone}
-use Rattle.benchline.specs.declared.WordOrNone.TheVariants.{At, Nowhere}
-use Rattle.benchline.specs.declared.Printed.{Printed}
+use Rattle.refusal.specs.Page.{Page, answered, Left, left, call}
+use Rattle.refusal.specs.declared.Refusal.{Refusal}
+use Rattle.refusal.specs.Answer.{page_of}
 
 abbrev pub space : List ℕ
 space = 32 ∷ []
@@ -29,16 +28,16 @@ unfoldable pub mode_digit : ℕ → List ℕ
 mode_digit mode = hex_of (mode % 16) ∷ space
 
 -- a place or an address, or ----
-unfoldable pub place_text : WordOrNone → List ℕ
-place_text (At x) = hex4 x
-place_text Nowhere = dashes
+unfoldable pub place_text : Option ℕ → List ℕ
+place_text (Some x) = hex4 x
+place_text None = dashes
 
 -- the first blank: its place and the address that it told
-unfoldable pub first_text : WordOrNone → WordOrNone → List ℕ
+unfoldable pub first_text : Option ℕ → Option ℕ → List ℕ
 first_text place address = (place_text place ++ space) ++ place_text address
 
 -- PS has bits 15 and 14 clear
-unfoldable pub line_text : List ℕ → ℕ → ℕ → ℕ → WordOrNone → WordOrNone → List ℕ
+unfoldable pub line_text : List ℕ → ℕ → ℕ → ℕ → Option ℕ → Option ℕ → List ℕ
 line_text regs ps mode blanks place address =
     (((fields regs 8 ++ field (ps % 16384)) ++ mode_digit mode) ++ field blanks) ++ first_text place address
 
@@ -58,9 +57,8 @@ refused_text n = name ++ decimal n
 
 -- ---- a line written into a lent text
 
-abbrev pub printed_page : Printed → Page ℕ
-printed_page (Printed.Line n) = answered n
-printed_page (Printed.Refused why) = refused why
+abbrev pub printed_page : Result ℕ Refusal → Page ℕ
+printed_page r = page_of (λ n. n) r
 
 -- 8: the text is too short for the line
 abbrev pub print_why : ℕ → ℕ → ℕ

@@ -17,12 +17,12 @@ use lib.Seq.{get_or-set_same, get_or-set_other, set_out}
 use borrow.Author.Tests.{ltb-true}
 use Rattle.board.specs.Work.{Work, give, read_at, write_at, Size, word, byte, fitted, writable, even, image_word, with_word, with_byte, get, put, ◌>>=◌}
 use Rattle.board.specs.Work as Work
-use Rattle.board.specs.Exec.{Store, Now, good, gone, log_count, log_room, note, with_note, allowed, exec, Board, Got, Did, widened}
-pub use Rattle.board.specs.Exec.{word_as, byte_as, stored_as}
+use Rattle.board.specs.Exec.{Store, beside, Now, good, gone, log_count, log_room, note, with_note, allowed, exec, Board, Got, Saw, Did, answer_as}
 use Rattle.board.proofs.Laws.Exec.{store_of}
-use Rattle.board.specs.declared.Word.{Word}
-use Rattle.board.specs.declared.Byte.{Byte}
-use Rattle.board.specs.declared.Byte.TheVariants as Byte
+use Rattle.board.specs.declared.Blank.{Blank}
+use Rattle.std.specs.Prelude.{Result, Ok, Err}
+use Rattle.std.specs.Result.{IsErrAnd}
+use Rattle.std.proofs.lemmas.Result.{err_from_is_err_and}
 
 abbrev and_then : {A B : Type 0} → Now A → (A → Store → Now B) → Now B
 and_then (good x st) f = f x st
@@ -152,19 +152,48 @@ exec-board map (read_at z a k) st b = allowed-board (fitted map a) a st _ b (λ 
 exec-board map (write_at z a v w) st b =
     allowed-board (writable map a) a st _ b (λ _. allowed-board (log_room st.log) a st _ b (λ e. exec-board map w (with_note z a v st) (board-noted z a v st e b)))
 
+-- ---- functions: what they promise follows from what their callees do
+
+-- the store that an answer leaves
+answered-store : {A : Type 0} (r : Result A Blank) (st : Store) → store_of (answer_as r st) ≡ st
+answered-store (Ok x) st = refl
+answered-store (Err b) st = refl
+
 -- what a function that writes promises follows from what it got
-pub did : {A : Type 0} {map : List ℕ} {w : Work A} {st st' : Store} {r : Now A} → store_of r ≡ st' → Board map st → Got map w st r → Did map w st r st'
-did {map = map} {w = w} {st = st} e b g = record { got = g; board = subst (λ (t : Store). Board map t) (ap store_of (sym g.came) ∙ e) (exec-board map w st b) }
+pub did : {A : Type 0} {map : List ℕ} {w : Work A} {st st' : Store} {r : Result A Blank} → Board map st → Got map w st (answer_as r st') → Did map w st r st'
+did {map = map} {w = w} {st = st} {st' = st'} {r = r} b g =
+    record { got = g; board = subst (λ (t : Store). Board map t) (ap store_of (sym g.came) ∙ answered-store r st') (exec-board map w st b) }
 
--- what an answer means, for the laws above; `meant` is how an answer of its type is meant: `word_as`, `stored_as`, ..
-pub means : {R A : Type 0} (meant : R → Store → Now A) {r x : R} {st : Store} → r ≡ x → meant r st ≡ meant x st
-means meant {st = st} e = ap (λ z. meant z st) e
+-- a value is given, and nothing is done
+pub did-give : {A : Type 0} {map : List ℕ} {x : A} {st : Store} → Board map st → Did map (give x) st (Ok x) st
+did-give b = did b (got-give refl)
 
--- the same of an answer that a function makes of its callee's
-pub passes : {Q R A : Type 0} (meant : R → Store → Now A) (made : Q → R) {r : R} {q x : Q} {st : Store} → r ≡ made q → q ≡ x → meant r st ≡ meant (made x) st
-passes meant made e h = means meant (e ∙ ap made h)
+pub saw-give : {A : Type 0} {map m : List ℕ} {x : A} → Saw map (give x) m (Ok x)
+saw-give = record { got = got-give refl }
 
--- a byte that was read, as a word
-pub got-widened : {map : List ℕ} {w : Work ℕ} {st : Store} (b : Byte) {r : Word} → r ≡ widened b → Got map w st (byte_as b st) → Got map w st (word_as r st)
-got-widened (Byte.Value v) e g = got-as g (means word_as e)
-got-widened (Byte.Blank a) e g = got-as g (means word_as e)
+-- work that was answered, and the work that follows it
+pub did-then : {A B : Type 0} {map : List ℕ} {w : Work A} (f : A → Work B) {st st₁ st' : Store} {q : Result A Blank} {x : A} {r : Result B Blank}
+    → Did map w st q st₁ → q ≡ Ok x → Did map (f x) st₁ r st' → Did map (w >>= f) st r st'
+did-then f {st₁ = st₁} d e u = record { got = got-then f d.got (ap (λ z. answer_as z st₁) e) u.got; board = u.board }
+
+-- the error of an answer that is passed on
+pub passed : {A : Type 0} {r : Result A Blank} {b : Blank} → IsErrAnd r (λ y. y ≡ b) → r ≡ Err b
+passed {r = r} h = let p = err_from_is_err_and r h in p.1 ∙ ap Err p.2
+
+-- work that was not answered ends there
+pub did-fail : {A B : Type 0} {map : List ℕ} {w : Work A} (f : A → Work B) {st st₁ : Store} {q : Result A Blank} {b : Blank} {r : Result B Blank}
+    → Did map w st q st₁ → q ≡ Err b → IsErrAnd r (λ y. y ≡ b) → Did map (w >>= f) st r st₁
+did-fail f {st₁ = st₁} d e h = record { got = got-gone f d.got (ap (λ z. answer_as z st₁) e) (ap (λ z. answer_as z st₁) (passed h)); board = d.board }
+
+-- the same of functions that only read
+pub saw-then : {A B : Type 0} {map m : List ℕ} {w : Work A} (f : A → Work B) {q : Result A Blank} {x : A} {r : Result B Blank}
+    → Saw map w m q → q ≡ Ok x → Saw map (f x) m r → Saw map (w >>= f) m r
+saw-then {m = m} f d e u = record { got = λ {l}. got-then f (d.got {l = l}) (ap (λ z. answer_as z (beside m l)) e) (u.got {l = l}) }
+
+pub saw-fail : {A B : Type 0} {map m : List ℕ} {w : Work A} (f : A → Work B) {q : Result A Blank} {b : Blank} {r : Result B Blank}
+    → Saw map w m q → q ≡ Err b → IsErrAnd r (λ y. y ≡ b) → Saw map (w >>= f) m r
+saw-fail {m = m} f d e h = record { got = λ {l}. got-gone f (d.got {l = l}) (ap (λ z. answer_as z (beside m l)) e) (ap (λ z. answer_as z (beside m l)) (passed h)) }
+
+-- who only reads leaves the store
+pub did-saw : {A : Type 0} {map m l : List ℕ} {w : Work A} {r : Result A Blank} → Board map (beside m l) → Saw map w m r → Did map w (beside m l) r (beside m l)
+did-saw {l = l} b s = did b (s.got {l = l})

@@ -1,10 +1,7 @@
 -- The same work on the lent image with the log of old words beside it: what the code does.
-use Rattle.std.specs.Prelude.{ℕ, ◌+◌, ◌*◌, ◌<◌, ◌≤◌, zero, suc, Bool, true, false, List, ◌≡◌, get_or, set, length, ltb}
+use Rattle.std.specs.Prelude.{ℕ, ◌+◌, ◌*◌, ◌<◌, ◌≤◌, zero, suc, Bool, true, false, List, ◌≡◌, get_or, set, length, ltb, Result, Ok, Err}
 use Rattle.board.specs.Work.{Work, give, read_at, write_at, Size, fitted, writable, image_word, get, put, with_word}
-use Rattle.board.specs.declared.Word.{Word}
-use Rattle.board.specs.declared.Word.TheVariants.{Value, Blank}
-use Rattle.board.specs.declared.Byte.{Byte}
-use Rattle.board.specs.declared.Stored.{Stored}
+use Rattle.board.specs.declared.Blank.{Blank}
 
 pub record Store : Type 0 where
   pub image : List ℕ
@@ -56,31 +53,23 @@ pub record Board (map : List ℕ) (st : Store) : Type 0 where
 pub record Got {A : Type 0} (map : List ℕ) (w : Work A) (st : Store) (r : Now A) : Type 0 where
   pub came : r ≡ exec map w st
 
--- what a function that only reads promises: the same at every log
-pub record Saw {A : Type 0} (map : List ℕ) (w : Work A) (m : List ℕ) (r : Store → Now A) : Type 0 where
-  pub got : {l : List ℕ} → Got map w (beside m l) (r (beside m l))
+-- an answer: a value, or the address of the access that was not answered
+abbrev pub answer_as : {A : Type 0} → Result A Blank → Store → Now A
+answer_as (Ok x) st = good x st
+answer_as (Err b) st = gone b.at st
+
+-- what a function that only reads promises of its answer: the same at every log
+pub record Saw {A : Type 0} (map : List ℕ) (w : Work A) (m : List ℕ) (r : Result A Blank) : Type 0 where
+  pub got : {l : List ℕ} → Got map w (beside m l) (answer_as r (beside m l))
 
 -- what a function that writes promises: of its answer and the store that it leaves
-pub record Did {A : Type 0} (map : List ℕ) (w : Work A) (st : Store) (r : Now A) (st' : Store) : Type 0 where
-  pub got : Got map w st r
+pub record Did {A : Type 0} (map : List ℕ) (w : Work A) (st : Store) (r : Result A Blank) (st' : Store) : Type 0 where
+  pub got : Got map w st (answer_as r st')
   pub board : Board map st'
 
-abbrev pub word_as : Word → Store → Now ℕ
-word_as (Value v) st = good v st
-word_as (Blank a) st = gone a st
-
-abbrev pub byte_as : Byte → Store → Now ℕ
-byte_as (Byte.Value v) st = good v st
-byte_as (Byte.Blank a) st = gone a st
-
-abbrev pub stored_as : Stored → Store → Now (Unit {0})
-stored_as Stored.Done st = good tt st
-stored_as (Stored.Blank a) st = gone a st
-
--- a byte that was read, as a word
-abbrev pub widened : Byte → Word
-widened (Byte.Value v) = Value v
-widened (Byte.Blank a) = Blank a
+-- the same by the image and the log before, and after
+abbrev pub Works : {A : Type 0} → List ℕ → Work A → List ℕ → List ℕ → Result A Blank → List ℕ → List ℕ → Type 0
+Works map w i l r i' l' = Did map w (beside i l) r (beside i' l')
 
 -- ---- taking the log back, the newest entry first
 

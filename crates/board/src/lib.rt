@@ -1,33 +1,19 @@
-// The board: the lent image, the page map, and the log of what a step wrote over.
+// The board: the lent image, the page map, and the log of what a step wrote over. The three are lent apart: as fields of one struct each
+// access loads them again, and a step took 4 to 12 in a hundred instructions more, or up to 9 where each call out of line had a struct of its own.
 #![tactic(auto)]
 
 ghost use Rattle.std.specs.Prelude.{◌&&◌, ◌≡◌, ◌+◌, ◌*◌, ◌≤◌, ◌<◌, ◌%◌, ◌/◌, length, get_or, set};
 ghost use Rattle.board.specs.Work as Work;
 ghost use Rattle.board.specs.Work.{image_word, with_word};
 ghost use Rattle.board.specs.Exec as Exec;
-ghost use Rattle.board.specs.Exec.{beside, log_count, Lent, Board, Saw, Did, word_as, byte_as, stored_as, undone};
+ghost use Rattle.board.specs.Exec.{beside, log_count, Lent, Board, Saw, Works, undone};
 
 use wordbytes::{high, low};
 
-// What a read answers: the value, or the address where nothing is fitted.
-#[derive(Clone, Copy)]
-pub enum Word {
-    Value(u16),
-    Blank(u16),
-}
-
-// What a read of a byte answers.
-#[derive(Clone, Copy)]
-pub enum Byte {
-    Value(u8),
-    Blank(u16),
-}
-
-// What a write answers.
-#[derive(Clone, Copy)]
-pub enum Stored {
-    Done,
-    Blank(u16),
+// The address of an access that was not answered: nothing is fitted there, or it may not be written.
+#[derive(Clone, Copy, Debug, PartialEq, Eq)]
+pub struct Blank {
+    pub at: u16,
 }
 
 fn wide(b: u8) -> u16
@@ -73,46 +59,38 @@ fn put_word(image: &mut [u8], a: u16, v: u16)
     image[at + 1] = high(v);
 }
 
-pub fn load(image: &[u8], map: &[u8], a: u16) -> Word
+// A word and a byte each have their own access, whose lines differ; `read` and `write` are over both.
+pub fn load(image: &[u8], map: &[u8], a: u16) -> Result<u16, Blank>
     requires { Lent map.now image.now }
-    ensures { Saw map.now (Work.load a) image.now (word_as result) }
+    ensures { Saw map.now (Work.load a) image.now result }
 {
     if fitted(map, a) {
-        Word::Value(word_at(image, a))
+        Ok(word_at(image, a))
     } else {
-        Word::Blank(a)
+        Err(Blank { at: a })
     }
 }
 
-pub fn load_byte(image: &[u8], map: &[u8], a: u16) -> Byte
+pub fn load_byte(image: &[u8], map: &[u8], a: u16) -> Result<u8, Blank>
     requires { Lent map.now image.now }
-    ensures { Saw map.now (Work.load_byte a) image.now (byte_as result) }
+    ensures { Saw map.now (Work.load_byte a) image.now result }
 {
     if fitted(map, a) {
         let at = a as usize;
-        Byte::Value(image[at])
+        Ok(image[at])
     } else {
-        Byte::Blank(a)
-    }
-}
-
-// A byte that was read, as a word.
-pub fn widened(b: Byte) -> Word
-    ensures { result ≡ Exec.widened b }
-{
-    match b {
-        Byte::Value(v) => Word::Value(v as u16),
-        Byte::Blank(at) => Word::Blank(at),
+        Err(Blank { at: a })
     }
 }
 
 // The byte or the word at an address.
-pub fn read(image: &[u8], map: &[u8], bytes: bool, a: u16) -> Word
+pub fn read(image: &[u8], map: &[u8], bytes: bool, a: u16) -> Result<u16, Blank>
     requires { Lent map.now image.now }
-    ensures { Saw map.now (Work.read (Work.size_of bytes) a) image.now (word_as result) }
+    ensures { Saw map.now (Work.read (Work.size_of bytes) a) image.now result }
 {
     if bytes {
-        return widened(load_byte(image, map, a));
+        let b = load_byte(image, map, a)?;
+        return Ok(b as u16);
     }
     load(image, map, a)
 }
@@ -137,30 +115,36 @@ fn may_write(map: &[u8], log: &[u16; 32], a: u16) -> bool
     writable(map, a) && log[0] < 15
 }
 
-pub fn store(image: &mut [u8], map: &[u8], log: &mut [u16; 32], a: u16, v: u16) -> Stored
+pub fn store(image: &mut [u8], map: &[u8], log: &mut [u16; 32], a: u16, v: u16) -> Result<(), Blank>
     requires { Board map.now (beside image.old log.old) }
-    ensures { Did map.now (Work.store a v) (beside image.old log.old) (stored_as result (beside image.new log.new)) (beside image.new log.new) }
+    ensures { Works map.now (Work.store a v) image.old log.old result image.new log.new }
 {
     if may_write(map, log, a) {
         note(image, log, a);
         put_word(image, a, v);
-        Stored::Done
+        Ok(())
     } else {
-        Stored::Blank(a)
+        Err(Blank { at: a })
     }
 }
 
-pub fn store_byte(image: &mut [u8], map: &[u8], log: &mut [u16; 32], a: u16, v: u16) -> Stored
+pub fn store_byte(
+    image: &mut [u8],
+    map: &[u8],
+    log: &mut [u16; 32],
+    a: u16,
+    v: u16,
+) -> Result<(), Blank>
     requires { Board map.now (beside image.old log.old) }
-    ensures { Did map.now (Work.store_byte a v) (beside image.old log.old) (stored_as result (beside image.new log.new)) (beside image.new log.new) }
+    ensures { Works map.now (Work.store_byte a v) image.old log.old result image.new log.new }
 {
     if may_write(map, log, a) {
         note(image, log, a);
         let at = a as usize;
         image[at] = low(v);
-        Stored::Done
+        Ok(())
     } else {
-        Stored::Blank(a)
+        Err(Blank { at: a })
     }
 }
 
@@ -171,9 +155,9 @@ pub fn write(
     bytes: bool,
     a: u16,
     v: u16,
-) -> Stored
+) -> Result<(), Blank>
     requires { Board map.now (beside image.old log.old) }
-    ensures { Did map.now (Work.write (Work.size_of bytes) a v) (beside image.old log.old) (stored_as result (beside image.new log.new)) (beside image.new log.new) }
+    ensures { Works map.now (Work.write (Work.size_of bytes) a v) image.old log.old result image.new log.new }
 {
     if bytes {
         return store_byte(image, map, log, a, v);

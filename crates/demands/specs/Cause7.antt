@@ -8,9 +8,8 @@ use Rattle.step.specs.Step.{kind_of, cause_number}
 use Rattle.step.specs.Told.{work_answered}
 use Rattle.step.specs.Locks.{Fetches}
 use Rattle.refusal.specs.Page.{answered, left, told}
-use Rattle.machine.specs.declared.Stepped.{Stepped}
+use Rattle.machine.specs.Entry.{Stepped, stepped_page, step_page}
 use Rattle.machine.specs.Numbers.{state_page, address, TurnPage}
-use Rattle.machine.specs.Entry.{stepped_page, step_page}
 use Rattle.machine.specs.Trail.{trail_of, cause_at}
 use Rattle.machine_c.specs.Layout.{state_bytes, state_from, settings_from}
 use Rattle.machine_c.specs.Calls.{step_call}

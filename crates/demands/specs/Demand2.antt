@@ -1,5 +1,5 @@
 -- DEMAND 2. THE MANUAL, STEP BY STEP. Whatever calls answer and leave, as their contracts promise, where they are not refused.
-use Rattle.std.specs.Prelude.{ℕ, ◌*◌, ◌≤◌, ◌<◌, false, List, ◌≡◌, length, get_or, take}
+use Rattle.std.specs.Prelude.{ℕ, ◌*◌, ◌≤◌, ◌<◌, false, List, ◌≡◌, length, get_or, take, Result, Ok}
 use Rattle.hexdigits.specs.Over.{in_front_of}
 use Rattle.wordbytes.specs.Words.{word_at}
 use Rattle.answer.specs.Answer.{three_words}
@@ -9,22 +9,18 @@ use Rattle.state.specs.State.{heard}
 use Rattle.step.specs.declared.Cause.TheVariants as Cause
 use Rattle.step.specs.Step.{After, after, step_of, power_up_of, cause_number, cause_address}
 use Rattle.refusal.specs.Page.{answered, left, told}
-use Rattle.machine.specs.declared.Powered.{Powered}
-use Rattle.machine.specs.declared.Stepped.{Stepped}
-use Rattle.machine.specs.declared.Finished.{Finished}
+use Rattle.machine.specs.Entry.{Powered, Stepped, Finished, powered_page, powered, power_up_page, stepped_page, turned, step_page, finished_page, run_page}
 use Rattle.machine.specs.Numbers.{StatePage, state_page, nowhere, told_of, TurnPage, first_page, RanPage}
-use Rattle.machine.specs.Entry.{powered_page, powered, power_up_page, stepped_page, turned, step_page, finished_page, run_page}
 use Rattle.machine.specs.Trail.{trail_of, last_after, blanks_in, first_blank_in, run_shown}
 use Rattle.machine_c.specs.Layout.{state_bytes, tally_bytes, state_from, settings_from}
 use Rattle.machine_c.specs.Calls.{power_up_call, step_call, run_call}
 use Rattle.optext.specs.declared.Written.{Written}
-use Rattle.optext.specs.declared.Written.TheVariants.{Line}
-use Rattle.optext.specs.declared.ReadBack.{ReadBack}
-use Rattle.optext.specs.declared.ReadBack.TheVariants.{Words}
+use Rattle.optext.specs.declared.WriteRefusal.{WriteRefusal}
+use Rattle.optext.specs.declared.ReadRefusal.{ReadRefusal}
 use Rattle.optext.specs.Answer.{Writes, read_page}
 use Rattle.optext.specs.Words.{Reads}
 use Rattle.optext_c.specs.Calls.{odd_length, write_call, ReadCall}
-use Rattle.demands.specs.Terms.{AllWords, AllBytes, before_at}
+use Rattle.demands.specs.Terms.{AllWords, AllBytes, before_at, written_line}
 
 -- ---- "Each step does what the WD16 Programmer's Reference Manual says, odd corners included, with the board's rules of document 01."
 -- `step_of` (step Step) is one step: its kind, its work op code by op code, the bus error; `power_up_of` is the power-up. Here: a call is what the
@@ -73,9 +69,9 @@ Wd16RunIs = (b t m map w lines b' t' m' : List ℕ) → told 0 (b', t', m') ≡ 
 
 -- what a call of the writer left, given to a call of the reader with room for three words: the words that were taken, in front, and no other
 abbrev pub TextAgain : Type 0
-TextAgain = (words text : List ℕ) (n m : ℕ) (text' room room' : List ℕ) (r : ReadBack) → AllWords words
-    → Writes words text (Line n m) text' → 3 ≤ length room → Reads (read_page r) (take n text') room room'
-    → (r ≡ Words m) × (room' ≡ in_front_of (take m words) room)
+TextAgain = (words text : List ℕ) (n m : ℕ) (text' room room' : List ℕ) (r : Result ℕ ReadRefusal) → AllWords words
+    → Writes words text (Ok (written_line n m)) text' → 3 ≤ length room → Reads (read_page r) (take n text') room room'
+    → (r ≡ Ok m) × (room' ≡ in_front_of (take m words) room)
 
 -- for C: b are the words' bytes, a the writer's answer; c and d are lent to the reader for the words and for its answer
 abbrev pub Wd16TextAgain : Type 0
@@ -87,8 +83,8 @@ Wd16TextAgain = (b t a t' a' c d : List ℕ) (number : ℕ) (c' d' : List ℕ) �
 
 -- what a call of the writer with room for a line makes of the words that were read is the text that was read
 abbrev pub TextMade : Type 0
-TextMade = (t room room' : List ℕ) (n : ℕ) (text text' : List ℕ) (r : Written)
-    → Reads (read_page (Words n)) t room room' → 32 ≤ length text → Writes (take n room') text r text' → (r ≡ Line (length t) n) × (text' ≡ in_front_of t text)
+TextMade = (t room room' : List ℕ) (n : ℕ) (text text' : List ℕ) (r : Result Written WriteRefusal)
+    → Reads (read_page (Ok n)) t room room' → 32 ≤ length text → Writes (take n room') text r text' → (r ≡ Ok (written_line (length t) n)) × (text' ≡ in_front_of t text)
 
 abbrev pub Wd16TextMade : Type 0
 Wd16TextMade = (t c d c' d' u a : List ℕ) (number : ℕ) (u' a' : List ℕ) → ReadCall t c d (told 0 (c', d'))
@@ -99,8 +95,8 @@ Wd16TextMade = (t c d c' d' u a : List ℕ) (number : ℕ) (u' a' : List ℕ) �
 
 -- other words with the same ones in front that were taken: the same answer, and the same text
 abbrev pub TextIgnores : Type 0
-TextIgnores = (words others text : List ℕ) (n m : ℕ) (text' text'' : List ℕ) (r : Written)
-    → Writes words text (Line n m) text' → take m others ≡ take m words → Writes others text r text'' → (r ≡ Line n m) × (text'' ≡ text')
+TextIgnores = (words others text : List ℕ) (n m : ℕ) (text' text'' : List ℕ) (r : Result Written WriteRefusal)
+    → Writes words text (Ok (written_line n m)) text' → take m others ≡ take m words → Writes others text r text'' → (r ≡ Ok (written_line n m)) × (text'' ≡ text')
 
 abbrev pub Wd16TextIgnores : Type 0
 Wd16TextIgnores = (b v t a t' a' : List ℕ) (number : ℕ) (t'' a'' : List ℕ) → told 0 (t', a') ≡ write_call b t a → odd_length v ≡ false → take (word_at a' 2 * 2) v ≡ take (word_at a' 2 * 2) b

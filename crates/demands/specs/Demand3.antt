@@ -1,38 +1,31 @@
 -- DEMAND 3. A BLANK IS NOT A ZERO. Whatever calls answer and leave, as their contracts promise.
-use Rattle.std.specs.Prelude.{ℕ, true, false, List, ◌≡◌, length}
+use Rattle.std.specs.Prelude.{ℕ, true, false, List, ◌≡◌, length, Result}
 use Rattle.board.specs.Work.{Agree, Blind}
 use Rattle.state.specs.declared.State.{State}
 use Rattle.state.specs.declared.Settings.{Settings}
 use Rattle.state.specs.State.{heard}
 use Rattle.step.specs.Told.{work_answered}
 use Rattle.refusal.specs.Page.{answered, left, told}
-use Rattle.machine.specs.declared.Powered.{Powered}
-use Rattle.machine.specs.declared.Stepped.{Stepped}
-use Rattle.machine.specs.declared.Finished.{Finished}
-use Rattle.machine.specs.declared.Stopped.{Stopped}
+use Rattle.machine.specs.Entry.{Powered, Stepped, Finished, powered_page, power_up_page, stepped_page, step_page, finished_page, run_page}
+use Rattle.machine.specs.Until.{Stopped, stopped_page, run_until_page}
 use Rattle.machine.specs.declared.Until.{Until}
 use Rattle.machine.specs.Numbers.{TurnPage, RanPage}
-use Rattle.machine.specs.Entry.{powered_page, power_up_page, stepped_page, step_page, finished_page, run_page}
 use Rattle.machine.specs.Same.{run_same_page}
-use Rattle.machine.specs.Until.{stopped_page, run_until_page}
 use Rattle.machine_c.specs.Layout.{state_from, settings_from}
 use Rattle.machine_c.specs.Calls.{power_up_call, step_call, run_call}
 use Rattle.machine_c.specs.Runs.{run_same_call, run_until_call}
-use Rattle.job.specs.declared.JobRead.{JobRead}
 use Rattle.job.specs.Job.{job_page, why_read, job_of}
 use Rattle.job_c.specs.Calls.{read_call}
-use Rattle.benchline.specs.declared.Printed.{Printed}
 use Rattle.benchline.specs.Line.{printed_page}
 use Rattle.runjob.specs.Bench.{job_run, bench_why, bench_of}
 use Rattle.listjob.specs.Stretch.{list_why, list_of}
+use Rattle.refusal.specs.declared.Refusal.{Refusal}
 use Rattle.listing.specs.declared.Listed.{Listed}
 use Rattle.listing.specs.Calls.{listed_page, line_call}
 use Rattle.listing_c.specs.Calls.{list_call}
 use Rattle.stepline.specs.declared.Shown.{Shown}
 use Rattle.stepline.specs.Shown.{shown_page, show_of}
-use Rattle.trace.specs.declared.Checked.{Checked}
-use Rattle.trace.specs.declared.Made.{Made}
-use Rattle.trace.specs.Trace.{checked_page, why_check, check_of, made_page, why_make, make_of}
+use Rattle.trace.specs.Trace.{Checked, Made, checked_page, why_check, check_of, made_page, why_make, make_of}
 use Rattle.demands.specs.Terms.{Blanked, Fitted, Counted, StepBytes, TallyBytes}
 
 -- ---- "What stands at unfitted addresses can influence nothing: two images that agree on fitted bytes give equal answers, and unfitted bytes come
@@ -60,9 +53,9 @@ module _ (settings : Settings) (map m n : List ℕ) (l : length m ≡ length n) 
 
   -- a step and its line: the text too is the same
   abbrev pub WriteStepBlind : Type 0
-  WriteStepBlind = (line number : ℕ) (s : State) (text : List ℕ) (r q : Shown) (m' n' text₁ text₂ : List ℕ)
+  WriteStepBlind = (line number : ℕ) (s : State) (text : List ℕ) (r q : Result Shown Refusal) (m' n' text₁ text₂ : List ℕ)
       → left (shown_page r) (m', text₁) ≡ show_of settings m map line number s text → left (shown_page q) (n', text₂) ≡ show_of settings n map line number s text
-      → Blind {A = Shown × List ℕ} map m n (r, text₁) (q, text₂) m' n'
+      → Blind {A = Result Shown Refusal × List ℕ} map m n (r, text₁) (q, text₂) m' n'
 
 -- the same for C: the number, the state's bytes, the tally's; w are the settings' bytes
 module _ (w map m n : List ℕ) (l : length m ≡ length n) (g : Agree map m n) where
@@ -88,7 +81,7 @@ module _ (w map m n : List ℕ) (l : length m ≡ length n) (g : Agree map m n) 
 
 -- a line of a listing: the same answer, and the same text
 abbrev pub ListLineBlind : Type 0
-ListLineBlind = (map m n : List ℕ) → length m ≡ length n → Agree map m n → (a last : ℕ) (text : List ℕ) (r q : Listed) (text₁ text₂ : List ℕ)
+ListLineBlind = (map m n : List ℕ) → length m ≡ length n → Agree map m n → (a last : ℕ) (text : List ℕ) (r q : Result Listed Refusal) (text₁ text₂ : List ℕ)
     → left (listed_page r) text₁ ≡ line_call m map a last text → left (listed_page q) text₂ ≡ line_call n map a last text → (r ≡ q) × (text₁ ≡ text₂)
 
 -- for C: the same number, text and answer
@@ -101,7 +94,7 @@ Wd16ListLineBlind = (map m n : List ℕ) → length m ≡ length n → Agree map
 
 module _ (input i₁ i₂ m₁ m₂ l₁ l₂ : List ℕ) (hi : length i₁ ≡ length i₂) (hm : length m₁ ≡ length m₂) (hl : length l₁ ≡ length l₂) where
   abbrev pub JobBlind : Type 0
-  JobBlind = (r q : JobRead) (i₁' m₁' l₁' i₂' m₂' l₂' : List ℕ)
+  JobBlind = (r q : Result ℕ Refusal) (i₁' m₁' l₁' i₂' m₂' l₂' : List ℕ)
       → left (job_page r) (i₁', m₁', l₁') ≡ job_of input i₁ m₁ l₁ → left (job_page q) (i₂', m₂', l₂') ≡ job_of input i₂ m₂ l₂
       → (r ≡ q) × (why_read (length i₁) (length m₁) (length l₁) input ≡ 0 → (i₁' ≡ i₂') × (m₁' ≡ m₂') × (l₁' ≡ l₂'))
 
@@ -118,12 +111,12 @@ module _ (input i₁ i₂ m₁ m₂ l₁ l₂ : List ℕ) (hi : length i₁ ≡ 
 
   -- of bench's line and of a listing the text too is the same
   abbrev pub BenchBlind : Type 0
-  BenchBlind = (text : List ℕ) (r q : Printed) (text₁ text₂ i₁' m₁' l₁' i₂' m₂' l₂' : List ℕ)
+  BenchBlind = (text : List ℕ) (r q : Result ℕ Refusal) (text₁ text₂ i₁' m₁' l₁' i₂' m₂' l₂' : List ℕ)
       → left (printed_page r) (text₁, i₁', m₁', l₁') ≡ bench_of input text i₁ m₁ l₁ → left (printed_page q) (text₂, i₂', m₂', l₂') ≡ bench_of input text i₂ m₂ l₂
       → (r ≡ q) × (text₁ ≡ text₂) × (bench_why input text i₁ m₁ l₁ ≡ 0 → (i₁' ≡ i₂') × (m₁' ≡ m₂') × (l₁' ≡ l₂'))
 
   abbrev pub ListBlind : Type 0
-  ListBlind = (text : List ℕ) (r q : Printed) (text₁ text₂ i₁' m₁' l₁' i₂' m₂' l₂' : List ℕ)
+  ListBlind = (text : List ℕ) (r q : Result ℕ Refusal) (text₁ text₂ i₁' m₁' l₁' i₂' m₂' l₂' : List ℕ)
       → left (printed_page r) (text₁, i₁', m₁', l₁') ≡ list_of input text i₁ m₁ l₁ → left (printed_page q) (text₂, i₂', m₂', l₂') ≡ list_of input text i₂ m₂ l₂
       → (r ≡ q) × (text₁ ≡ text₂) × (list_why input (length text) (length i₁) (length m₁) (length l₁) ≡ 0 → (i₁' ≡ i₂') × (m₁' ≡ m₂') × (l₁' ≡ l₂'))
 

@@ -1,24 +1,23 @@
 -- DEMAND 3 FOR THE OTHER CALLS THAT MAKE STEPS: a run over one line word, a run until something happens, a job's run, and a step with its line. Whatever
 -- calls answer and leave, as their contracts promise.
-use Rattle.std.specs.Prelude.{ℕ, true, false, List, ◌≡◌, take, replicate}
+use Rattle.std.specs.Prelude.{ℕ, true, false, List, ◌≡◌, take, replicate, Result}
 use Rattle.wordbytes.specs.Words.{word_at}
 use Rattle.state.specs.declared.State.{State}
 use Rattle.state.specs.declared.Settings.{Settings}
 use Rattle.state.specs.State.{heard}
 use Rattle.step.specs.Told.{work_answered}
 use Rattle.refusal.specs.Page.{answered, left, told}
-use Rattle.machine.specs.declared.Finished.{Finished}
-use Rattle.machine.specs.declared.Stopped.{Stopped}
+use Rattle.machine.specs.Entry.{Finished, finished_page}
+use Rattle.machine.specs.Until.{Stopped, StopPage, stopped_page, run_until_page}
 use Rattle.machine.specs.declared.Until.{Until}
 use Rattle.machine.specs.Numbers.{RanPage}
-use Rattle.machine.specs.Entry.{finished_page}
 use Rattle.machine.specs.Same.{run_same_page}
-use Rattle.machine.specs.Until.{StopPage, stopped_page, run_until_page}
 use Rattle.machine_c.specs.Layout.{state_from, settings_from}
 use Rattle.machine_c.specs.Runs.{run_same_call, run_until_call}
 use Rattle.job.specs.Job.{map_of, line_words}
 use Rattle.endline.specs.Report.{bench_board}
 use Rattle.runjob.specs.Bench.{up_of, job_run}
+use Rattle.refusal.specs.declared.Refusal.{Refusal}
 use Rattle.stepline.specs.declared.Shown.{Shown}
 use Rattle.stepline.specs.Shown.{ShownPage, shown_page, show_of}
 use Rattle.demands.specs.Terms.{Blanked, Fitted, Counted, TallyBytes}
@@ -27,13 +26,13 @@ use Rattle.demands.specs.Terms.{Blanked, Fitted, Counted, TallyBytes}
 
 -- A STEP WITH ITS LINE, of which an access is not answered
 abbrev pub WriteStepBlanked : Type 0
-WriteStepBlanked = (settings : Settings) (m map : List ℕ) (line number : ℕ) (s : State) (text : List ℕ) (r : Shown) (m' text' : List ℕ) (p : ShownPage)
+WriteStepBlanked = (settings : Settings) (m map : List ℕ) (line number : ℕ) (s : State) (text : List ℕ) (r : Result Shown Refusal) (m' text' : List ℕ) (p : ShownPage)
     → left (shown_page r) (m', text') ≡ show_of settings m map line number s text → shown_page r ≡ answered p
     → work_answered map (heard settings line) s m ≡ false → Blanked map (heard settings line) s m p.turn m'
 
 -- and one of which every access is
 abbrev pub WriteStepFitted : Type 0
-WriteStepFitted = (settings : Settings) (m map : List ℕ) (line number : ℕ) (s : State) (text : List ℕ) (r : Shown) (m' text' : List ℕ) (p : ShownPage)
+WriteStepFitted = (settings : Settings) (m map : List ℕ) (line number : ℕ) (s : State) (text : List ℕ) (r : Result Shown Refusal) (m' text' : List ℕ) (p : ShownPage)
     → left (shown_page r) (m', text') ≡ show_of settings m map line number s text → shown_page r ≡ answered p
     → work_answered map (heard settings line) s m ≡ true → Fitted map (heard settings line) s m p.turn m'
 

@@ -10,7 +10,7 @@ use Rattle.refusal.specs.Page.{answered, left, nothing, first, told}
 use Rattle.machine.specs.Numbers.{state_page, nowhere, first_page}
 use Rattle.machine.specs.Trail.{trail_of, last_after, blanks_in, first_blank_in}
 use Rattle.machine_c.specs.Layout.{state_bytes, tally_bytes, state_from, settings_from}
-use Rattle.plugs.specs.declared.Channel.{Channel}
+use Rattle.plugs.specs.Plugs.{Channel}
 use Rattle.recorder.specs.declared.Recorder.{Recorder}
 use Rattle.recorder.specs.declared.Scanned.{Scanned}
 use Rattle.recorder.specs.Scan.{TallyPage, answer_page, scan_why, scan_map, scan_image, scan_of, report_why, report_page}

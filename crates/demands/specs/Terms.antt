@@ -13,6 +13,7 @@ use Rattle.step.specs.Told.{accesses, StopsAt, trap_answered, is_blank_step}
 use Rattle.step.specs.Locks.{LocksUp}
 use Rattle.refusal.specs.Numbers.{output_short}
 use Rattle.refusal.specs.Page.{first}
+use Rattle.optext.specs.declared.Written.{Written}
 use Rattle.optext.specs.Column.{IsText, Column, Why}
 use Rattle.machine.specs.Numbers.{state_page, address, nowhere, TurnPage, FirstPage}
 use Rattle.machine.specs.Trail.{trail_of, last_after, blanks_in, cause_at, Least}
@@ -108,3 +109,7 @@ pub record TallyBytes (t : List ℕ) (P : ℕ → FirstPage → Type 0) : Type 0
   pub place : FirstPage
   pub bytes : t ≡ tally_bytes blanks place
   pub holds : P blanks place
+
+-- what the writer of a text answers: the line's length, and the words taken
+abbrev pub written_line : ℕ → ℕ → Written
+written_line n m = record { length = n; taken = m }

@@ -1,26 +1,23 @@
 -- The line of a run's end: R0-R5, SP, PC, PS, mode digit, blanks, the first one's place and address, or ---- ----.
-use Rattle.std.specs.Prelude.{ℕ, true, false, List}
+use Rattle.std.specs.Prelude.{ℕ, true, false, List, Option, Some, None}
 use Rattle.state.specs.declared.Settings.{Settings}
 use Rattle.state.specs.State.{mode_number, ps_of, heard}
 use Rattle.machine.specs.declared.Ran.{Ran}
 use Rattle.machine.specs.Numbers.{registers_of}
-use Rattle.machine.specs.declared.First.{First}
-use Rattle.machine.specs.declared.First.TheVariants as First
-use Rattle.benchline.specs.declared.WordOrNone.{WordOrNone}
-use Rattle.benchline.specs.declared.WordOrNone.TheVariants as WordOrNone
+use Rattle.machine.specs.declared.FirstBlank.{FirstBlank}
 use Rattle.benchline.specs.Line.{line_text}
 
 -- bench runs with the third microm fitted and the jumpers 11 and 11
 abbrev pub bench_board : Settings
 bench_board = record { blocks = true; powerup = 3; halt = 3; register = 0 }
 
-abbrev pub blank_place : First → WordOrNone
-blank_place (First.At place address) = WordOrNone.At place
-blank_place First.Never = WordOrNone.Nowhere
+abbrev pub blank_place : Option FirstBlank → Option ℕ
+blank_place (Some b) = Some b.place
+blank_place None = None
 
-abbrev pub blank_address : First → WordOrNone
-blank_address (First.At place address) = WordOrNone.At address
-blank_address First.Never = WordOrNone.Nowhere
+abbrev pub blank_address : Option FirstBlank → Option ℕ
+blank_address (Some b) = Some b.address
+blank_address None = None
 
 -- PS as it is formed on a quiet line
 unfoldable pub end_on : Settings → Ran → List ℕ

@@ -7,8 +7,8 @@ ghost use Rattle.refusal.specs.Page.{left};
 ghost use Rattle.machine.specs.Numbers.{registers_of};
 ghost use Rattle.endline.specs.Report as Spec;
 
-use benchline::{Printed, WordOrNone};
-use machine::{First, Ran};
+use machine::{FirstBlank, Ran};
+use refusal::Refusal;
 use state::{Settings, State};
 
 // How bench's board is set up: the third microm is fitted, the jumpers are 11 and 11.
@@ -33,27 +33,27 @@ fn registers(s: State) -> [u16; 8]
 }
 
 // The first blank's place.
-fn place(first: First) -> WordOrNone
+fn place(first: Option<FirstBlank>) -> Option<u16>
     ensures { result ≡ Spec.blank_place first }
 {
     match first {
-        First::At(at, _) => WordOrNone::At(at),
-        First::Never => WordOrNone::Nowhere,
+        Some(blank) => Some(blank.place),
+        None => None,
     }
 }
 
 // The address that it told.
-fn address(first: First) -> WordOrNone
+fn address(first: Option<FirstBlank>) -> Option<u16>
     ensures { result ≡ Spec.blank_address first }
 {
     match first {
-        First::At(_, told) => WordOrNone::At(told),
-        First::Never => WordOrNone::Nowhere,
+        Some(blank) => Some(blank.address),
+        None => None,
     }
 }
 
 // Writes the line of a run's end on a board; or 8 where the text is under 61.
-pub fn write_end_on(text: &mut [u8], ran: Ran, board: Settings) -> Printed
+pub fn write_end_on(text: &mut [u8], ran: Ran, board: Settings) -> Result<usize, Refusal>
     ensures { left (printed_page result) text.new ≡ print_of (Spec.end_on board ran) text.old }
 {
     let s = ran.state;
@@ -69,7 +69,7 @@ pub fn write_end_on(text: &mut [u8], ran: Ran, board: Settings) -> Printed
 }
 
 // The same on bench's board.
-pub fn write_end(text: &mut [u8], ran: Ran) -> Printed
+pub fn write_end(text: &mut [u8], ran: Ran) -> Result<usize, Refusal>
     ensures { left (printed_page result) text.new ≡ print_of (Spec.end_text ran) text.old }
 {
     write_end_on(text, ran, bench_board())

@@ -2,12 +2,11 @@
 #![tactic(auto)]
 
 ghost use Rattle.std.specs.Prelude.{cond, ◌≡◌};
-ghost use Rattle.board.specs.Exec.{beside, Lent, Board, Saw};
-ghost use Rattle.state.specs.Answer.{Works, went_as};
+ghost use Rattle.board.specs.Exec.{beside, Lent, Board, Saw, Works};
 ghost use Rattle.format1.specs.Format1 as Spec;
 
-use board::{Stored, Word};
-use state::{Mode, Outside, State, Took, Went, untaken};
+use board::Blank;
+use state::{Mode, Outside, State, Taken};
 use wordmath::address::plus;
 
 fn halted(out: Outside) -> Mode
@@ -43,14 +42,17 @@ fn ien(s: State) -> State
 }
 
 // BPT: ↓ PS, ↓ PC, PC ← (loc 2C); I2 is kept.
-fn bpt(s: State, image: &mut [u8], map: &[u8], log: &mut [u16; 32], out: Outside) -> Went
+fn bpt(
+    s: State,
+    image: &mut [u8],
+    map: &[u8],
+    log: &mut [u16; 32],
+    out: Outside,
+) -> Result<State, Blank>
     requires { Board map.now (beside image.old log.old) }
     ensures { Works map.now (Spec.bpt out s) image.old log.old result image.new log.new }
 {
-    let pushed = s.push_both(image, map, log, s.ps(out, false));
-    let Went::Done(t) = pushed else {
-        return pushed;
-    };
+    let t = s.push_both(image, map, log, s.ps(out, false))?;
     t.from_loc(image, map, 0x2c)
 }
 
@@ -63,151 +65,110 @@ fn push_three(
     i: u16,
     j: u16,
     k: u16,
-) -> Went
+) -> Result<State, Blank>
     requires { Board map.now (beside image.old log.old) }
     ensures { Works map.now (Spec.push_three s i j k) image.old log.old result image.new log.new }
 {
-    let first = s.push_reg(image, map, log, i);
-    let Went::Done(t) = first else {
-        return first;
-    };
-    let second = t.push_reg(image, map, log, j);
-    let Went::Done(u) = second else {
-        return second;
-    };
+    let t = s.push_reg(image, map, log, i)?;
+    let u = t.push_reg(image, map, log, j)?;
     u.push_reg(image, map, log, k)
 }
 
 // SAVE: R5 to R0 are pushed.
-pub fn save(s: State, image: &mut [u8], map: &[u8], log: &mut [u16; 32]) -> Went
+pub fn save(s: State, image: &mut [u8], map: &[u8], log: &mut [u16; 32]) -> Result<State, Blank>
     requires { Board map.now (beside image.old log.old) }
     ensures { Works map.now (Spec.save s) image.old log.old result image.new log.new }
 {
-    let went = push_three(s, image, map, log, 5, 4, 3);
-    let Went::Done(t) = went else {
-        return went;
-    };
+    let t = push_three(s, image, map, log, 5, 4, 3)?;
     push_three(t, image, map, log, 2, 1, 0)
 }
 
 // SAVS: SAVE; ↓ SP, @SP ← (loc 2E); (loc 2E) ← (loc 2E) or MASK; IEN.
-fn savs(s: State, image: &mut [u8], map: &[u8], log: &mut [u16; 32]) -> Went
+fn savs(s: State, image: &mut [u8], map: &[u8], log: &mut [u16; 32]) -> Result<State, Blank>
     requires { Board map.now (beside image.old log.old) }
     ensures { Works map.now (Spec.savs s) image.old log.old result image.new log.new }
 {
-    let took = s.fetch(image, map);
-    let Took::Word(fetched, mask) = took else {
-        return untaken(took);
-    };
-    let went = save(fetched, image, map, log);
-    let Went::Done(saved) = went else {
-        return went;
-    };
-    let Word::Value(old) = board::load(image, map, 0x2e) else {
-        return Went::Blank(0x2e);
-    };
-    let went = saved.push(image, map, log, old);
-    let Went::Done(pushed) = went else {
-        return went;
-    };
-    let Stored::Done = board::store(image, map, log, 0x2e, old | mask) else {
-        return Went::Blank(0x2e);
-    };
-    Went::Done(ien(pushed))
+    let Taken {
+        state: fetched,
+        word: mask,
+    } = s.fetch(image, map)?;
+    let saved = save(fetched, image, map, log)?;
+    let old = board::load(image, map, 0x2e)?;
+    let pushed = saved.push(image, map, log, old)?;
+    board::store(image, map, log, 0x2e, old | mask)?;
+    Ok(ien(pushed))
 }
 
 // Three registers are popped.
-fn pop_three(s: State, image: &[u8], map: &[u8], i: u16, j: u16, k: u16) -> Went
+fn pop_three(s: State, image: &[u8], map: &[u8], i: u16, j: u16, k: u16) -> Result<State, Blank>
     requires { Lent map.now image.now }
-    ensures { Saw map.now (Spec.pop_three s i j k) image.now (went_as result) }
+    ensures { Saw map.now (Spec.pop_three s i j k) image.now result }
 {
-    let first = s.pop_reg(image, map, i);
-    let Went::Done(t) = first else {
-        return first;
-    };
-    let second = t.pop_reg(image, map, j);
-    let Went::Done(u) = second else {
-        return second;
-    };
+    let t = s.pop_reg(image, map, i)?;
+    let u = t.pop_reg(image, map, j)?;
     u.pop_reg(image, map, k)
 }
 
 // REST: R0 to R5 are popped.
-fn rest(s: State, image: &[u8], map: &[u8]) -> Went
+fn rest(s: State, image: &[u8], map: &[u8]) -> Result<State, Blank>
     requires { Lent map.now image.now }
-    ensures { Saw map.now (Spec.rest s) image.now (went_as result) }
+    ensures { Saw map.now (Spec.rest s) image.now result }
 {
-    let went = pop_three(s, image, map, 0, 1, 2);
-    let Went::Done(t) = went else {
-        return went;
-    };
+    let t = pop_three(s, image, map, 0, 1, 2)?;
     pop_three(t, image, map, 3, 4, 5)
 }
 
 // RTT: PC ← @SP, SP ↑; PS ← @SP, SP ↑.
-fn rtt(s: State, image: &[u8], map: &[u8]) -> Went
+fn rtt(s: State, image: &[u8], map: &[u8]) -> Result<State, Blank>
     requires { Lent map.now image.now }
-    ensures { Saw map.now (Spec.rtt s) image.now (went_as result) }
+    ensures { Saw map.now (Spec.rtt s) image.now result }
 {
-    let went = s.pop_reg(image, map, 7);
-    let Went::Done(t) = went else {
-        return went;
-    };
+    let t = s.pop_reg(image, map, 7)?;
     t.pop_status(image, map)
 }
 
 // RRTN: REST; PC ← @SP, SP ↑.
-fn rrtn(s: State, image: &[u8], map: &[u8]) -> Went
+fn rrtn(s: State, image: &[u8], map: &[u8]) -> Result<State, Blank>
     requires { Lent map.now image.now }
-    ensures { Saw map.now (Spec.rrtn s) image.now (went_as result) }
+    ensures { Saw map.now (Spec.rrtn s) image.now result }
 {
-    let went = rest(s, image, map);
-    let Went::Done(t) = went else {
-        return went;
-    };
+    let t = rest(s, image, map)?;
     t.pop_reg(image, map, 7)
 }
 
 // RRTT: REST; RTT.
-fn rrtt(s: State, image: &[u8], map: &[u8]) -> Went
+fn rrtt(s: State, image: &[u8], map: &[u8]) -> Result<State, Blank>
     requires { Lent map.now image.now }
-    ensures { Saw map.now (Spec.rrtt s) image.now (went_as result) }
+    ensures { Saw map.now (Spec.rrtt s) image.now result }
 {
-    let went = rest(s, image, map);
-    let Went::Done(t) = went else {
-        return went;
-    };
+    let t = rest(s, image, map)?;
     rtt(t, image, map)
 }
 
 // RSTS: (loc 2E) ← @SP, SP ↑; REST; RTT.
-fn rsts(s: State, image: &mut [u8], map: &[u8], log: &mut [u16; 32]) -> Went
+fn rsts(s: State, image: &mut [u8], map: &[u8], log: &mut [u16; 32]) -> Result<State, Blank>
     requires { Board map.now (beside image.old log.old) }
     ensures { Works map.now (Spec.rsts s) image.old log.old result image.new log.new }
 {
-    let took = s.pop(image, map);
-    let Took::Word(t, mask) = took else {
-        return untaken(took);
-    };
-    let Stored::Done = board::store(image, map, log, 0x2e, mask) else {
-        return Went::Blank(0x2e);
-    };
+    let Taken {
+        state: t,
+        word: mask,
+    } = s.pop(image, map)?;
+    board::store(image, map, log, 0x2e, mask)?;
     rrtt(t, image, map)
 }
 
 // RSVC: REST; SP ↑, the saved SP is bypassed; RTT.
-fn rsvc(s: State, image: &[u8], map: &[u8]) -> Went
+fn rsvc(s: State, image: &[u8], map: &[u8]) -> Result<State, Blank>
     requires { Lent map.now image.now }
-    ensures { Saw map.now (Spec.rsvc s) image.now (went_as result) }
+    ensures { Saw map.now (Spec.rsvc s) image.now result }
 {
-    let went = rest(s, image, map);
-    let Went::Done(t) = went else {
-        return went;
-    };
+    let t = rest(s, image, map)?;
     rtt(t.with_sp(plus(t.regs.sp, 2)), image, map)
 }
 
-// Format 1 by number. XCT, 0005, is not executed here.
+// Format 1 by number. XCT, 0005, is not executed here. Each number has an arm: 0 | 1 | 5 in one was
+// tried, and the proof of the last arm, which counts the arms before it, didn't close.
 fn by_number(
     s: State,
     image: &mut [u8],
@@ -215,19 +176,19 @@ fn by_number(
     log: &mut [u16; 32],
     out: Outside,
     op: u16,
-) -> Went
+) -> Result<State, Blank>
     requires { Board map.now (beside image.old log.old) }
     ensures { Works map.now (Spec.format1 out s op) image.old log.old result image.new log.new }
 {
     match op {
-        0 => Went::Done(s),
-        1 => Went::Done(s),
-        2 => Went::Done(ien(s)),
-        3 => Went::Done(s.with_i2(false)),
-        4 => Went::Done(halt(s, out)),
-        5 => Went::Done(s),
+        0 => Ok(s),
+        1 => Ok(s),
+        2 => Ok(ien(s)),
+        3 => Ok(s.with_i2(false)),
+        4 => Ok(halt(s, out)),
+        5 => Ok(s),
         6 => bpt(s, image, map, log, out),
-        7 => Went::Done(wfi(s)),
+        7 => Ok(wfi(s)),
         8 => rsvc(s, image, map),
         9 => rrtt(s, image, map),
         10 => save(s, image, map, log),
@@ -247,7 +208,7 @@ fn seldom(
     log: &mut [u16; 32],
     out: Outside,
     op: u16,
-) -> Went
+) -> Result<State, Blank>
     requires { Board map.now (beside image.old log.old) }
     ensures { Works map.now (Spec.format1 out s op) image.old log.old result image.new log.new }
 {
@@ -268,7 +229,7 @@ pub fn format1(
     log: &mut [u16; 32],
     out: Outside,
     op: u16,
-) -> Went
+) -> Result<State, Blank>
     requires { Board map.now (beside image.old log.old) }
     ensures { Works map.now (Spec.format1 out s op) image.old log.old result image.new log.new }
 {

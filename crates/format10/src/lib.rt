@@ -3,18 +3,17 @@
 
 ghost use Rattle.std.specs.Prelude.{◌≡◌, ◌%◌};
 ghost use Rattle.board.specs.Work.{word, byte};
-ghost use Rattle.board.specs.Exec.{beside, Lent, Board, Saw};
-ghost use Rattle.state.specs.Answer.{Works, went_as};
+ghost use Rattle.board.specs.Exec.{beside, Lent, Board, Saw, Works};
 ghost use Rattle.format10.specs.Format10 as Spec;
 ghost use Rattle.format10.specs.Inner as Inner;
 
-use board::{Byte, Word};
+use board::Blank;
 use opcodes::fields::{
     destination_mode, destination_register, high_digit, source_mode, source_register,
 };
 use opcodes::{Binary, ByteBinary};
-use operand::{Found, Place, byte_step, locate, moved, read_byte, read_word, unanswered, unfound};
-use state::{State, Went};
+use operand::{Place, byte_step, locate, moved, read_byte, read_word};
+use state::State;
 use wordbytes::low;
 use wordmath::address::minus;
 
@@ -33,17 +32,7 @@ fn binary_number(op: u16) -> u16
 fn stores(b: Binary) -> bool
     ensures { result ≡ Spec.stores b }
 {
-    match b {
-        Binary::Add => true,
-        Binary::Sub => true,
-        Binary::And => true,
-        Binary::Bic => true,
-        Binary::Bis => true,
-        Binary::Xor => true,
-        Binary::Cmp => false,
-        Binary::Bit => false,
-        Binary::Mov => true,
-    }
+    !matches!(b, Binary::Cmp | Binary::Bit)
 }
 
 fn settle(
@@ -55,37 +44,39 @@ fn settle(
     k: u16,
     place: Place,
     v: u16,
-) -> Went
+) -> Result<State, Blank>
     requires { Board map.now (beside image.old log.old) }
     ensures { Works map.now (Spec.settle b s k place v) image.old log.old result image.new log.new }
 {
     if stores(b) {
         return operand::write(s, image, map, log, false, k, place, v);
     }
-    Went::Done(s)
+    Ok(s)
 }
 
-// The op code on words, with the source x: MOV, which does not read its destination, is tried first.
-fn onto_words(s: State, image: &mut [u8], map: &[u8], log: &mut [u16; 32], op: u16, x: u16) -> Went
+// The op code on words, with the source x; words and bytes have other op codes, and MOV and MOVB other ends: MOV, which does not read its destination, is tried first.
+fn onto_words(
+    s: State,
+    image: &mut [u8],
+    map: &[u8],
+    log: &mut [u16; 32],
+    op: u16,
+    x: u16,
+) -> Result<State, Blank>
     requires { Board map.now (beside image.old log.old) }
     ensures { Works map.now (Inner.onto_words (Spec.binary_code op) s op x) image.old log.old result image.new log.new }
 {
     let to = destination_register(op);
     let mode = destination_mode(op);
     let opc = high_digit(op);
-    let found = locate(image, map, 2, to, s.reg(to), s.regs.pc, mode);
-    let Found::At(place) = found else {
-        return unfound(found);
-    };
+    let place = locate(image, map, 2, to, s.reg(to), s.regs.pc, mode)?;
     let u = moved(s, place);
     if opc == 11 {
-        let done = wordmath::result::mov16(x, u.flags);
+        let done = wordmath::result::mov(x, u.flags);
         let w = u.with_flags(done.flags);
         return operand::write(w, image, map, log, false, to, place, x);
     }
-    let Word::Value(y) = read_word(image, map, place, u.reg(to)) else {
-        return unanswered(place);
-    };
+    let y = read_word(image, map, place, u.reg(to))?;
     let b = opcodes::binary_at(binary_number(op));
     let done = arith::binary::binary(b, x, y, u.flags);
     settle(
@@ -101,20 +92,21 @@ fn onto_words(s: State, image: &mut [u8], map: &[u8], log: &mut [u16; 32], op: u
 }
 
 // Two operands of a word op code: the source is decoded and read first.
-fn on_words(s: State, image: &mut [u8], map: &[u8], log: &mut [u16; 32], op: u16) -> Went
+fn on_words(
+    s: State,
+    image: &mut [u8],
+    map: &[u8],
+    log: &mut [u16; 32],
+    op: u16,
+) -> Result<State, Blank>
     requires { Board map.now (beside image.old log.old) }
     ensures { Works map.now (Spec.on_words (Spec.binary_code op) s op) image.old log.old result image.new log.new }
 {
     let from = source_register(op);
     let mode = source_mode(op);
-    let found = locate(image, map, 2, from, s.reg(from), s.regs.pc, mode);
-    let Found::At(source) = found else {
-        return unfound(found);
-    };
+    let source = locate(image, map, 2, from, s.reg(from), s.regs.pc, mode)?;
     let t = moved(s, source);
-    let Word::Value(x) = read_word(image, map, source, t.reg(from)) else {
-        return unanswered(source);
-    };
+    let x = read_word(image, map, source, t.reg(from))?;
     onto_words(t, image, map, log, op, x)
 }
 
@@ -127,12 +119,12 @@ fn move_byte(
     k: u16,
     place: Place,
     v: u16,
-) -> Went
+) -> Result<State, Blank>
     requires { Board map.now (beside image.old log.old) }
     ensures { Works map.now (Spec.move_byte s k place v) image.old log.old result image.new log.new }
 {
     match place {
-        Place::Reg => Went::Done(s.with_reg(k, arith::on_bytes::extend(low(v)))),
+        Place::Reg => Ok(s.with_reg(k, arith::on_bytes::extend(low(v)))),
         Place::Mem(_, _, _) => operand::write(s, image, map, log, true, k, place, v),
     }
 }
@@ -146,19 +138,26 @@ fn settle_byte(
     k: u16,
     place: Place,
     v: u16,
-) -> Went
+) -> Result<State, Blank>
     requires { Board map.now (beside image.old log.old) }
     ensures { Works map.now (Spec.settle_byte b s k place v) image.old log.old result image.new log.new }
 {
     match b {
-        ByteBinary::Cmpb => Went::Done(s),
+        ByteBinary::Cmpb => Ok(s),
         ByteBinary::Movb => move_byte(s, image, map, log, k, place, v),
         ByteBinary::Bisb => operand::write(s, image, map, log, true, k, place, v),
     }
 }
 
 // The op code on bytes, with the source x: MOVB, which does not read its destination, is tried first.
-fn onto_bytes(s: State, image: &mut [u8], map: &[u8], log: &mut [u16; 32], op: u16, x: u8) -> Went
+fn onto_bytes(
+    s: State,
+    image: &mut [u8],
+    map: &[u8],
+    log: &mut [u16; 32],
+    op: u16,
+    x: u8,
+) -> Result<State, Blank>
     requires { Board map.now (beside image.old log.old) }
     ensures { Works map.now (Inner.onto_bytes (Spec.byte_code op) s op x) image.old log.old result image.new log.new }
 {
@@ -166,13 +165,10 @@ fn onto_bytes(s: State, image: &mut [u8], map: &[u8], log: &mut [u16; 32], op: u
     let mode = destination_mode(op);
     let opc = high_digit(op);
     let step = byte_step(to);
-    let found = locate(image, map, step, to, s.reg(to), s.regs.pc, mode);
-    let Found::At(place) = found else {
-        return unfound(found);
-    };
+    let place = locate(image, map, step, to, s.reg(to), s.regs.pc, mode)?;
     let u = moved(s, place);
     if opc == 13 {
-        let done = wordmath::result::mov8(x, u.flags);
+        let done = wordmath::result::mov(x, u.flags);
         return move_byte(
             u.with_flags(done.flags),
             image,
@@ -183,9 +179,7 @@ fn onto_bytes(s: State, image: &mut [u8], map: &[u8], log: &mut [u16; 32], op: u
             done.value,
         );
     }
-    let Byte::Value(y) = read_byte(image, map, place, u.reg(to)) else {
-        return unanswered(place);
-    };
+    let y = read_byte(image, map, place, u.reg(to))?;
     let b = opcodes::byte_binary_at(minus(opc, 12));
     let done = arith::binary::byte_binary(b, x, y, u.flags);
     let w = u.with_flags(done.flags);
@@ -193,26 +187,33 @@ fn onto_bytes(s: State, image: &mut [u8], map: &[u8], log: &mut [u16; 32], op: u
 }
 
 // Two operands of a byte op code: the source is decoded and read first.
-fn on_bytes(s: State, image: &mut [u8], map: &[u8], log: &mut [u16; 32], op: u16) -> Went
+fn on_bytes(
+    s: State,
+    image: &mut [u8],
+    map: &[u8],
+    log: &mut [u16; 32],
+    op: u16,
+) -> Result<State, Blank>
     requires { Board map.now (beside image.old log.old) }
     ensures { Works map.now (Spec.on_bytes (Spec.byte_code op) s op) image.old log.old result image.new log.new }
 {
     let from = source_register(op);
     let mode = source_mode(op);
     let step = byte_step(from);
-    let found = locate(image, map, step, from, s.reg(from), s.regs.pc, mode);
-    let Found::At(source) = found else {
-        return unfound(found);
-    };
+    let source = locate(image, map, step, from, s.reg(from), s.regs.pc, mode)?;
     let t = moved(s, source);
-    let Byte::Value(x) = read_byte(image, map, source, t.reg(from)) else {
-        return unanswered(source);
-    };
+    let x = read_byte(image, map, source, t.reg(from))?;
     onto_bytes(t, image, map, log, op, x)
 }
 
 // CMPB C000, MOVB D000, BISB E000 on bytes, the others on words.
-pub fn format10(s: State, image: &mut [u8], map: &[u8], log: &mut [u16; 32], op: u16) -> Went
+pub fn format10(
+    s: State,
+    image: &mut [u8],
+    map: &[u8],
+    log: &mut [u16; 32],
+    op: u16,
+) -> Result<State, Blank>
     requires { Board map.now (beside image.old log.old) }
     ensures { Works map.now (Spec.format10 s op) image.old log.old result image.new log.new }
 {

@@ -3,18 +3,15 @@
 
 ghost use Rattle.std.specs.Prelude.{◌≡◌};
 ghost use Rattle.board.specs.Work.{word, byte, size_of};
-ghost use Rattle.board.specs.Exec.{beside, Lent, Board, Saw};
-ghost use Rattle.state.specs.Answer.{Works, went_as};
+ghost use Rattle.board.specs.Exec.{beside, Lent, Board, Saw, Works};
 ghost use Rattle.format7.specs.Format7 as Spec;
 ghost use Rattle.format7.specs.Rows as Rows;
 
-use board::{Byte, Word};
+use board::Blank;
 use opcodes::fields::{destination_mode, destination_register};
-use operand::destination::{destination, unheld};
-use operand::{
-    Found, Held, Place, byte_step, locate, moved, read_byte, read_word, unanswered, unfound,
-};
-use state::{Outside, State, Went};
+use operand::destination::destination;
+use operand::{Held, Place, byte_step, locate, moved, read_byte, read_word};
+use state::{Outside, State};
 use wordmath::address::{minus, plus};
 use wordmath::{Done, Flags};
 
@@ -55,7 +52,7 @@ fn word_result(op: u16, row: u16, d: u16, f: Flags) -> Done
     ensures { result ≡ Rows.result_at word op row d f }
 {
     if row < 12 {
-        return unary::by_code::unary16(opcodes::unary_at(row), in_register(op), d, f);
+        return unary::by_code::unary(opcodes::unary_at(row), in_register(op), d, f);
     }
     further_word(op, row, d, f)
 }
@@ -63,7 +60,7 @@ fn word_result(op: u16, row: u16, d: u16, f: Flags) -> Done
 fn byte_result(op: u16, row: u16, d: u8, f: Flags) -> Done
     ensures { result ≡ Rows.result_at byte op row d f }
 {
-    unary::by_code::unary8(opcodes::unary_at(row), in_register(op), d, f)
+    unary::by_code::unary(opcodes::unary_at(row), in_register(op), d, f)
 }
 
 fn stored(
@@ -76,18 +73,18 @@ fn stored(
     row: u16,
     place: Place,
     v: u16,
-) -> Went
+) -> Result<State, Blank>
     requires { Board map.now (beside image.old log.old) }
     ensures { Works map.now (Rows.stored_at (size_of bytes) op row s place v) image.old log.old result image.new log.new }
 {
     let k = destination_register(op);
     if row == 2 {
-        return Went::Done(s);
+        return Ok(s);
     }
     operand::write(s, image, map, log, bytes, k, place, v)
 }
 
-// ROR to DEC, IW2, SXT, ADC, SBC.
+// ROR to DEC, IW2, SXT, ADC, SBC. Words and bytes have other rows of op codes: one function would ask at each line which it is.
 fn modify_word(
     s: State,
     image: &mut [u8],
@@ -95,20 +92,15 @@ fn modify_word(
     log: &mut [u16; 32],
     op: u16,
     row: u16,
-) -> Went
+) -> Result<State, Blank>
     requires { Board map.now (beside image.old log.old) }
     ensures { Works map.now (Rows.modify_at word s op row) image.old log.old result image.new log.new }
 {
     let k = destination_register(op);
     let mode = destination_mode(op);
-    let found = locate(image, map, 2, k, s.reg(k), s.regs.pc, mode);
-    let Found::At(place) = found else {
-        return unfound(found);
-    };
+    let place = locate(image, map, 2, k, s.reg(k), s.regs.pc, mode)?;
     let t = moved(s, place);
-    let Word::Value(d) = read_word(image, map, place, t.reg(k)) else {
-        return unanswered(place);
-    };
+    let d = read_word(image, map, place, t.reg(k))?;
     let done = word_result(op, row, d, t.flags);
     stored(
         t.with_flags(done.flags),
@@ -131,20 +123,15 @@ fn modify_byte(
     log: &mut [u16; 32],
     op: u16,
     row: u16,
-) -> Went
+) -> Result<State, Blank>
     requires { Board map.now (beside image.old log.old) }
     ensures { Works map.now (Rows.modify_at byte s op row) image.old log.old result image.new log.new }
 {
     let k = destination_register(op);
     let mode = destination_mode(op);
-    let found = locate(image, map, byte_step(k), k, s.reg(k), s.regs.pc, mode);
-    let Found::At(place) = found else {
-        return unfound(found);
-    };
+    let place = locate(image, map, byte_step(k), k, s.reg(k), s.regs.pc, mode)?;
     let t = moved(s, place);
-    let Byte::Value(d) = read_byte(image, map, place, t.reg(k)) else {
-        return unanswered(place);
-    };
+    let d = read_byte(image, map, place, t.reg(k))?;
     let done = byte_result(op, row, d, t.flags);
     stored(
         t.with_flags(done.flags),
@@ -160,55 +147,69 @@ fn modify_byte(
 }
 
 // TCALL: ↓ SP, @SP ← PC; PC ← PC + (DST); PC ← PC + @PC.
-fn tcall(s: State, image: &mut [u8], map: &[u8], log: &mut [u16; 32], op: u16) -> Went
+fn tcall(
+    s: State,
+    image: &mut [u8],
+    map: &[u8],
+    log: &mut [u16; 32],
+    op: u16,
+) -> Result<State, Blank>
     requires { Board map.now (beside image.old log.old) }
     ensures { Works map.now (Spec.tcall s op) image.old log.old result image.new log.new }
 {
-    let held = destination(s, image, map, false, op);
-    let Held::At(t, _, d) = held else {
-        return unheld(held);
-    };
-    let went = t.push(image, map, log, t.regs.pc);
-    let Went::Done(u) = went else {
-        return went;
-    };
+    let Held {
+        state: t,
+        operand: d,
+        ..
+    } = destination(s, image, map, false, op)?;
+    let u = t.push(image, map, log, t.regs.pc)?;
     u.tabled(image, map, plus(u.regs.pc, d))
 }
 
 // TJMP: PC ← PC + (DST); PC ← PC + @PC.
-fn tjmp(s: State, image: &[u8], map: &[u8], op: u16) -> Went
+fn tjmp(s: State, image: &[u8], map: &[u8], op: u16) -> Result<State, Blank>
     requires { Lent map.now image.now }
-    ensures { Saw map.now (Spec.tjmp s op) image.now (went_as result) }
+    ensures { Saw map.now (Spec.tjmp s op) image.now result }
 {
-    let held = destination(s, image, map, false, op);
-    let Held::At(t, _, d) = held else {
-        return unheld(held);
-    };
+    let Held {
+        state: t,
+        operand: d,
+        ..
+    } = destination(s, image, map, false, op)?;
     t.tabled(image, map, plus(t.regs.pc, d))
 }
 
 // LSTS: the indicators and I2 are loaded from (DST).
-fn lsts(s: State, image: &[u8], map: &[u8], op: u16) -> Went
+fn lsts(s: State, image: &[u8], map: &[u8], op: u16) -> Result<State, Blank>
     requires { Lent map.now image.now }
-    ensures { Saw map.now (Spec.lsts s op) image.now (went_as result) }
+    ensures { Saw map.now (Spec.lsts s op) image.now result }
 {
-    let held = destination(s, image, map, false, op);
-    let Held::At(t, _, d) = held else {
-        return unheld(held);
-    };
-    Went::Done(t.with_status(d))
+    let Held {
+        state: t,
+        operand: d,
+        ..
+    } = destination(s, image, map, false, op)?;
+    Ok(t.with_status(d))
 }
 
 // SSTS: the PS is formed and stored in (DST).
-fn ssts(s: State, image: &mut [u8], map: &[u8], log: &mut [u16; 32], out: Outside, op: u16) -> Went
+fn ssts(
+    s: State,
+    image: &mut [u8],
+    map: &[u8],
+    log: &mut [u16; 32],
+    out: Outside,
+    op: u16,
+) -> Result<State, Blank>
     requires { Board map.now (beside image.old log.old) }
     ensures { Works map.now (Spec.ssts out s op) image.old log.old result image.new log.new }
 {
     let k = destination_register(op);
-    let held = destination(s, image, map, false, op);
-    let Held::At(t, place, _) = held else {
-        return unheld(held);
-    };
+    let Held {
+        state: t,
+        place,
+        ..
+    } = destination(s, image, map, false, op)?;
     operand::write(t, image, map, log, false, k, place, t.ps(out, false))
 }
 
@@ -228,7 +229,7 @@ fn status_code(
     out: Outside,
     op: u16,
     row: u16,
-) -> Went
+) -> Result<State, Blank>
     requires { Board map.now (beside image.old log.old) }
     ensures { Works map.now (Rows.status_at out s op row) image.old log.old result image.new log.new }
 {
@@ -247,7 +248,7 @@ fn no_result(
     out: Outside,
     op: u16,
     row: u16,
-) -> Went
+) -> Result<State, Blank>
     requires { Board map.now (beside image.old log.old) }
     ensures { Works map.now (Rows.no_result_at out s op row) image.old log.old result image.new log.new }
 {
@@ -269,7 +270,7 @@ fn seldom(
     out: Outside,
     op: u16,
     row: u16,
-) -> Went
+) -> Result<State, Blank>
     requires { Board map.now (beside image.old log.old) }
     ensures { Works map.now (Rows.no_result_at out s op row) image.old log.old result image.new log.new }
 {
@@ -290,7 +291,7 @@ pub fn format7(
     log: &mut [u16; 32],
     out: Outside,
     op: u16,
-) -> Went
+) -> Result<State, Blank>
     requires { Board map.now (beside image.old log.old) }
     ensures { Works map.now (Spec.format7 out s op) image.old log.old result image.new log.new }
 {

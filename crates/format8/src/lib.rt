@@ -3,13 +3,12 @@
 
 ghost use Rattle.std.specs.Prelude.{◌≡◌};
 ghost use Rattle.board.specs.Work.{size_of};
-ghost use Rattle.board.specs.Exec.{beside, Board, Did, stored_as};
-ghost use Rattle.state.specs.Answer.{Works};
+ghost use Rattle.board.specs.Exec.{beside, Board, Works};
 ghost use Rattle.format8.specs.Format8 as Spec;
 
-use board::{Stored, Word};
+use board::Blank;
 use opcodes::fields::{block_destination, block_source, format8_code};
-use state::{State, Went, unwritten};
+use state::State;
 use wordmath::address::{minus, plus};
 
 // Words or bytes; what is added to the source's register after an element, and what to the destination's.
@@ -30,7 +29,7 @@ fn row_from(bytes: bool, source: u16, destination: u16) -> BlockMove
     }
 }
 
-// The eight op codes; down by n is up by 65,536 - n.
+// The eight op codes, an arm for each; down by n is up by 65,536 - n.
 fn row_at(k: u16) -> BlockMove
     ensures { result ≡ Spec.row_at k }
 {
@@ -54,13 +53,11 @@ fn transfer(
     bytes: bool,
     a: u16,
     b: u16,
-) -> Stored
+) -> Result<(), Blank>
     requires { Board map.now (beside image.old log.old) }
-    ensures { Did map.now (Spec.transfer (size_of bytes) a b) (beside image.old log.old) (stored_as result (beside image.new log.new)) (beside image.new log.new) }
+    ensures { Works map.now (Spec.transfer (size_of bytes) a b) image.old log.old result image.new log.new }
 {
-    let Word::Value(v) = board::read(image, map, bytes, a) else {
-        return Stored::Blank(a);
-    };
+    let v = board::read(image, map, bytes, a)?;
     board::write(image, map, log, bytes, b, v)
 }
 
@@ -93,16 +90,19 @@ fn again(s: State, t: State) -> State
 }
 
 // One element: the source register and the destination register contain the addresses.
-pub fn format8(s: State, image: &mut [u8], map: &[u8], log: &mut [u16; 32], op: u16) -> Went
+pub fn format8(
+    s: State,
+    image: &mut [u8],
+    map: &[u8],
+    log: &mut [u16; 32],
+    op: u16,
+) -> Result<State, Blank>
     requires { Board map.now (beside image.old log.old) }
     ensures { Works map.now (Spec.format8 s op) image.old log.old result image.new log.new }
 {
     let row = row_at(format8_code(op));
     let i = block_source(op);
     let j = block_destination(op);
-    let kept = transfer(image, map, log, row.bytes, s.reg(i), s.reg(j));
-    let Stored::Done = kept else {
-        return unwritten(kept);
-    };
-    Went::Done(again(s, registers_moved(row, s, i, j)))
+    transfer(image, map, log, row.bytes, s.reg(i), s.reg(j))?;
+    Ok(again(s, registers_moved(row, s, i, j)))
 }

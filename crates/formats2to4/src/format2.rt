@@ -1,12 +1,11 @@
 // Formats 2 and 3, 0010 to 003F.
 ghost use Rattle.std.specs.Prelude.{◌≡◌, ◌<◌};
-ghost use Rattle.board.specs.Exec.{beside, Lent, Board, Saw};
-ghost use Rattle.state.specs.Answer.{Works, went_as};
+ghost use Rattle.board.specs.Exec.{beside, Lent, Board, Saw, Works};
 ghost use Rattle.formats2to4.specs.Format2 as Spec;
 
-use board::{Stored, Word};
+use board::Blank;
 use opcodes::fields::{format2_code, only_register};
-use state::{Outside, State, Went};
+use state::{Outside, State};
 use wordmath::address::plus;
 
 // Twice the device code, a number of 4 bits.
@@ -24,33 +23,29 @@ fn iak(s: State, out: Outside, k: u16) -> State
 }
 
 // RTN: PC ← REG; REG ← @SP, SP ↑.
-pub(crate) fn rtn(s: State, image: &[u8], map: &[u8], k: u16) -> Went
+pub(crate) fn rtn(s: State, image: &[u8], map: &[u8], k: u16) -> Result<State, Blank>
     requires { Lent map.now image.now }
-    ensures { Saw map.now (Spec.rtn s k) image.now (went_as result) }
+    ensures { Saw map.now (Spec.rtn s k) image.now result }
 {
     s.with_pc(s.reg(k)).pop_reg(image, map, k)
 }
 
 // MSKO: (loc 2E) ← REG.
-fn msko(s: State, image: &mut [u8], map: &[u8], log: &mut [u16; 32], k: u16) -> Went
+fn msko(s: State, image: &mut [u8], map: &[u8], log: &mut [u16; 32], k: u16) -> Result<State, Blank>
     requires { Board map.now (beside image.old log.old) }
     ensures { Works map.now (Spec.msko s k) image.old log.old result image.new log.new }
 {
-    let Stored::Done = board::store(image, map, log, 0x2e, s.reg(k)) else {
-        return Went::Blank(0x2e);
-    };
-    Went::Done(s)
+    board::store(image, map, log, 0x2e, s.reg(k))?;
+    Ok(s)
 }
 
 // PRTN: TMP ← @SP; SP ← SP + TMP * 2; RTN REG.
-fn prtn(s: State, image: &[u8], map: &[u8], k: u16) -> Went
+fn prtn(s: State, image: &[u8], map: &[u8], k: u16) -> Result<State, Blank>
     requires { Lent map.now image.now }
-    ensures { Saw map.now (Spec.prtn s k) image.now (went_as result) }
+    ensures { Saw map.now (Spec.prtn s k) image.now result }
 {
     let sp = s.regs.sp;
-    let Word::Value(tmp) = board::load(image, map, sp) else {
-        return Went::Blank(sp);
-    };
+    let tmp = board::load(image, map, sp)?;
     rtn(s.with_sp(plus(sp, plus(tmp, tmp))), image, map, k)
 }
 
@@ -61,13 +56,13 @@ pub(crate) fn format2(
     log: &mut [u16; 32],
     out: Outside,
     op: u16,
-) -> Went
+) -> Result<State, Blank>
     requires { Board map.now (beside image.old log.old) }
     ensures { Works map.now (Spec.format2 out s op) image.old log.old result image.new log.new }
 {
     let k = only_register(op);
     match format2_code(op) {
-        2 => Went::Done(iak(s, out, k)),
+        2 => Ok(iak(s, out, k)),
         3 => rtn(s, image, map, k),
         4 => msko(s, image, map, log, k),
         _ => prtn(s, image, map, k),

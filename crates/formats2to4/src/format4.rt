@@ -1,27 +1,28 @@
 // Format 4, 0040 to 00FF: supervisor calls.
 ghost use Rattle.std.specs.Prelude.{◌≡◌, ◌*◌};
-ghost use Rattle.board.specs.Exec.{beside, Lent, Board, Saw};
-ghost use Rattle.state.specs.Answer.{Works, went_as};
+ghost use Rattle.board.specs.Exec.{beside, Lent, Board, Saw, Works};
 ghost use Rattle.formats2to4.specs.Format4 as Spec;
 
-use board::Word;
+use board::Blank;
 use format1::save;
 use opcodes::fields::{argument, format4_code};
-use state::{Outside, State, Went};
+use state::{Outside, State};
 use wordmath::address::plus;
 
 // SVCA: ↓ PS, ↓ PC; PC ← (loc 22) + ARG * 2; PC ← PC + @PC.
-fn svca(s: State, image: &mut [u8], map: &[u8], log: &mut [u16; 32], out: Outside, n: u16) -> Went
+fn svca(
+    s: State,
+    image: &mut [u8],
+    map: &[u8],
+    log: &mut [u16; 32],
+    out: Outside,
+    n: u16,
+) -> Result<State, Blank>
     requires { Board map.now (beside image.old log.old) }
     ensures { Works map.now (Spec.svca out s n) image.old log.old result image.new log.new }
 {
-    let went = s.push_both(image, map, log, s.ps(out, false));
-    let Went::Done(t) = went else {
-        return went;
-    };
-    let Word::Value(table) = board::load(image, map, 0x22) else {
-        return Went::Blank(0x22);
-    };
+    let t = s.push_both(image, map, log, s.ps(out, false))?;
+    let table = board::load(image, map, 0x22)?;
     t.tabled(image, map, plus(table, plus(n, n)))
 }
 
@@ -34,22 +35,13 @@ fn svc(
     out: Outside,
     n: u16,
     at: u16,
-) -> Went
+) -> Result<State, Blank>
     requires { Board map.now (beside image.old log.old) }
     ensures { Works map.now (Spec.svc out s n at) image.old log.old result image.new log.new }
 {
-    let went = s.push_both(image, map, log, s.ps(out, false));
-    let Went::Done(both) = went else {
-        return went;
-    };
-    let went = both.push(image, map, log, s.regs.sp);
-    let Went::Done(pushed) = went else {
-        return went;
-    };
-    let went = save(pushed, image, map, log);
-    let Went::Done(saved) = went else {
-        return went;
-    };
+    let both = s.push_both(image, map, log, s.ps(out, false))?;
+    let pushed = both.push(image, map, log, s.regs.sp)?;
+    let saved = save(pushed, image, map, log)?;
     saved
         .with_reg(1, both.regs.sp)
         .with_reg(5, plus(n, n))
@@ -64,7 +56,7 @@ pub(crate) fn format4(
     log: &mut [u16; 32],
     out: Outside,
     op: u16,
-) -> Went
+) -> Result<State, Blank>
     requires { Board map.now (beside image.old log.old) }
     ensures { Works map.now (Spec.format4 out s op) image.old log.old result image.new log.new }
 {

@@ -2,12 +2,12 @@
 #![tactic(auto)]
 
 ghost use Rattle.std.specs.Prelude.{◌≡◌};
-ghost use Rattle.board.specs.Exec.{beside, Lent, Board, Saw};
-ghost use Rattle.state.specs.Answer.{Works, went_as};
+ghost use Rattle.board.specs.Exec.{beside, Lent, Board, Saw, Works};
 ghost use Rattle.formats2to4.specs.Low as Spec;
 
+use board::Blank;
 use opcodes::fields::{format2_code, only_register};
-use state::{Outside, State, Went};
+use state::{Outside, State};
 
 mod format2;
 mod format4;
@@ -19,7 +19,7 @@ fn formats_2_to_4(
     log: &mut [u16; 32],
     out: Outside,
     op: u16,
-) -> Went
+) -> Result<State, Blank>
     requires { Board map.now (beside image.old log.old) }
     ensures { Works map.now (Spec.formats2to4 out s op) image.old log.old result image.new log.new }
 {
@@ -27,7 +27,7 @@ fn formats_2_to_4(
         return format2::format2(s, image, map, log, out, op);
     }
     if op < 0x40 {
-        return Went::Done(format2::lcc(s, op));
+        return Ok(format2::lcc(s, op));
     }
     format4::format4(s, image, map, log, out, op)
 }
@@ -40,7 +40,7 @@ fn seldom(
     log: &mut [u16; 32],
     out: Outside,
     op: u16,
-) -> Went
+) -> Result<State, Blank>
     requires { Board map.now (beside image.old log.old) }
     ensures { Works map.now (Spec.formats2to4 out s op) image.old log.old result image.new log.new }
 {
@@ -61,7 +61,7 @@ pub fn low_codes(
     log: &mut [u16; 32],
     out: Outside,
     op: u16,
-) -> Went
+) -> Result<State, Blank>
     requires { Board map.now (beside image.old log.old) }
     ensures { Works map.now (Spec.low_codes out s op) image.old log.old result image.new log.new }
 {

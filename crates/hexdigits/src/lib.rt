@@ -18,16 +18,29 @@ pub fn hex(d: u16) -> u8
     0
 }
 
+// A text at the front; answers its length. A shorter buffer is left as it is, and the answer is 0.
+pub fn put_text(out: &mut [u8], text: &[u8]) -> usize
+    ensures { text_left result out.new ≡ written text.now out.old }
+{
+    let n = text.len();
+    if out.len() < n {
+        return 0;
+    }
+    out[..n].copy_from_slice(text);
+    n
+}
+
 // Four hex digits at the front; answers 4. A shorter buffer is left as it is, and the answer is 0.
 pub fn put_hex4(out: &mut [u8], x: u16) -> usize
     ensures { text_left result out.new ≡ written (hex4 x) out.old }
 {
-    if out.len() < 4 {
-        return 0;
-    }
-    out[0] = hex(x / 4096);
-    out[1] = hex(x / 256 % 16);
-    out[2] = hex(x / 16 % 16);
-    out[3] = hex(x % 16);
-    4
+    put_text(
+        out,
+        &[
+            hex(x / 4096),
+            hex(x / 256 % 16),
+            hex(x / 16 % 16),
+            hex(x % 16),
+        ],
+    )
 }

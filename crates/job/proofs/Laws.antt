@@ -6,10 +6,9 @@ use mathlib.Core.Bool.{true, false, cond}
 use mathlib.Core.List.{List, ◌++◌, append-nil}
 use mathlib.Core.Path.{◌≡◌, refl, sym, ap, ◌∙◌}
 use lib.ListN.{length, get_or, set, drop, replicate}
-use Rattle.job.specs.declared.JobRead.{JobRead}
-use Rattle.job.specs.declared.JobRead.TheVariants.{Lines, Refused}
 use Rattle.job.specs.declared.Section.{Section}
 use Rattle.job.specs.declared.Section.TheVariants as section
+use Rattle.std.proofs.Common.{Result}
 use native.Mathlib.Omega.{arith}
 use native.Mathlib.Numerals.{add-one}
 use native.Mathlib.Nat.{suc-mul}
@@ -19,20 +18,12 @@ use borrow.Author.Fill.{fill_more}
 use lib.Seq.{drop-cons, drop-length}
 use Rattle.wordbytes.specs.Words.{byte_at, word_at}
 use Rattle.refusal.specs.Numbers.{image_length, map_length, lines_length, job_ends}
-use Rattle.refusal.specs.Page.{Page, refused, refused_at, answered, left, first}
-use Rattle.refusal.proofs.Laws.Page.{first-both, call-refused, one, one-call}
+use Rattle.refusal.specs.Page.{refused, answered, left, first}
+use Rattle.refusal.specs.declared.Refusal.{Refusal}
+use Rattle.refusal.proofs.Laws.Answer.{page-one}
+use Rattle.refusal.proofs.Laws.Page.{first_some, first-both, call-refused, one-call}
 use Rattle.refusal.proofs.Laws.Refusal.{cond-none}
-use Rattle.refusal.proofs.Laws.Page as PageLaws
-use Rattle.job.specs.Job.{sections, entry_size, most_of, over_of, key_at, fit_page, cut, why_key, why_entry, why_entries, fit_pages, why_count, why_left, why_sections, words_stored, listed, marked, absent, words_section, lines_at, read_only_at, image_of, map_of, lines_of, Filled, JobRoom, job_page, buffers_of, why_read, job_of}
-
--- from the fourth on, a section is the read-only pages
-pub nth-rest : (i : ℕ) → (i ≡ 0 → ⊥) → (i ≡ 1 → ⊥) → (i ≡ 2 → ⊥) → section.ReadOnly ≡ get_or sections i section.ReadOnly
-unfolding sections
-nth-rest zero n m k = absurd (n refl)
-nth-rest (suc zero) n m k = absurd (m refl)
-nth-rest (suc (suc zero)) n m k = absurd (k refl)
-nth-rest (suc (suc (suc zero))) n m k = refl
-nth-rest (suc (suc (suc (suc i)))) n m k = refl
+use Rattle.job.specs.Job.{sections, entry_size, most_of, over_of, key_at, fit_page, cut, why_key, why_entry, why_entries, fit_pages, why_count, why_left, after_section, why_sections, words_stored, listed, marked, absent, words_section, lines_at, read_only_at, image_of, map_of, lines_of, Filled, JobRoom, job_page, buffers_of, why_read, job_of}
 
 -- an entry or a count of this size is cut short, or is not
 cut_short : (input : List ℕ) (at size : ℕ) → length input - at < size → cut input at size ≡ job_ends
@@ -68,13 +59,6 @@ pub count-good : (s : Section) (input : List ℕ) (at : ℕ) → at ≤ length i
 unfolding why_count
 count-good s input at b h m = rw (cut-none input at 2 b h, le-leb (word_at input at) (most_of s) m) refl
 
--- the first of two refusals
-first_some : {why k : ℕ} (later : ℕ) → why ≡ k → (why ≡ 0 → ⊥) → why ≡ first k later
-first_some {why} {k} later e n = PageLaws.first_some why later n ∙ ap (λ (x : ℕ). first x later) e
-
-first-none : (why later : ℕ) → why ≡ 0 → first why later ≡ later
-first-none why later e = rw e refl
-
 first-first : (a b later : ℕ) → first (first a b) later ≡ first a (first b later)
 first-first zero b later = refl
 first-first (suc a) b later = refl
@@ -92,123 +76,85 @@ pub entry-room : (s : Section) (input : List ℕ) (at low : ℕ) (map : List ℕ
 unfolding why_entry
 entry-room s input at low map e = cut-zero input at (entry_size s) (first-both (cut input at (entry_size s)) _ e).0
 
--- what is left from inside a section on: n entries, then the other sections
-unfoldable pub why_rest : Section → List Section → List ℕ → ℕ → ℕ → ℕ → List ℕ → ℕ
-why_rest s rest input n at low map =
-    first (why_entries s input n at low map) (why_sections rest input (at + n * entry_size s) (fit_pages s input n at map))
+-- ---- the entries of a section, as the loop counts them: n are left, and m after this one
 
-in-sections : (i : ℕ) → i < 4 → i < length sections
-unfolding sections
-in-sections i h = h
+module _ (s : Section) (input : List ℕ) (n m at low : ℕ) (map : List ℕ) (e : n ≡ suc m) where
+  pub entry-refused : (why : ℕ) → why ≡ why_entry s input at low map → (why ≡ 0 → ⊥) → why ≡ why_entries s input n at low map
+  unfolding why_entries
+  entry-refused why w some = rw (e, ← w) (first_some why _ some)
 
-rest-starts : (i : ℕ) (input : List ℕ) (at : ℕ) (map : List ℕ) → i < 4
-    → why_sections (drop i sections) input at map
-    ≡ cond (absent (get_or sections i section.ReadOnly) input at) 0
-    (first (why_count (get_or sections i section.ReadOnly) input at)
-    (why_rest (get_or sections i section.ReadOnly) (drop (i + 1) sections) input (word_at input at) (at + 2) 0 map))
-unfolding why_rest why_sections
-rest-starts i input at map h = rw (drop-cons sections i section.ReadOnly (in-sections i h), add-one i) refl
+  pub entry-taken : {at' low' : ℕ} {map' : List ℕ} → 0 ≡ why_entry s input at low map → at' ≡ at + entry_size s → low' ≡ key_at s input at + 1 → map' ≡ fit_page s (key_at s input at) map
+      → why_entries s input m at' low' map' ≡ why_entries s input n at low map
+  unfolding why_entries
+  entry-taken w a l k = rw (e, ← w, a, l, k) refl
 
--- a section that is there starts with its count
-rest-present : (i : ℕ) (input : List ℕ) (at : ℕ) (map : List ℕ) (s : Section) → i < 4 → s ≡ get_or sections i section.ReadOnly → absent s input at ≡ false
-    → why_sections (drop i sections) input at map ≡ first (why_count s input at) (why_rest s (drop (i + 1) sections) input (word_at input at) (at + 2) 0 map)
-rest-present i input at map s l e h =
-    rest-starts i input at map l
-    ∙ rw (← e, h) refl
+  pub page-noted : {at' : ℕ} {map' : List ℕ} → at' ≡ at + entry_size s → map' ≡ fit_page s (key_at s input at) map → fit_pages s input m at' map' ≡ fit_pages s input n at map
+  unfolding fit_pages
+  page-noted a k = rw (e, a, k) refl
 
-rest-suc : (s : Section) (rest : List Section) (input : List ℕ) (n at low : ℕ) (map : List ℕ)
-    → why_rest s rest input (suc n) at low map
-    ≡ first (why_entry s input at low map)
-    (why_rest s rest input n (at + entry_size s) (key_at s input at + 1) (fit_page s (key_at s input at) map))
-unfolding why_rest why_entries fit_pages
-rest-suc s rest input n at low map =
-    let e : at + suc n * entry_size s ≡ at + entry_size s + n * entry_size s = omega (arith, suc-mul n (entry_size s)) in
-    rw e (first-first (why_entry s input at low map) _ _)
+  pub entry-passed : {at' : ℕ} → at' ≡ at + entry_size s → at' + m * entry_size s ≡ at + n * entry_size s
+  entry-passed a = let k : suc m * entry_size s ≡ m * entry_size s + entry_size s = suc-mul m (entry_size s) in rw (e, a) (omega (arith, k))
 
-rest-entry : (s : Section) (rest : List Section) (input : List ℕ) (n at low : ℕ) (map : List ℕ) → 0 < n
-    → why_rest s rest input n at low map
-    ≡ first (why_entry s input at low map)
-    (why_rest s rest input (n - 1) (at + entry_size s) (key_at s input at + 1) (fit_page s (key_at s input at) map))
-rest-entry s rest input n at low map h =
-    let e : n ≡ suc (n - 1) = omega arith in
-    ap (λ (m : ℕ). why_rest s rest input m at low map) e ∙ rest-suc s rest input (n - 1) at low map
+module _ (s : Section) (input : List ℕ) (n at low : ℕ) (map : List ℕ) (e : n ≡ 0) where
+  pub entries-end : why_entries s input n at low map ≡ 0
+  unfolding why_entries
+  entries-end = rw e refl
 
--- the loops' steps: what is left from here comes to the whole job's refusal, `whole`
-module _ (input : List ℕ) (whole : ℕ) where
+  pub pages-end : fit_pages s input n at map ≡ map
+  unfolding fit_pages
+  pages-end = rw e refl
+
+-- ---- the sections: what is left from here on comes to the whole job's refusal, `whole`
+
+sections-from : (i : ℕ) (input : List ℕ) (at : ℕ) (map : List ℕ) → i < 4 → why_sections (drop i sections) input at map
+    ≡ cond (absent (get_or sections i section.Pages) input at) 0
+    (first (first (why_count (get_or sections i section.Pages) input at) (why_entries (get_or sections i section.Pages) input (word_at input at) (at + 2) 0 map))
+    (why_sections (drop (i + 1) sections) input (after_section (get_or sections i section.Pages) input at) (fit_pages (get_or sections i section.Pages) input (word_at input at) (at + 2) map)))
+unfolding why_sections sections
+sections-from i input at map h =
+    rw (drop-cons sections i section.Pages h, add-one i) (ap (λ (x : ℕ). cond (absent (get_or sections i section.Pages) input at) 0 x) (sym (first-first (why_count (get_or sections i section.Pages) input at) _ _)))
+
+module _ (input : List ℕ) (whole i at : ℕ) (map : List ℕ) (met : why_sections (drop i sections) input at map ≡ whole) where
   -- past the last section nothing may be left over
-  pub sections-end : (i at : ℕ) (map : List ℕ) (why : ℕ) → i ≡ 4 → why ≡ why_left input at
-      → why_sections (drop i sections) input at map ≡ whole → why ≡ whole
+  pub sections-end : (why : ℕ) → i ≡ 4 → why ≡ why_left input at → why ≡ whole
   unfolding why_sections sections
-  sections-end i at map why e w h = w ∙ (rw e at h)
+  sections-end why e w = w ∙ (rw e at met)
 
-  -- a section that is missing
-  pub section-absent : (i at : ℕ) (map : List ℕ) (s : Section) → i < 4 → s ≡ get_or sections i section.ReadOnly
-      → absent s input at ≡ true → why_sections (drop i sections) input at map ≡ whole → 0 ≡ whole
-  section-absent i at map s l e a h =
-      let there : why_sections (drop i sections) input at map ≡ 0 = rest-starts i input at map l ∙ rw (← e, a) refl in
-      sym there ∙ h
+  module _ (s : Section) (l : i < 4) (e : s ≡ get_or sections i section.Pages) where
+    -- a section that is missing
+    pub section-absent : absent s input at ≡ true → 0 ≡ whole
+    section-absent a = rw (← e, a) at (sym (sections-from i input at map l)) ∙ met
 
-  -- a count
-  pub count-refused : (i at : ℕ) (map : List ℕ) (s : Section) (why : ℕ) → i < 4 → s ≡ get_or sections i section.ReadOnly → absent s input at ≡ false
-      → why ≡ why_count s input at → (why ≡ 0 → ⊥) → why_sections (drop i sections) input at map ≡ whole → why ≡ whole
-  count-refused i at map s why l e a w n h = first_some _ w n ∙ sym (rest-present i input at map s l e a) ∙ h
+    -- one that is there, and refused or taken
+    there : absent s input at ≡ false
+        → first (first (why_count s input at) (why_entries s input (word_at input at) (at + 2) 0 map))
+        (why_sections (drop (i + 1) sections) input (after_section s input at) (fit_pages s input (word_at input at) (at + 2) map)) ≡ whole
+    there a = rw (← e, a) at (sym (sections-from i input at map l)) ∙ met
 
-  pub count-taken : (i at : ℕ) (map : List ℕ) (s : Section) (why n : ℕ) → i < 4 → s ≡ get_or sections i section.ReadOnly → absent s input at ≡ false
-      → why ≡ why_count s input at → why ≡ 0 → n ≡ word_at input at → why_sections (drop i sections) input at map ≡ whole
-      → why_rest s (drop (i + 1) sections) input n (at + 2) 0 map ≡ whole
-  count-taken i at map s why n l e a w z k h =
-      rw k (sym (first-none _ _ (sym w ∙ z)) ∙ sym (rest-present i input at map s l e a) ∙ h)
+    pub section-refused : absent s input at ≡ false → (why : ℕ) → why ≡ first (why_count s input at) (why_entries s input (word_at input at) (at + 2) 0 map) → (why ≡ 0 → ⊥) → why ≡ whole
+    section-refused a why w some = first_some why _ some ∙ rw (← w) at there a
 
-  -- an entry
-  pub entry-refused : (s : Section) (rest : List Section) (n at low : ℕ) (map : List ℕ) (why : ℕ) → 0 < n
-      → why ≡ why_entry s input at low map → (why ≡ 0 → ⊥) → why_rest s rest input n at low map ≡ whole → why ≡ whole
-  entry-refused s rest n at low map why l w m h =
-      first_some _ w m ∙ sym (rest-entry s rest input n at low map l) ∙ h
+    pub section-taken : absent s input at ≡ false → {end : ℕ} {map' : List ℕ} → 0 ≡ first (why_count s input at) (why_entries s input (word_at input at) (at + 2) 0 map)
+        → end ≡ after_section s input at → map' ≡ fit_pages s input (word_at input at) (at + 2) map → why_sections (drop (i + 1) sections) input end map' ≡ whole
+    section-taken a w k n = rw (k, n) (rw (← w) at there a)
 
-  pub entry-taken : (s : Section) (rest : List Section) (n at low : ℕ) (map : List ℕ) (why key size : ℕ) (map' : List ℕ) → 0 < n
-      → why ≡ why_entry s input at low map → why ≡ 0 → key ≡ key_at s input at → size ≡ entry_size s → map' ≡ fit_page s (key_at s input at) map
-      → why_rest s rest input n at low map ≡ whole → why_rest s rest input (n - 1) (at + size) (key + 1) map' ≡ whole
-  entry-taken s rest n at low map why key size map' l w z k e m h =
-      rw (k, e, m) (sym (first-none _ _ (sym w ∙ z)) ∙ sym (rest-entry s rest input n at low map l) ∙ h)
-
-  -- the end of a section
-  pub entries-end : (s : Section) (rest : List Section) (n at low : ℕ) (map : List ℕ) → n ≡ 0
-      → why_rest s rest input n at low map ≡ whole → why_sections rest input at map ≡ whole
-  unfolding why_rest why_entries fit_pages
-  entries-end s rest n at low map e h =
-      let z : at ≡ at + 0 * entry_size s = omega arith in
-      rw z (rw e at h)
-
--- one more entry of each section, as the filling loops count them down
-pub marked_more : (value : ℕ) (input : List ℕ) (n at : ℕ) (map : List ℕ) (page : ℕ) → 0 < n → page ≡ byte_at input at
-    → marked value input (n - 1) (at + 1) (set map page value) ≡ marked value input n at map
+-- one more entry of each section, as the filling loops go over them: n are left, and m after this one
+pub marked_more : (value : ℕ) (input : List ℕ) {n m at' : ℕ} (at : ℕ) (map : List ℕ) (page : ℕ) → n ≡ suc m → at' ≡ at + 1 → page ≡ byte_at input at
+    → marked value input m at' (set map page value) ≡ marked value input n at map
 unfolding marked
-marked_more value input n at map page h e =
-    let k : n ≡ suc (n - 1) = omega arith in
-    rw e (ap (λ (m : ℕ). marked value input m at map) (sym k))
+marked_more value input at map page k a e = rw (k, a, e) refl
 
-pub stored_more : (input : List ℕ) (n at : ℕ) (image image' image'' : List ℕ) (address low high : ℕ) → 0 < n
+pub stored_more : (input : List ℕ) {n m at' : ℕ} (at : ℕ) (image : List ℕ) {image' image'' : List ℕ} {address low high : ℕ} → n ≡ suc m → at' ≡ at + 4
     → address ≡ word_at input at → low ≡ byte_at input (at + 2) → high ≡ byte_at input (at + 3)
     → image' ≡ set image address low → image'' ≡ set image' (address + 1) high
-    → words_stored input (n - 1) (at + 4) image'' ≡ words_stored input n at image
+    → words_stored input m at' image'' ≡ words_stored input n at image
 unfolding words_stored
-stored_more input n at image image' image'' address low high h a l g e f =
-    let k : n ≡ suc (n - 1) = omega arith in
-    rw (f, e, a, l, g) (ap (λ (m : ℕ). words_stored input m at image) (sym k))
+stored_more input at image k b a l g e f = rw (k, b, f, e, a, l, g) refl
 
-pub listed_more : (input : List ℕ) (n at k : ℕ) (lines lines' : List ℕ) (line : ℕ) → 0 < n → line ≡ word_at input at
-    → lines' ≡ set lines k line → listed input (n - 1) (at + 2) (k + 1) lines' ≡ listed input n at k lines
+pub listed_more : (input : List ℕ) {n m at' k' : ℕ} (at k : ℕ) (lines : List ℕ) {lines' : List ℕ} {line : ℕ} → n ≡ suc m → at' ≡ at + 2 → k' ≡ k + 1 → line ≡ word_at input at
+    → lines' ≡ set lines k line → listed input m at' k' lines' ≡ listed input n at k lines
 unfolding listed
-listed_more input n at k lines lines' line h l e =
-    let m : n ≡ suc (n - 1) = omega arith in
-    rw (e, l) (ap (λ (x : ℕ). listed input x at k lines) (sym m))
-
--- a buffer that is filled with 0 from its start, one more place, and to its end
-pub cleared_more : (b d : List ℕ) (i : ℕ) → i < length d → b ≡ replicate i 0 ++ drop i d → set b i 0 ≡ replicate (i + 1) 0 ++ drop (i + 1) d
-cleared_more b d i l h = ap (λ (x : List ℕ). set x i 0) h ∙ fill_more i 0 d l
-
-pub cleared : (b d : List ℕ) (i : ℕ) → i ≡ length d → b ≡ replicate i 0 ++ drop i d → b ≡ replicate (length d) 0
-cleared b d i e h = h ∙ rw (e, drop-length d, append-nil) refl
+listed_more input at k lines h a g l e = rw (h, a, g, e, l) refl
 
 -- nothing is left of a section
 pub marked-end : (value : ℕ) (input : List ℕ) (n at : ℕ) (map : List ℕ) → n ≡ 0 → map ≡ marked value input n at map
@@ -284,17 +230,8 @@ module _ (input image map lines : List ℕ) where
   read-filled e f = rw (e, f.image-is, f.map_is, f.lines-is, f.count-is) refl
 
 -- ---- ONE OUTCOME
-abbrev answer_of : Page ℕ → JobRead
-answer_of (answered n) = Lines n
-answer_of (refused why) = Refused why
-answer_of (refused_at why at) = Refused why
+pub one_answer : (a b : Result ℕ Refusal) → job_page a ≡ job_page b → a ≡ b
+one_answer = page-one (λ x y e. e)
 
-answer_back : (a : JobRead) → answer_of (job_page a) ≡ a
-answer_back (Lines n) = refl
-answer_back (Refused why) = refl
-
-pub one_answer : (a b : JobRead) → job_page a ≡ job_page b → a ≡ b
-one_answer = one answer_of answer_back
-
-pub one-outcome : (a b : JobRead) (x y : List ℕ × List ℕ × List ℕ) → left (job_page a) x ≡ left (job_page b) y → (a ≡ b) × (x ≡ y)
+pub one-outcome : (a b : Result ℕ Refusal) (x y : List ℕ × List ℕ × List ℕ) → left (job_page a) x ≡ left (job_page b) y → (a ≡ b) × (x ≡ y)
 one-outcome = one-call job_page one_answer

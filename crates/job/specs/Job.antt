@@ -1,11 +1,11 @@
 -- A job: three sections, each after its count, and perhaps a fourth. What is refused, and what an accepted job leaves in the lent buffers.
-use Rattle.std.specs.Prelude.{ℕ, zero, suc, ◌+◌, ◌*◌, ◌/◌, ◌%◌, Bool, false, cond, List, [], ◌∷◌, ◌≡◌, length, get_or, set, take, replicate, eqb, leb}
+use Rattle.std.specs.Prelude.{ℕ, zero, suc, ◌+◌, ◌*◌, ◌/◌, ◌%◌, Bool, false, cond, List, [], ◌∷◌, Result, ◌≡◌, length, get_or, set, take, replicate, eqb, leb}
 use Rattle.wordbytes.specs.Words.{byte_at, word_at}
 use Rattle.refusal.specs.Numbers.{image_length, map_length, lines_length, job_ends, many_pages, page_not_rising, many_words, address_odd, address_not_rising, address_unfitted, many_lines, job_line_bit, bytes_left, read_only_page}
-use Rattle.refusal.specs.Page.{Page, refused, answered, Left, left, call, first}
+use Rattle.refusal.specs.declared.Refusal.{Refusal}
+use Rattle.refusal.specs.Answer.{page_of}
+use Rattle.refusal.specs.Page.{Page, answered, Left, left, call, first}
 use Rattle.refusal.specs.Refusal.{plain, most_line_words}
-use Rattle.job.specs.declared.JobRead.{JobRead}
-use Rattle.job.specs.declared.JobRead.TheVariants.{Lines, Refused}
 use Rattle.job.specs.declared.Section.{Section}
 use Rattle.job.specs.declared.Section.TheVariants as section
 
@@ -177,9 +177,8 @@ pub record Filled (input image map lines : List ℕ) (count : ℕ) : Type 0 wher
   pub count-is : count ≡ word_at input (lines_at input)
 
 -- an answer in 01's numbers: the number of line words, or the refusal's number alone
-abbrev pub job_page : JobRead → Page ℕ
-job_page (Lines n) = answered n
-job_page (Refused why) = refused why
+abbrev pub job_page : Result ℕ Refusal → Page ℕ
+job_page = page_of (λ n. n)
 
 -- the first refusal that applies, or 0: the lent buffers' lengths, then the job in reading order
 unfoldable pub why_read : ℕ → ℕ → ℕ → List ℕ → ℕ

@@ -1,23 +1,18 @@
 // Reads a job: three sections, each after its count, and perhaps a fourth. First the whole input is checked, then the lent buffers are filled.
 #![tactic(auto)]
 
-ghost use Rattle.std.specs.Prelude.{◌≡◌, ◌+◌, ◌≤◌, ◌<◌, length, get_or, set, replicate};
+ghost use Rattle.std.specs.Prelude.{◌≡◌, ◌+◌, ◌≤◌, ◌<◌, length, set, IfOk, OnOk};
 ghost use Rattle.job.specs.Job as Spec;
-ghost use Rattle.job.specs.Job.{sections, entry_size, most_of, over_of, key_at, fit_page, why_page, why_address, why_line, why_key, why_entry, why_count, why_left, why_job, fit_pages, words_stored, listed, JobRoom, Filled, why_read, job_page, job_of};
-ghost use Rattle.refusal.specs.Page.{left};
+ghost use Rattle.job.specs.Job.{most_of, over_of, fit_page, why_page, why_address, why_line, why_key, why_entry, why_entries, why_count, why_left, why_job, fit_pages, after_section, words_stored, listed, JobRoom, Filled, why_read, job_page, job_of};
+ghost use Rattle.wordbytes.specs.Words.{word_at};
+ghost use Rattle.refusal.specs.Answer.{number, why_of};
+ghost use Rattle.refusal.specs.Page.{left, first};
 
-use refusal::{MOST_LINE_WORDS, number};
+use refusal::{MOST_LINE_WORDS, Refusal};
 use wordbytes::{byte_at, word_at};
 
 // What is read of a job: the longest has 25,096 bytes, and one byte more shows that there are bytes left over.
 pub const READ_OF_JOB: usize = 25097;
-
-// What the job reader answers: how many line words there are, or why the job is refused.
-#[derive(Clone, Copy)]
-pub enum JobRead {
-    Lines(u16),
-    Refused(u8),
-}
 
 #[derive(Clone, Copy)]
 pub enum Section {
@@ -27,39 +22,24 @@ pub enum Section {
     ReadOnly,
 }
 
-// The sections in the order of the job.
-fn nth(i: usize) -> Section
-    ensures { result ≡ get_or sections i Section.ReadOnly }
-{
-    match i {
-        0 => Section::Pages,
-        1 => Section::Words,
-        2 => Section::Lines,
-        _ => Section::ReadOnly,
-    }
-}
-
 // Is a section missing that may be? Then the job ends where its count would stand.
 fn absent(s: Section, input: &[u8], at: usize) -> bool
     ensures { result ≡ Spec.absent s input.now at }
 {
     match s {
-        Section::Pages => false,
-        Section::Words => false,
-        Section::Lines => false,
+        Section::Pages | Section::Words | Section::Lines => false,
         Section::ReadOnly => at == input.len(),
     }
 }
 
 // The bytes of one entry.
 fn entry_size(s: Section) -> usize
-    ensures { result ≡ entry_size s }
+    ensures { result ≡ Spec.entry_size s }
 {
     match s {
-        Section::Pages => 1,
+        Section::Pages | Section::ReadOnly => 1,
         Section::Words => 4,
         Section::Lines => 2,
-        Section::ReadOnly => 1,
     }
 }
 
@@ -68,48 +48,42 @@ fn most(s: Section) -> u16
     ensures { result ≡ most_of s }
 {
     match s {
-        Section::Pages => 256,
-        Section::Words => 4096,
-        Section::Lines => 4096,
-        Section::ReadOnly => 256,
+        Section::Pages | Section::ReadOnly => 256,
+        Section::Words | Section::Lines => 4096,
     }
 }
 
 // The refusal of a section that has more.
-fn over(s: Section) -> u8
-    ensures { result ≡ over_of s }
+fn over(s: Section) -> Refusal
+    ensures { number result ≡ over_of s }
 {
     match s {
-        Section::Pages => number::MANY_PAGES,
-        Section::Words => number::MANY_WORDS,
-        Section::Lines => number::MANY_LINES,
-        Section::ReadOnly => number::MANY_PAGES,
+        Section::Pages | Section::ReadOnly => Refusal::ManyPages,
+        Section::Words => Refusal::ManyWords,
+        Section::Lines => Refusal::ManyLines,
     }
 }
 
 // What an entry's checks look at: the page, the address or the line word.
 fn key_at(s: Section, input: &[u8], at: usize) -> u16
-    ensures { result ≡ key_at s input.now at }
+    ensures { result ≡ Spec.key_at s input.now at }
 {
     match s {
-        Section::Pages => byte_at(input, at) as u16,
-        Section::Words => word_at(input, at),
-        Section::Lines => word_at(input, at),
-        Section::ReadOnly => byte_at(input, at) as u16,
+        Section::Pages | Section::ReadOnly => byte_at(input, at) as u16,
+        Section::Words | Section::Lines => word_at(input, at),
     }
 }
 
 // Notes the page of an entry as fitted, or as read-only.
 fn note_page(s: Section, input: &[u8], at: usize, fitted: &mut [u8; 256])
-    ensures { fitted.new ≡ fit_page s (key_at s input.now at) fitted.old }
+    ensures { fitted.new ≡ fit_page s (Spec.key_at s input.now at) fitted.old }
 {
     match s {
         Section::Pages => {
             let page = byte_at(input, at) as usize;
             fitted[page] = 1;
         }
-        Section::Words => {}
-        Section::Lines => {}
+        Section::Words | Section::Lines => {}
         Section::ReadOnly => {
             let page = byte_at(input, at) as usize;
             fitted[page] = 2;
@@ -117,64 +91,64 @@ fn note_page(s: Section, input: &[u8], at: usize, fitted: &mut [u8; 256])
     }
 }
 
-// The refusal of a page's number, or 0. `low` is the least that rises above the entry before.
-fn page_refusal(low: u32, page: u16) -> u8
-    ensures { result ≡ why_page low page }
+// A page's number has to rise. `low` is the least that rises above the entry before.
+fn page_refusal(low: u32, page: u16) -> Result<(), Refusal>
+    ensures { why_of result ≡ why_page low page }
 {
     if low <= page as u32 {
-        0
+        Ok(())
     } else {
-        number::PAGE_NOT_RISING
+        Err(Refusal::PageNotRising)
     }
 }
 
-// The refusal of a word's address, or 0: odd, not rising, in an unfitted page.
-fn address_refusal(low: u32, address: u16, fitted: &[u8; 256]) -> u8
-    ensures { result ≡ why_address fitted.now low address }
+// A word's address: odd, not rising, in an unfitted page.
+fn address_refusal(low: u32, address: u16, fitted: &[u8; 256]) -> Result<(), Refusal>
+    ensures { why_of result ≡ why_address fitted.now low address }
 {
     if address % 2 != 0 {
-        return number::ADDRESS_ODD;
+        return Err(Refusal::AddressOdd);
     }
     if (address as u32) < low {
-        return number::ADDRESS_NOT_RISING;
+        return Err(Refusal::AddressNotRising);
     }
     let page = (address / 256) as usize;
     if fitted[page] == 1 {
-        0
+        Ok(())
     } else {
-        number::ADDRESS_UNFITTED
+        Err(Refusal::AddressUnfitted)
     }
 }
 
-// The refusal of a line word, or 0: bits 2, 4 to 6 and 12 to 15 are not used.
-fn line_refusal(line: u16) -> u8
-    ensures { result ≡ why_line line }
+// A line word: bits 2, 4 to 6 and 12 to 15 are not used.
+fn line_refusal(line: u16) -> Result<(), Refusal>
+    ensures { why_of result ≡ why_line line }
 {
     if refusal::plain(line) {
-        0
+        Ok(())
     } else {
-        number::JOB_LINE_BIT
+        Err(Refusal::JobLineBit)
     }
 }
 
-// The refusal of a read-only page's number, or 0: not rising, or not fitted.
-fn read_only_refusal(low: u32, page: u16, fitted: &[u8; 256]) -> u8
-    ensures { result ≡ Spec.why_read_only fitted.now low page }
+// A read-only page's number: not rising, or not fitted.
+fn read_only_refusal(low: u32, page: u16, fitted: &[u8; 256]) -> Result<(), Refusal>
+    ensures { why_of result ≡ Spec.why_read_only fitted.now low page }
 {
     if (page as u32) < low {
-        return number::READ_ONLY_PAGE;
+        return Err(Refusal::ReadOnlyPage);
     }
     let at = (page % 256) as usize;
     if fitted[at] == 1 {
-        0
+        Ok(())
     } else {
-        number::READ_ONLY_PAGE
+        Err(Refusal::ReadOnlyPage)
     }
 }
 
-// The refusal that an entry's own checks give, or 0.
-fn key_refusal(s: Section, low: u32, key: u16, fitted: &[u8; 256]) -> u8
-    ensures { result ≡ why_key s fitted.now low key }
+// An entry's own checks.
+fn key_refusal(s: Section, low: u32, key: u16, fitted: &[u8; 256]) -> Result<(), Refusal>
+    ensures { why_of result ≡ why_key s fitted.now low key }
 {
     match s {
         Section::Pages => page_refusal(low, key),
@@ -184,99 +158,90 @@ fn key_refusal(s: Section, low: u32, key: u16, fitted: &[u8; 256]) -> u8
     }
 }
 
-// The refusal of an entry, or 0: it is cut short, or its own checks refuse it.
-fn entry_refusal(s: Section, input: &[u8], at: usize, low: u32, fitted: &[u8; 256]) -> u8
+// An entry: it is cut short, or its own checks refuse it.
+fn entry_refusal(
+    s: Section,
+    input: &[u8],
+    at: usize,
+    low: u32,
+    fitted: &[u8; 256],
+) -> Result<(), Refusal>
     requires { at ≤ length input.now }
-    ensures { result ≡ why_entry s input.now at low fitted.now }
+    ensures { why_of result ≡ why_entry s input.now at low fitted.now }
 {
     if input.len() - at < entry_size(s) {
-        return number::JOB_ENDS;
+        return Err(Refusal::JobEnds);
     }
     key_refusal(s, low, key_at(s, input, at), fitted)
 }
 
-// The refusal of a section's count, or 0: it is cut short, or there are too many entries.
-fn count_refusal(s: Section, input: &[u8], at: usize) -> u8
+// A section's count: it is cut short, or there are too many entries.
+fn count_refusal(s: Section, input: &[u8], at: usize) -> Result<(), Refusal>
     requires { at ≤ length input.now }
-    ensures { result ≡ why_count s input.now at }
+    ensures { why_of result ≡ why_count s input.now at }
 {
     if input.len() - at < 2 {
-        return number::JOB_ENDS;
+        return Err(Refusal::JobEnds);
     }
     if most(s) < word_at(input, at) {
-        return over(s);
+        return Err(over(s));
     }
-    0
+    Ok(())
 }
 
-// The refusal of bytes left over, or 0.
-fn rest_refusal(input: &[u8], at: usize) -> u8
-    ensures { result ≡ why_left input.now at }
+// A section's count and entries, whose pages are noted: the place after the section, or the first refusal met.
+fn section_end(
+    s: Section,
+    input: &[u8],
+    start: usize,
+    fitted: &mut [u8; 256],
+) -> Result<usize, Refusal>
+    requires { start ≤ length input.now }
+    ensures refused { why_of result ≡ first (why_count s input.now start) (why_entries s input.now (word_at input.now start) (start + 2) 0 fitted.old) }
+    ensures place { IfOk result (λ end. (end ≡ after_section s input.now start) × (end ≤ length input.now)) }
+    ensures noted { OnOk result (fitted.new ≡ fit_pages s input.now (word_at input.now start) (start + 2) fitted.old) }
+{
+    count_refusal(s, input, start)?;
+    let mut at = start + 2;
+    let mut low: u32 = 0;
+    for _ in 0..word_at(input, start) {
+        entry_refusal(s, input, at, low, fitted)?;
+        low = key_at(s, input, at) as u32 + 1;
+        note_page(s, input, at, fitted);
+        at += entry_size(s);
+    }
+    Ok(at)
+}
+
+// Bytes left over.
+fn rest_refusal(input: &[u8], at: usize) -> Result<(), Refusal>
+    ensures { why_of result ≡ why_left input.now at }
 {
     if at == input.len() {
-        0
+        Ok(())
     } else {
-        number::BYTES_LEFT
+        Err(Refusal::BytesLeft)
     }
 }
 
-// The number of the first refusal met, or 0. Nothing lent is written.
-fn first_refusal(input: &[u8]) -> u8
-    ensures { result ≡ why_job input.now }
+// The first refusal met. Nothing lent is written.
+fn first_refusal(input: &[u8]) -> Result<(), Refusal>
+    ensures { why_of result ≡ why_job input.now }
 {
     let mut fitted = [0u8; 256];
     let mut at: usize = 0;
-    let mut section: usize = 0;
-    let why: u8 = 'sections: loop {
-        if 4 <= section {
-            break 'sections rest_refusal(input, at);
-        }
-        let s = nth(section);
+    for s in [
+        Section::Pages,
+        Section::Words,
+        Section::Lines,
+        Section::ReadOnly,
+    ] {
         if absent(s, input, at) {
-            break 'sections 0;
+            return Ok(());
         }
-        let refused = count_refusal(s, input, at);
-        if refused != 0 {
-            break 'sections refused;
-        }
-        let mut left = word_at(input, at);
-        let mut low: u32 = 0;
-        at += 2;
-        while 0 < left {
-            let refused = entry_refusal(s, input, at, low, &fitted);
-            if refused != 0 {
-                break 'sections refused;
-            }
-            low = key_at(s, input, at) as u32 + 1;
-            note_page(s, input, at, &mut fitted);
-            at += entry_size(s);
-            left -= 1;
-        }
-        section += 1;
-    };
-    why
-}
-
-// All bytes 0.
-fn clear(buffer: &mut [u8])
-    ensures { buffer.new ≡ replicate (length buffer.old) 0 }
-{
-    let mut i: usize = 0;
-    while i < buffer.len() {
-        buffer[i] = 0;
-        i += 1;
+        at = section_end(s, input, at, &mut fitted)?;
     }
-}
-
-// All line words 0.
-fn clear_lines(lines: &mut [u16])
-    ensures { lines.new ≡ replicate (length lines.old) 0 }
-{
-    let mut i: usize = 0;
-    while i < lines.len() {
-        lines[i] = 0;
-        i += 1;
-    }
+    rest_refusal(input, at)
 }
 
 // Sets the pages of n entries from a place on to a value: 1 fitted, 2 read-only.
@@ -284,13 +249,9 @@ fn mark_pages(value: u8, input: &[u8], from: usize, n: u16, map: &mut [u8])
     requires { (from < 4294967296) × (length map.old ≡ 256) }
     ensures { (map.new ≡ Spec.marked value input.now n from map.old) × (length map.new ≡ 256) }
 {
-    let mut at = from;
-    let mut left = n;
-    while 0 < left {
-        let page = byte_at(input, at) as usize;
+    for k in 0..n {
+        let page = byte_at(input, from + k as usize) as usize;
         map[page] = value;
-        at += 1;
-        left -= 1;
     }
 }
 
@@ -308,14 +269,11 @@ fn store_words(input: &[u8], from: usize, n: u16, image: &mut [u8])
     requires { from < 4294967296 }
     ensures { image.new ≡ words_stored input.now n from image.old }
 {
-    let mut at = from;
-    let mut left = n;
-    while 0 < left {
+    for k in 0..n {
+        let at = from + k as usize * 4;
         let address = word_at(input, at) as usize;
         put_byte(image, address, byte_at(input, at + 2));
         put_byte(image, address + 1, byte_at(input, at + 3));
-        at += 4;
-        left -= 1;
     }
 }
 
@@ -324,14 +282,9 @@ fn list_lines(input: &[u8], from: usize, n: u16, lines: &mut [u16])
     requires { from < 4294967296 }
     ensures { lines.new ≡ listed input.now n from 0 lines.old }
 {
-    let mut at = from;
-    let mut k: usize = 0;
-    let mut left = n;
-    while 0 < left {
-        put_line(lines, k, word_at(input, at));
-        at += 2;
-        k += 1;
-        left -= 1;
+    for k in 0..n {
+        let place = k as usize;
+        put_line(lines, place, word_at(input, from + place * 2));
     }
 }
 
@@ -349,14 +302,14 @@ pub fn fill(input: &[u8], image: &mut [u8], map: &mut [u8], lines: &mut [u16]) -
     requires { JobRoom image.old map.old lines.old }
     ensures { Filled input.now image.new map.new lines.new result }
 {
-    clear(map);
+    map.fill(0);
     let pages = word_at(input, 0);
     mark_pages(1, input, 2, pages, map);
-    clear(image);
+    image.fill(0);
     let words_at = 2 + pages as usize;
     let words = word_at(input, words_at);
     store_words(input, words_at + 2, words, image);
-    clear_lines(lines);
+    lines.fill(0);
     let lines_at = words_at + 2 + words as usize * 4;
     let count = word_at(input, lines_at);
     list_lines(input, lines_at + 2, count, lines);
@@ -366,30 +319,32 @@ pub fn fill(input: &[u8], image: &mut [u8], map: &mut [u8], lines: &mut [u16]) -
     count
 }
 
-// The number of the first refusal that applies, or 0: the lent buffers' lengths, then the job in reading order.
-pub fn refusal(image: usize, map: usize, lines: usize, input: &[u8]) -> u8
-    ensures { result ≡ why_read image map lines input.now }
+// The first refusal that applies: the lent buffers' lengths, then the job in reading order.
+pub fn refusal(image: usize, map: usize, lines: usize, input: &[u8]) -> Result<(), Refusal>
+    ensures { why_of result ≡ why_read image map lines input.now }
 {
     if image != 65536 {
-        return number::IMAGE_LENGTH;
+        return Err(Refusal::ImageLength);
     }
     if map != 256 {
-        return number::MAP_LENGTH;
+        return Err(Refusal::MapLength);
     }
     if lines != MOST_LINE_WORDS {
-        return number::LINES_LENGTH;
+        return Err(Refusal::LinesLength);
     }
     first_refusal(input)
 }
 
 // Reads a job into the lent buffers: the answer is the number of line words, or the first refusal, which changes no buffer.
-pub fn read_job(input: &[u8], image: &mut [u8], map: &mut [u8], lines: &mut [u16]) -> JobRead
+pub fn read_job(
+    input: &[u8],
+    image: &mut [u8],
+    map: &mut [u8],
+    lines: &mut [u16],
+) -> Result<u16, Refusal>
     ensures { left (job_page result) (image.new, map.new, lines.new)
         ≡ job_of input.now image.old map.old lines.old }
 {
-    let why = refusal(image.len(), map.len(), lines.len(), input);
-    if why != 0 {
-        return JobRead::Refused(why);
-    }
-    JobRead::Lines(fill(input, image, map, lines))
+    refusal(image.len(), map.len(), lines.len(), input)?;
+    Ok(fill(input, image, map, lines))
 }

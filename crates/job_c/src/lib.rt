@@ -2,10 +2,11 @@
 #![tactic(auto)]
 
 ghost use Rattle.std.specs.Prelude.{◌≡◌};
+ghost use Rattle.refusal.specs.Answer.{why_of};
 ghost use Rattle.refusal.specs.Page.{told};
 ghost use Rattle.job_c.specs.Calls as Spec;
 
-use job::JobRead;
+use refusal::Refusal;
 
 // Reads a job into the image, the map and the line words; or 21, 1, 2, 4 or the job's own refusal.
 #[unsafe(no_mangle)]
@@ -18,15 +19,20 @@ pub extern "C" fn wd16_read_job(
 ) -> u8
     ensures { told result (image.new, map.new, lines.new, answer.new) ≡ Spec.read_call job.now image.old map.old lines.old answer.old }
 {
-    let refused = answer::refusal(answer);
-    if refused != 0 {
-        return refused;
-    }
-    match job::read_job(job, image, map, lines) {
-        JobRead::Lines(n) => {
-            answer::put(answer, n, 0, 0);
-            0
-        }
-        JobRead::Refused(why) => why,
-    }
+    refusal::told(read_into(job, image, map, lines, answer))
+}
+
+fn read_into(
+    job: &[u8],
+    image: &mut [u8],
+    map: &mut [u8],
+    lines: &mut [u16],
+    answer: &mut [u8],
+) -> Result<(), Refusal>
+    ensures { told (why_of result) (image.new, map.new, lines.new, answer.new) ≡ Spec.read_call job.now image.old map.old lines.old answer.old }
+{
+    answer::refusal(answer)?;
+    let count = job::read_job(job, image, map, lines)?;
+    answer::put(answer, count, 0, 0);
+    Ok(())
 }

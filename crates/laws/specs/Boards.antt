@@ -8,14 +8,12 @@ use Rattle.step.specs.declared.Cause.TheVariants as Cause
 use Rattle.step.specs.Step.{After, after, cause_number}
 use Rattle.wordbytes.specs.Words.{word_at}
 use Rattle.refusal.specs.Page.{answered, left, told}
-use Rattle.machine.specs.declared.Finished.{Finished}
-use Rattle.machine.specs.declared.Stopped.{Stopped}
+use Rattle.machine.specs.Entry.{Finished, step_why, run_why, finished_page, run_page}
+use Rattle.machine.specs.Until.{Stopped, ends, StopPage, stopped_page, run_until_page}
 use Rattle.machine.specs.declared.Until.{Until}
 use Rattle.machine.specs.Run.{last_cause}
 use Rattle.machine.specs.Trail.{trail_of}
-use Rattle.machine.specs.Entry.{step_why, run_why, finished_page, run_page}
 use Rattle.machine.specs.Same.{run_same_page}
-use Rattle.machine.specs.Until.{ends, StopPage, stopped_page, run_until_page}
 use Rattle.machine_c.specs.Layout.{state_bytes, state_from, settings_from, refused_step}
 use Rattle.machine_c.specs.Calls.{run_call}
 use Rattle.machine_c.specs.Runs.{until_from, stop_bytes, run_same_call, run_until_call}

@@ -1,14 +1,12 @@
 -- WISH 13. WHAT A SCAN DOES TO THE IMAGE: "Page FE is fitted (as map value 1, whatever the lent map says), and two's complement readings stand at FE00 + 2
 -- times the channel before the run, only if all 16 are present; otherwise the page is unfitted and stays as lent." "A scan changes the image only in page FE
 -- and where the run's steps write." Whatever a call of `scan` answers and leaves, as its contract promises; the same for C.
-use Rattle.std.specs.Prelude.{ℕ, ◌+◌, ◌*◌, ◌/◌, ◌<◌, true, false, List, ◌≡◌, length, get_or}
+use Rattle.std.specs.Prelude.{ℕ, ◌+◌, ◌*◌, ◌/◌, ◌<◌, true, false, List, ◌≡◌, length, get_or, Some, None}
 use Rattle.board.specs.Work.{image_word}
 use Rattle.wordbytes.specs.Words.{byte_at}
 use Rattle.state.specs.declared.Settings.{Settings}
 use Rattle.refusal.specs.Page.{answered, left, told}
-use Rattle.plugs.specs.declared.Channel.{Channel}
-use Rattle.plugs.specs.declared.Channel.TheVariants.{NoCard, Reading}
-use Rattle.plugs.specs.Plugs.{present}
+use Rattle.plugs.specs.Plugs.{Channel, present}
 use Rattle.refusal.specs.Refusal.{all_of}
 use Rattle.recorder.specs.declared.Recorder.{Recorder}
 use Rattle.recorder.specs.declared.Scanned.{Scanned}
@@ -23,7 +21,7 @@ use Rattle.recorder_c.specs.Calls.{scan_call}
 pub record Carded (cs : List Channel) (m map : List ℕ) : Type 0 where
   -- all 16 are present: w is the reading of the channel k, a two's complement word
   pub fitted : all_of present cs ≡ true → byte_at (scan_map cs map) 0xFE ≡ 1
-  pub readings : all_of present cs ≡ true → (k w : ℕ) → k < 16 → get_or cs k NoCard ≡ Reading w → image_word (scan_image cs m) (0xFE00 + 2 * k) ≡ w
+  pub readings : all_of present cs ≡ true → (k w : ℕ) → k < 16 → get_or cs k None ≡ Some w → image_word (scan_image cs m) (0xFE00 + 2 * k) ≡ w
   -- otherwise
   pub unfitted : all_of present cs ≡ false → byte_at (scan_map cs map) 0xFE ≡ 0
   pub as_lent : all_of present cs ≡ false → scan_image cs m ≡ m

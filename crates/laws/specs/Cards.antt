@@ -6,26 +6,21 @@
 -- of the bus error's trap (blank-row, healed-row; blank-needed).
 -- "Doesn't end locked" is needed, because a lock-up met by a blank counts as no blank, and a card would spare it (locked-row,
 -- spared-row; lock-needed). A lock-up by the jumpers' option alone would be the same with a card, and isn't told apart.
-use Rattle.std.specs.Prelude.{ℕ, true, false, List, [], ◌∷◌, ◌++◌, ◌≡◌, get_or, replicate, set, length}
+use Rattle.std.specs.Prelude.{ℕ, true, false, List, [], ◌∷◌, ◌++◌, ◌≡◌, get_or, replicate, set, length, Option, Some, None, Ok}
 use Rattle.board.specs.Work.{with_word}
 use Rattle.state.specs.declared.State.{State}
 use Rattle.state.specs.declared.Settings.{Settings}
 use Rattle.state.specs.declared.Mode.TheVariants.{Locked}
 use Rattle.state.specs.State.{mode_number, with_pc, with_sp, with_i2, cleared}
 use Rattle.machine.specs.declared.Ran.{Ran}
-use Rattle.machine.specs.declared.First.TheVariants.{Never}
-use Rattle.machine.specs.declared.Finished.{Finished}
-use Rattle.machine.specs.declared.Finished.TheVariants as Finished
+use Rattle.machine.specs.Entry.{Finished, power_why, finished_page, run_page, stepped_page, step_page, Stepped}
 use Rattle.machine.specs.Run.{End, end, run_of}
 use Rattle.machine.specs.Trail.{trail_of}
 use Rattle.refusal.specs.Page.{left, told}
-use Rattle.machine.specs.Entry.{power_why, finished_page, run_page, stepped_page, step_page}
 use Rattle.step.specs.declared.Turn.{Turn}
 use Rattle.step.specs.Step.{is_blank}
 use Rattle.wordbytes.specs.Words.{byte_at}
 use Rattle.wordbytes.specs.Words as Words
-use Rattle.machine.specs.declared.Stepped.{Stepped}
-use Rattle.machine.specs.declared.Stepped.TheVariants as Stepped
 use Rattle.machine_c.specs.Layout.{settings_from}
 use Rattle.endline.specs.Report.{bench_board}
 use Rattle.machine_c.specs.Calls.{step_call, run_call}
@@ -45,8 +40,8 @@ pub record Sound (a : Ran) : Type 0 where
 
 -- the same answer, in which no place and no address is told; the same image; the same state, image and cause after each step
 pub record SameRun (settings : Settings) (map big lines : List ℕ) (s : State) (m : List ℕ) (a : Ran) (m₁ : List ℕ) (q : Finished) (m₂ : List ℕ) : Type 0 where
-  pub answer : q ≡ Finished.Done a
-  pub no_place : a.tally.first ≡ Never
+  pub answer : q ≡ Ok a
+  pub no_place : a.tally.first ≡ None
   pub image : m₂ ≡ m₁
   pub steps : trail_of settings big lines s m ≡ trail_of settings map lines s m
 
@@ -88,16 +83,16 @@ spares map = run_of bench_board map (2 ∷ []) (before 0x500) image
 abbrev pub Law : (Ran → Type 0) → Type 0
 Law P = (settings : Settings) (map big lines : List ℕ) (s : State) (m m₁ m₂ : List ℕ) (a : Ran) (q : Finished)
     → Plugged map big → power_why settings m big ≡ 0 → P a
-    → left (finished_page (Finished.Done a)) m₁ ≡ run_page settings m map lines s
+    → left (finished_page (Ok a)) m₁ ≡ run_page settings m map lines s
     → left (finished_page q) m₂ ≡ run_page settings m big lines s
-    → q ≡ Finished.Done a
+    → q ≡ Ok a
 
 -- ---- A RUN
 
 abbrev pub RunPlugged : Type 0
 RunPlugged = (settings : Settings) (map big lines : List ℕ) (s : State) (m m₁ m₂ : List ℕ) (a : Ran) (q : Finished)
     → Plugged map big → power_why settings m big ≡ 0 → Sound a
-    → left (finished_page (Finished.Done a)) m₁ ≡ run_page settings m map lines s
+    → left (finished_page (Ok a)) m₁ ≡ run_page settings m map lines s
     → left (finished_page q) m₂ ≡ run_page settings m big lines s
     → SameRun settings map big lines s m a m₁ q m₂
 
@@ -106,9 +101,9 @@ RunPlugged = (settings : Settings) (map big lines : List ℕ) (s : State) (m m�
 abbrev pub StepPlugged : Type 0
 StepPlugged = (settings : Settings) (map big : List ℕ) (line : ℕ) (s : State) (m m₁ m₂ : List ℕ) (t : Turn) (q : Stepped)
     → Plugged map big → power_why settings m big ≡ 0 → is_blank t.cause ≡ false → (t.state.mode ≡ Locked → ⊥)
-    → left (stepped_page (Stepped.Done t)) m₁ ≡ step_page settings m map line s
+    → left (stepped_page (Ok t)) m₁ ≡ step_page settings m map line s
     → left (stepped_page q) m₂ ≡ step_page settings m big line s
-    → (q ≡ Stepped.Done t) × (m₂ ≡ m₁)
+    → (q ≡ Ok t) × (m₂ ≡ m₁)
 
 -- ---- THE SAME FOR C, on the bytes that the calls leave: w are the settings' bytes
 

@@ -3,20 +3,17 @@
 -- second's with its place moved on by the first's length; an empty list is neutral.
 -- Whatever runs answer and leave, as their contract promises. That none is refused is a conclusion: the settings, the map and the
 -- image aren't, the lists have at most 4,096 words in all, and no word has an unused bit.
-use Rattle.std.specs.Prelude.{ℕ, ◌+◌, ◌≤◌, ◌<◌, List, [], ◌∷◌, ◌++◌, ◌≡◌, true, false, cond, length, eqb}
+use Rattle.std.specs.Prelude.{ℕ, ◌+◌, ◌≤◌, ◌<◌, List, [], ◌∷◌, ◌++◌, ◌≡◌, true, false, cond, length, eqb, Ok, Err}
 use Rattle.state.specs.declared.State.{State}
 use Rattle.wordbytes.specs.Words.{byte_at, word_at}
 use Rattle.machine.specs.declared.Ran.{Ran}
-use Rattle.machine.specs.declared.Finished.{Finished}
-use Rattle.machine.specs.declared.Finished.TheVariants as Finished
+use Rattle.machine.specs.Entry.{Finished, Stepped, power_why, stepped_page, finished_page, step_page, run_page}
 use Rattle.machine.specs.Run.{no_blanks}
 use Rattle.machine.specs.Trail.{place_moved}
 use Rattle.machine.specs.Counted.{or_first}
 use Rattle.state.specs.declared.Settings.{Settings}
 use Rattle.refusal.specs.Page.{left, told}
 use Rattle.refusal.specs.Refusal.{all_of, plain, most_line_words}
-use Rattle.machine.specs.declared.Stepped.{Stepped}
-use Rattle.machine.specs.Entry.{power_why, stepped_page, finished_page, step_page, run_page}
 use Rattle.machine_c.specs.Layout.{tally_bytes, settings_from, refused_step}
 use Rattle.machine.specs.Numbers.{none}
 use Rattle.machine_c.specs.Calls.{step_call, run_call}
@@ -42,17 +39,17 @@ pub record Halves (n : ℕ) (first second whole : Ran) : Type 0 where
 
 -- the state that a run ends in; as lent where it is refused
 abbrev pub state_left : Finished → State → State
-state_left (Finished.Done a) s = a.state
-state_left (Finished.Refused why) s = s
+state_left (Ok a) s = a.state
+state_left (Err why) s = s
 
 -- three runs, none of them refused
 pub record Joined (n : ℕ) (r q p : Finished) (m₂ m₃ : List ℕ) : Type 0 where
   pub first : Ran
   pub second : Ran
   pub whole : Ran
-  pub first_done : r ≡ Finished.Done first
-  pub second_done : q ≡ Finished.Done second
-  pub whole_done : p ≡ Finished.Done whole
+  pub first_done : r ≡ Ok first
+  pub second_done : q ≡ Ok second
+  pub whole_done : p ≡ Ok whole
   pub halves : Halves n first second whole
   pub image : m₃ ≡ m₂
 
@@ -86,7 +83,7 @@ module _ (settings : Settings) (map xs ys : List ℕ) (s : State) (m : List ℕ)
 
 abbrev pub RunNone : Type 0
 RunNone = (settings : Settings) (map : List ℕ) (s : State) (m n : List ℕ) (r : Finished) → power_why settings m map ≡ 0
-    → left (finished_page r) n ≡ run_page settings m map [] s → (r ≡ Finished.Done (still s)) × (n ≡ m)
+    → left (finished_page r) n ≡ run_page settings m map [] s → (r ≡ Ok (still s)) × (n ≡ m)
 
 abbrev pub NoneBefore : Type 0
 NoneBefore = (s : State) (a : Ran) → Halves 0 (still s) a a

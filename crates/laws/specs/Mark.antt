@@ -1,6 +1,6 @@
 -- WISH 3. IEN IS ONE OP CODE LATE ON OUR BOARDS: what the mark in the state is after any step and any power-up, and what it holds off.
 -- Whatever calls of `step` and `power_up` answer and leave, as their contracts promise.
-use Rattle.std.specs.Prelude.{ℕ, Bool, true, false, not, ◌&&◌, ◌||◌, cond, List, [], ◌∷◌, ◌≡◌, eqb}
+use Rattle.std.specs.Prelude.{ℕ, Bool, true, false, not, ◌&&◌, ◌||◌, cond, List, [], ◌∷◌, ◌≡◌, eqb, Ok}
 use Rattle.board.specs.Work.{image_word}
 use Rattle.wordmath.specs.Number.{bit}
 use Rattle.wordmath.specs.Status.{enable_of}
@@ -14,8 +14,6 @@ use Rattle.step.specs.declared.Cause.{Cause}
 use Rattle.step.specs.declared.Cause.TheVariants as Cause
 use Rattle.state.specs.State.{mode_number, ps_of}
 use Rattle.step.specs.Step.{cause_number}
-use Rattle.machine.specs.declared.Powered.TheVariants as Powered
-use Rattle.machine.specs.declared.Stepped.TheVariants as Stepped
 use Rattle.refusal.specs.Page.{left, told}
 use Rattle.wordbytes.specs.Words.{byte_at}
 use Rattle.machine_c.specs.Layout.{state_from}
@@ -56,7 +54,7 @@ mark_after s m Cause.Locked = s.mark
 
 -- a call of `step` that answered t and left the image n
 abbrev pub StepCall : Settings → List ℕ → List ℕ → ℕ → State → Turn → List ℕ → Type 0
-StepCall settings m map line s t n = left (stepped_page (Stepped.Done t)) n ≡ step_page settings m map line s
+StepCall settings m map line s t n = left (stepped_page (Ok t)) n ≡ step_page settings m map line s
 
 abbrev pub MarkAfter : Type 0
 MarkAfter = (settings : Settings) (m map : List ℕ) (line : ℕ) (s : State) (t : Turn) (n : List ℕ) → StepCall settings m map line s t n
@@ -65,7 +63,7 @@ MarkAfter = (settings : Settings) (m map : List ℕ) (line : ℕ) (s : State) (t
 -- ---- "Power-up clears it", whatever the power-up option
 
 abbrev pub PowerUpClears : Type 0
-PowerUpClears = (settings : Settings) (m map : List ℕ) (s : State) (n : List ℕ) → left (powered_page (Powered.Up s)) n ≡ power_up_page settings m map
+PowerUpClears = (settings : Settings) (m map : List ℕ) (s : State) (n : List ℕ) → left (powered_page (Ok s)) n ≡ power_up_page settings m map
     → s.mark ≡ false
 
 -- ---- "a mark in the state holds off steps 2 and 3": while it is set neither I1 nor I0 is heard, in any mode and on any line word: no

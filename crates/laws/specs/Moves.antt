@@ -1,7 +1,7 @@
 -- WISH 1. BLOCK MOVES, over the runs that users call: "Here one element is one step. .. With quiet lines, no blank, nothing written over
 -- the op code and neither register R0 or PC, the end is the page's. A blank drops only its own element. Under XCT the one element is the
 -- executed op code." Whatever runs and steps answer and leave, as their contracts promise.
-use Rattle.std.specs.Prelude.{ℕ, ◌+◌, ◌/◌, ◌<◌, Bool, true, false, not, ◌||◌, List, [], ◌++◌, ◌≡◌, length}
+use Rattle.std.specs.Prelude.{ℕ, ◌+◌, ◌/◌, ◌<◌, Bool, true, false, not, ◌||◌, List, [], ◌++◌, ◌≡◌, length, Ok}
 use Rattle.board.specs.Work.{value, run, image_word, with_word}
 use Rattle.wordmath.specs.Number.{bit}
 use Rattle.wordmath.specs.Address.{plus, minus}
@@ -20,7 +20,6 @@ use Rattle.step.specs.Block.{Ready}
 use Rattle.refusal.specs.Page.{left, told}
 use Rattle.refusal.specs.Refusal.{all_of}
 use Rattle.machine.specs.declared.Ran.{Ran}
-use Rattle.machine.specs.declared.Finished.TheVariants as Finished
 use Rattle.machine.specs.Run.{no_blanks}
 use Rattle.machine.specs.Block.{block_move}
 use Rattle.machine.specs.Entry.{finished_page, run_page}
@@ -35,7 +34,7 @@ use Rattle.laws.specs.Mark.{StepCall, LentSteps}
 pub data RunsOn (settings : Settings) (map : List ℕ) : State → List ℕ → List ℕ → ℕ → State → List ℕ → Type 0 where
   none : {s : State} {m : List ℕ} → RunsOn settings map s m [] 0 s m
   runs : {s : State} {m : List ℕ} (lines rest : List ℕ) {blanks : ℕ} {s' : State} {m' : List ℕ} (a : Ran) (m₁ : List ℕ)
-      → left (finished_page (Finished.Done a)) m₁ ≡ run_page settings m map lines s → RunsOn settings map a.state m₁ rest blanks s' m'
+      → left (finished_page (Ok a)) m₁ ≡ run_page settings m map lines s → RunsOn settings map a.state m₁ rest blanks s' m'
       → RunsOn settings map s m (lines ++ rest) (a.tally.blanks + blanks) s' m'
 
 -- the same for C, w the settings' bytes: each call is lent the state and the image that the last left
@@ -65,7 +64,7 @@ pub record Moves (settings : Settings) (map : List ℕ) (op : ℕ) (lines : List
 -- One run, where R0 is up to 4,096.
 abbrev pub RunMoves : Type 0
 RunMoves = (settings : Settings) (map : List ℕ) (op : ℕ) (lines : List ℕ) (s : State) (m : List ℕ) (a : Ran) (m' : List ℕ) → Moves settings map op lines s m
-    → left (finished_page (Finished.Done a)) m' ≡ run_page settings m map lines s
+    → left (finished_page (Ok a)) m' ≡ run_page settings m map lines s
     → (let end = block_move op (with_mark s false) m in (a.state ≡ end.state) × (m' ≡ end.image) × (a.tally ≡ no_blanks))
 
 -- Any number of runs, so that any count is covered.

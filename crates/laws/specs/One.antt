@@ -1,12 +1,9 @@
 -- A run of one line word and a step: from the definitions to the pages, and from the pages to the bytes for C.
-use Rattle.std.specs.Prelude.{ℕ, ◌||◌, cond, List, ◌≡◌, set, eqb}
+use Rattle.std.specs.Prelude.{ℕ, ◌||◌, cond, List, ◌≡◌, set, eqb, Ok, Err}
 use Rattle.step.specs.declared.Turn.{Turn}
 use Rattle.step.specs.Step.{blank_at}
 use Rattle.machine.specs.declared.Ran.{Ran}
-use Rattle.machine.specs.declared.Stepped.{Stepped}
-use Rattle.machine.specs.declared.Stepped.TheVariants as Stepped
-use Rattle.machine.specs.declared.Finished.{Finished}
-use Rattle.machine.specs.declared.Finished.TheVariants as Finished
+use Rattle.machine.specs.Entry.{Stepped, Finished}
 use Rattle.wordbytes.specs.Words.{byte_at, word_at}
 use Rattle.machine.specs.Numbers.{place, none}
 use Rattle.machine.specs.Run.{blank_noted, no_blanks}
@@ -18,8 +15,8 @@ ran_once t = record { state = t.state; tally = blank_noted no_blanks 0 (blank_at
 
 -- a step's answer as a run's; the same refusal
 abbrev pub as_run : Stepped → Finished
-as_run (Stepped.Done t) = Finished.Done (ran_once t)
-as_run (Stepped.Refused why) = Finished.Refused why
+as_run (Ok t) = Ok (ran_once t)
+as_run (Err why) = Err why
 
 -- ---- for C
 

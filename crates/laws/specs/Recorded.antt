@@ -3,23 +3,20 @@
 -- counts, missing neighbours or not. A channel with no reading has no lowest, highest or average."
 -- Over any calls of `scan`, from a fresh recorder on, each lent what the last left of it: whatever states, images, maps, settings and
 -- lines the calls are lent, and whatever refused calls stand among them. The same for C, where 194 zero bytes are a fresh recorder.
-use Rattle.std.specs.Prelude.{ℕ, ◌<◌, ◌≤◌, List, [], ◌∷◌, ◌++◌, ◌≡◌, length, replicate}
+use Rattle.std.specs.Prelude.{ℕ, ◌<◌, ◌≤◌, List, [], ◌∷◌, ◌++◌, ◌≡◌, length, replicate, Some, None, Ok, Err}
 use Rattle.state.specs.declared.State.{State}
 use Rattle.state.specs.declared.Settings.{Settings}
 use Rattle.wordbytes.specs.Words.{word_at}
+use Rattle.refusal.specs.declared.Refusal.{Refusal}
 use Rattle.refusal.specs.Page.{left, nothing, told}
 use Rattle.machine.specs.declared.Tally.{Tally}
-use Rattle.plugs.specs.declared.Channel.{Channel}
+use Rattle.plugs.specs.Plugs.{Channel}
 use Rattle.plugs.specs.declared.Readings.{Readings}
-use Rattle.plugs.specs.declared.Seen.TheVariants.{Nothing, Some}
 use Rattle.plugs.specs.declared.Plug.{Plug}
 use Rattle.plugs.specs.Report.{readings_of, blanks_of, report_of, column_of, reading_count, Spans}
 use Rattle.plugs.specs.Sum.{SumIs}
 use Rattle.recorder.specs.declared.Recorder.{Recorder}
-use Rattle.recorder.specs.declared.ScanEnd.TheVariants as ScanEnd
-use Rattle.recorder.specs.declared.Reported.{Reported}
-use Rattle.recorder.specs.declared.Reported.TheVariants as Reported
-use Rattle.recorder.specs.Scan.{new_recorder, answer_page, plug_page, reported_page, scan_of, report_page, most_scans}
+use Rattle.recorder.specs.Scan.{Reported, new_recorder, answer_page, plug_page, reported_page, scan_of, report_page, most_scans}
 use Rattle.recorder_c.specs.Layout.{channels_from, report_bytes}
 use Rattle.recorder_c.specs.Calls.{scan_call, report_call}
 
@@ -36,12 +33,12 @@ pub data Recorded : Recorder → List (List Channel) → Type 0 where
   -- a scan that was done: the recorder that it answers
   done : {r : Recorder} {scans : List (List Channel)} → Recorded r scans
       → (s : State) (channels : List Channel) (m map : List ℕ) (settings : Settings) (lines : List ℕ) (t : Tally) (r' : Recorder) (m' : List ℕ) → length channels ≡ 16
-      → left (answer_page (ScanEnd.Done t)) (r', m') ≡ scan_of (in_state s r) channels m map settings lines
+      → left (answer_page (Ok t)) (r', m') ≡ scan_of (in_state s r) channels m map settings lines
       → Recorded r' (scans ++ (channels ∷ []))
   -- one that was refused
   turned_away : {r : Recorder} {scans : List (List Channel)} → Recorded r scans
-      → (s : State) (channels : List Channel) (m map : List ℕ) (settings : Settings) (lines : List ℕ) (why : ℕ) (r' : Recorder) (m' : List ℕ)
-      → left (answer_page (ScanEnd.Refused why)) (r', m') ≡ scan_of (in_state s r) channels m map settings lines
+      → (s : State) (channels : List Channel) (m map : List ℕ) (settings : Settings) (lines : List ℕ) (why : Refusal) (r' : Recorder) (m' : List ℕ)
+      → left (answer_page (Err why)) (r', m') ≡ scan_of (in_state s r) channels m map settings lines
       → Recorded r' scans
 
 -- ---- the report of a channel, by what it was in each scan
@@ -51,14 +48,14 @@ pub record ReadsColumn (p : Plug) (column : List Channel) : Type 0 where
   pub blanks : p.blanks ≡ blanks_of column
   pub readings : reading_count p.seen ≡ length (readings_of column)
   -- "A channel with no reading has no lowest, highest or average"
-  pub nothing : readings_of column ≡ [] → p.seen ≡ Nothing
+  pub nothing : readings_of column ≡ [] → p.seen ≡ None
   -- "lowest, highest, and the average as sum and number, never rounded"
   pub spans : (r : Readings) → p.seen ≡ Some r → Spans r (readings_of column) × SumIs r.sum (readings_of column)
 
 -- a call of `report` that answered q
 pub record Reports (q : Reported) (column : List Channel) : Type 0 where
   pub plug : Plug
-  pub answer : q ≡ Reported.Channel plug
+  pub answer : q ≡ Ok plug
   pub is : plug ≡ report_of column
   pub reads : ReadsColumn plug column
 

@@ -2,11 +2,10 @@
 -- the manual's; else tell the first wrong step and its first wrong field. A trace shorter or longer than the job is wrong at the first
 -- missing or extra step, no field." Whatever a call of `wd16_check_trace` leaves in the six bytes of its verdict.
 -- (Of `check`: trace Right `accepted-only`, `accepted-if`, First `verdict-says`.)
-use Rattle.std.specs.Prelude.{ℕ, ◌<◌, List, ◌≡◌, length}
+use Rattle.std.specs.Prelude.{ℕ, ◌<◌, List, ◌≡◌, length, Ok}
 use Rattle.wordbytes.specs.Words.{byte_at, word_at}
 use Rattle.job.specs.Job.{why_job}
 use Rattle.trace.specs.declared.Verdict.{Verdict}
-use Rattle.trace.specs.declared.Checked.TheVariants as Checked
 use Rattle.trace.specs.Trace.{right_trace, trace_bytes, told_in, checked_page, check_of}
 use Rattle.trace.specs.First.{AtStep, EndsAt, Says}
 use Rattle.refusal.specs.Page.{left, told}
@@ -40,5 +39,5 @@ Wd16Tells = (job t b b' : List ℕ) → told 0 b' ≡ check_call job t b → Tel
 
 -- ---- the same of a call of `check` that answers a verdict: from step 0 on it says which entries differ first, and where (trace First `Says`)
 abbrev pub CheckTells : Type 0
-CheckTells = (job t image map lines : List ℕ) (v : Verdict) (image' map' lines' : List ℕ) → left (checked_page (Checked.Done v)) (image', map', lines') ≡ check_of job t image map lines
+CheckTells = (job t image map lines : List ℕ) (v : Verdict) (image' map' lines' : List ℕ) → left (checked_page (Ok v)) (image', map', lines') ≡ check_of job t image map lines
     → Says 0 (right_trace job) (told_in t) v

@@ -5,11 +5,11 @@
 ghost use Rattle.std.specs.Prelude.{◌≡◌, length};
 ghost use Rattle.listjob.specs.Stretch.{stretch_room};
 
-use benchline::Printed;
 use job::READ_OF_JOB;
 use listjob::STRETCH_ROOM;
-use printing::{put_first, put_refused, read_full, say_unless};
+use printing::{first, put_refused, read_full, say_unless};
 use refusal::MOST_LINE_WORDS;
+use std::io;
 use std::io::Print;
 
 // Room for the longest listing.
@@ -19,14 +19,14 @@ fn whole_listing() -> [u8; STRETCH_ROOM]
     [0; STRETCH_ROOM]
 }
 
-fn list_input(out: &impl Print, input: &[u8]) -> bool {
+fn list_input(out: &impl Print, input: &[u8]) -> io::Result<()> {
     let mut image = [0u8; 65536];
     let mut map = [0u8; 256];
     let mut lines = [0u16; MOST_LINE_WORDS];
     let mut text = whole_listing();
     match listjob::list_job(&mut text, input, &mut image, &mut map, &mut lines) {
-        Printed::Line(n) => put_first(out, &text, n),
-        Printed::Refused(why) => put_refused(out, why),
+        Ok(n) => out.write_all(first(&text, n)?),
+        Err(why) => put_refused(out, why),
     }
 }
 
@@ -35,5 +35,5 @@ fn main(rt: HostRuntime) {
     let mut input = [0u8; 4 + READ_OF_JOB];
     let got = read_full(&mut rt.stdin(), &mut input);
     let written = list_input(&rt.stdout(), &input[..got]);
-    say_unless(&rt.stderr(), written, b"list");
+    say_unless(&rt.stderr(), written, "list");
 }

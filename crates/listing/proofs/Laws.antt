@@ -21,16 +21,18 @@ use Rattle.refusal.specs.Refusal.{board_refusal}
 use Rattle.wordbytes.specs.Words.{word_at}
 use Rattle.board.specs.Work.{fitted}
 use Rattle.optext.specs.declared.Written.{Written}
-use Rattle.optext.specs.declared.Written.TheVariants.{Line}
+use Rattle.std.proofs.Common.{Result, Ok, Err}
+use Rattle.optext.specs.declared.WriteRefusal.{WriteRefusal}
+use Rattle.optext.specs.declared.WriteRefusal.TheVariants.{TextShort, NoWords, WordMissing}
 use Rattle.optext.specs.Rows.{rows, the_row}
 use Rattle.optext.specs.Line.{sep_text, word_text, taken, text_of}
-use Rattle.optext.specs.Answer.{written_page, in_front, Writes, write_word_of}
+use Rattle.optext.specs.Answer.{line, LinePage, written_page, in_front, Writes, write_word_of}
 use Rattle.optext.proofs.Laws.Calls.{line-written}
 use Rattle.listing.specs.declared.CodeFound.{CodeFound}
 use Rattle.listing.specs.declared.CodeFound.TheVariants.{Nothing, Cut, Whole}
 use Rattle.listing.specs.declared.Listed.{Listed}
 use Rattle.listing.specs.Listing.{all_stand, found_at, line_of, moves_on, FoundFits, listing_line, next_at}
-use Rattle.listing.specs.Calls.{lined, listed_page, bad_stretch, line_why, next_of, line_in, line_call}
+use Rattle.listing.specs.Calls.{lined, lined_of, listed_page, bad_stretch, line_why, next_of, line_in, line_call}
 use Rattle.listing.proofs.Laws.Joined.{taken-some, cond-none}
 
 -- ---- what is found
@@ -67,38 +69,44 @@ moves-few w (Whole n) h = h.1
 
 -- ---- the text, where there is room for it
 
-wrote : (line b e : List ℕ) (n m k : ℕ) → left (written_page (Line n m)) e ≡ in_front line k b → Wrote line b e n
-wrote line b e n m k h = record { bytes = ap (λ z. z.lent) h; count = ap (λ z. z.count) (PageLaws.answered-one (ap (λ z. z.page) h)) }
+-- a refusal is no line
+not_line : {p : LinePage} (why : WriteRefusal) → written_page (Err why) ≡ answered p → ⊥
+not_line TextShort q = PageLaws.apart (sym q)
+not_line NoWords q = PageLaws.apart (sym q)
+not_line WordMissing q = PageLaws.apart (sym q)
 
-module _ (w : ℕ) (b e : List ℕ) (r : Written) (h : 32 ≤ length b) (v : left (written_page r) e ≡ write_word_of w b) where
+wrote : (s b e : List ℕ) (n m k : ℕ) → left (written_page (line n m)) e ≡ in_front s k b → Wrote s b e n
+wrote s b e n m k h = record { bytes = ap (λ z. z.lent) h; count = ap (λ z. z.count) (PageLaws.answered-one (ap (λ z. z.page) h)) }
+
+module _ (w : ℕ) (b e : List ℕ) (r : Result Written WriteRefusal) (h : 32 ≤ length b) (v : left (written_page r) e ≡ write_word_of w b) where
   word-met : left (written_page r) e ≡ in_front (word_text w) 1 b
   unfolding write_word_of
   word-met = v ∙ rw (le-ltb (length b) 32 h) refl
 
-  pub word-wrote : (n m : ℕ) → r ≡ Line n m → Wrote (word_text w) b e n
+  pub word-wrote : (n m : ℕ) → r ≡ line n m → Wrote (word_text w) b e n
   word-wrote n m d = wrote (word_text w) b e n m 1 (ap (λ z. left (written_page z) e) (sym d) ∙ word-met)
 
-  pub word-never : {A : Type 0} (r' : Written) (k : ℕ) → r ≡ r' → written_page r' ≡ refused k → A
-  word-never r' k d q = absurd (PageLaws.apart (sym (ap (λ z. z.page) word-met) ∙ ap written_page d ∙ q))
+  pub word-never : (why : WriteRefusal) → r ≡ Err why → ⊥
+  word-never why d = not_line why (ap written_page (sym d) ∙ ap (λ z. z.page) word-met)
 
 pub word-length : (w : ℕ) → length (word_text w) ≡ 10
 unfolding word_text the_row rows sep_text hex4
 word-length w = refl
 
-module _ (ws b e : List ℕ) (r : Written) (h : 32 ≤ length b) (l : length ws ≡ taken (get_or ws 0 0)) (v : Writes ws b r e) where
+module _ (ws b e : List ℕ) (r : Result Written WriteRefusal) (h : 32 ≤ length b) (l : length ws ≡ taken (get_or ws 0 0)) (v : Writes ws b r e) where
   enough : taken (get_or ws 0 0) ≤ length ws
   enough = omega (arith, l)
 
   op-met : left (written_page r) e ≡ in_front (text_of ws) (taken (get_or ws 0 0)) b
   op-met = v.met ∙ line-written ws b h enough
 
-  pub op-wrote : (n m : ℕ) → r ≡ Line n m → Wrote (text_of ws) b e n × (n ≤ 24)
+  pub op-wrote : (n m : ℕ) → r ≡ line n m → Wrote (text_of ws) b e n × (n ≤ 24)
   op-wrote n m d =
       let c = wrote (text_of ws) b e n m (taken (get_or ws 0 0)) (ap (λ z. left (written_page z) e) (sym d) ∙ op-met) in
       (c, omega (arith, c.count, v.short))
 
-  pub op-never : {A : Type 0} (r' : Written) (k : ℕ) → r ≡ r' → written_page r' ≡ refused k → A
-  op-never r' k d q = absurd (PageLaws.apart (sym (ap (λ z. z.page) op-met) ∙ ap written_page d ∙ q))
+  pub op-never : (why : WriteRefusal) → r ≡ Err why → ⊥
+  op-never why d = not_line why (ap written_page (sym d) ∙ ap (λ z. z.page) op-met)
 
 -- as many of the three words as the op code has
 pub whole-count : (w x y n : ℕ) → n ≡ taken w → n ≤ 3 → length (take n (w ∷ x ∷ y ∷ [])) ≡ taken (get_or (take n (w ∷ x ∷ y ∷ [])) 0 0)
@@ -141,6 +149,6 @@ module _ (image map : List ℕ) (a last : ℕ) (b : List ℕ) where
 
   pub call_line : (w x y n m : ℕ) (e : List ℕ) (f : CodeFound) (r : Listed) → line_why (length image) map a last (length b) ≡ 0 → f ≡ found_at map image last a
       → w ≡ word_at image a → x ≡ word_at image (a + 2) → y ≡ word_at image (a + 4) → Wrote (line_of a (w ∷ x ∷ y ∷ []) f) b e n → m ≡ moves_on f
-      → listed_page r ≡ answered (lined n (next_of last (a + m * 2))) → left (listed_page r) e ≡ line_call image map a last b
+      → lined_of r ≡ lined n (next_of last (a + m * 2)) → left (listed_page (Ok r)) e ≡ line_call image map a last b
   unfolding line_call listing_line next_at
   call_line w x y n m e f r z g p q s v u t = rw (z, t, v.bytes, v.count, u, p, q, s, g) refl

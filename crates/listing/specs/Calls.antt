@@ -1,11 +1,12 @@
 -- What the writer of one line of a listing must answer and leave.
-use Rattle.std.specs.Prelude.{ℕ, ◌%◌, Bool, ◌||◌, cond, List, [], ◌∷◌, ◌≡◌, length, take, eqb, ltb}
+use Rattle.std.specs.Prelude.{Option, Some, None, Result, ℕ, ◌%◌, Bool, ◌||◌, cond, List, [], ◌∷◌, ◌≡◌, length, take, eqb, ltb}
 use Rattle.hexdigits.specs.Over.{in_front_of}
 use Rattle.refusal.specs.Numbers.{no_stretch, text_short}
-use Rattle.refusal.specs.Page.{Page, refused, answered, Left, left, call, first}
+use Rattle.refusal.specs.Page.{Page, answered, Left, left, call, first}
 use Rattle.refusal.specs.Refusal.{board_refusal}
 use Rattle.listing.specs.declared.Listed.{Listed}
-use Rattle.listing.specs.declared.Listed.TheVariants.{Line, Last, Refused}
+use Rattle.refusal.specs.declared.Refusal.{Refusal}
+use Rattle.refusal.specs.Answer.{page_of}
 use Rattle.listing.specs.Listing.{listing_line, next_at}
 
 -- ---- the answer: the line's length, and the address of the next line or that it is the last
@@ -21,10 +22,15 @@ pub record Lined : Type 0 where
 abbrev pub lined : ℕ → Next → Lined
 lined n x = record { count = n; next = x }
 
-abbrev pub listed_page : Listed → Page Lined
-listed_page (Line n a) = answered (lined n (goes_on a))
-listed_page (Last n) = answered (lined n ends)
-listed_page (Refused why) = refused why
+abbrev pub next_told : Option ℕ → Next
+next_told (Some a) = goes_on a
+next_told None = ends
+
+abbrev pub lined_of : Listed → Lined
+lined_of l = lined l.length (next_told l.next)
+
+abbrev pub listed_page : Result Listed Refusal → Page Lined
+listed_page r = page_of lined_of r
 
 -- ---- refusals: 1, 2 and 3 of the image and the map; 23, an odd address, or a last below the first; 8, the text is under 52
 

@@ -8,29 +8,28 @@ ghost use Rattle.board.specs.Work as Work;
 ghost use Rattle.benchline.specs.Line.{dashes, field, fields};
 ghost use Rattle.optext.specs.Line.{taken, text_of, word_text};
 ghost use Rattle.listing.specs.Listing as Spec;
-ghost use Rattle.refusal.specs.Page.{answered, left};
+ghost use Rattle.refusal.specs.Page.{left};
+ghost use Rattle.refusal.specs.Answer.{why_of};
 ghost use Rattle.listing.specs.Calls as Call;
 
 use benchline::{put_dashes, put_field};
-use optext::Written;
-use refusal::board_refusal;
-use refusal::number::{NO_STRETCH, TEXT_SHORT};
+use refusal::{Refusal, board_refusal};
 use wordbytes::{byte_at, word_at};
 
-// What stands at an address: nothing is fitted there; an op code that is cut; or a whole op code, with the number of its words.
-#[derive(Clone, Copy)]
+// What stands at an address: nothing is fitted there; an op code that is cut; or a whole op code, with the number of its words. These
+// are three cases, so no Option.
+#[derive(Clone, Copy, PartialEq, Eq)]
 pub enum CodeFound {
     Nothing,
     Cut,
     Whole(usize),
 }
 
-// What is answered: the line's length, and the address of the next line or that it is the last; or a refusal's number.
-#[derive(Clone, Copy)]
-pub enum Listed {
-    Line(usize, u16),
-    Last(usize),
-    Refused(u8),
+// A line that is listed: its length, and the address of the next line; there is none after the last.
+#[derive(Clone, Copy, PartialEq, Eq)]
+pub struct Listed {
+    pub length: usize,
+    pub next: Option<u16>,
 }
 
 fn fitted(map: &[u8], a: usize) -> bool
@@ -94,11 +93,9 @@ fn put_fields(text: &mut [u8], values: [u16; 4], n: usize) -> usize
     requires { (20 ≤ length text.old) × (n ≤ 4) }
     ensures { Wrote (fields values n) text.old text.new result }
 {
-    let mut i: usize = 0;
-    let mut at: usize = 0;
-    while i < n {
+    let mut at = 0;
+    for i in 0..n {
         at = field_at(text, at, values[i]);
-        i += 1;
     }
     at
 }
@@ -117,10 +114,8 @@ fn put_word(out: &mut [u8], w: u16) -> usize
     ensures { Wrote (word_text w) out.old out.new result }
 {
     match optext::write_word(w, out) {
-        Written::Line(n, _) => n,
-        Written::TextShort => 0,
-        Written::NoWords => 0,
-        Written::WordMissing => 0,
+        Ok(line) => line.length,
+        Err(_) => unreachable!(),
     }
 }
 
@@ -137,10 +132,8 @@ fn put_op(out: &mut [u8], words: &[u16]) -> usize
     ensures { Wrote (text_of words.now) out.old out.new result × (result ≤ 24) }
 {
     match optext::write(words, out) {
-        Written::Line(n, _) => n,
-        Written::TextShort => 0,
-        Written::NoWords => 0,
-        Written::WordMissing => 0,
+        Ok(line) => line.length,
+        Err(_) => unreachable!(),
     }
 }
 
@@ -197,47 +190,50 @@ pub fn bad_stretch(a: u16, last: u16) -> bool
 }
 
 // 1, 2, 3, 23 or 8.
-fn line_refusal(size: usize, map: &[u8], a: u16, last: u16, text: usize) -> u8
-    ensures { result ≡ Call.line_why size map.now a last text }
+fn line_refusal(size: usize, map: &[u8], a: u16, last: u16, text: usize) -> Result<(), Refusal>
+    ensures { why_of result ≡ Call.line_why size map.now a last text }
 {
-    let why = board_refusal(size, map);
-    if why != 0 {
-        return why;
-    }
+    board_refusal(size, map)?;
     if bad_stretch(a, last) {
-        return NO_STRETCH;
+        return Err(Refusal::NoStretch);
     }
     if text < 52 {
-        return TEXT_SHORT;
+        return Err(Refusal::TextShort);
     }
-    0
+    Ok(())
 }
 
 // The line is the last where the next address is past the stretch.
-fn told(n: usize, last: u16, next: usize) -> Listed
-    ensures { Call.listed_page result ≡ answered (Call.lined n (Call.next_of last next)) }
+fn told(length: usize, last: u16, next: usize) -> Listed
+    ensures { Call.lined_of result ≡ Call.lined length (Call.next_of last next) }
 {
     if (last as usize) < next {
-        return Listed::Last(n);
+        return Listed { length, next: None };
     }
-    Listed::Line(n, next as u16)
+    Listed {
+        length,
+        next: Some(next as u16),
+    }
 }
 
 // Writes the line at the address a, of a stretch that ends at `last`, in front of the text: address, words, text, a space apart,
 // and no line end. The lines of a stretch are those at its first address and at each next address that is answered. Or 1, 2, 3, 23
 // or 8.
-pub fn list_line(image: &[u8], map: &[u8], a: u16, last: u16, text: &mut [u8]) -> Listed
+pub fn list_line(
+    image: &[u8],
+    map: &[u8],
+    a: u16,
+    last: u16,
+    text: &mut [u8],
+) -> Result<Listed, Refusal>
     ensures { left (Call.listed_page result) text.new ≡ Call.line_call image.now map.now a last text.old }
 {
-    let why = line_refusal(image.len(), map, a, last, text.len());
-    if why != 0 {
-        return Listed::Refused(why);
-    }
+    line_refusal(image.len(), map, a, last, text.len())?;
     let at = a as usize;
     let found = found_at(map, image, last as usize, at);
     let w = word_at(image, at);
     let x = word_at(image, at + 2);
     let y = word_at(image, at + 4);
     let n = put_line(text, a, w, x, y, found);
-    told(n, last, at + moves_on(found) * 2)
+    Ok(told(n, last, at + moves_on(found) * 2))
 }

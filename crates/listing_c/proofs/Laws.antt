@@ -16,9 +16,11 @@ use Rattle.optext.proofs.Laws.Longest.{text-le}
 use Rattle.optext.proofs.Laws.Meets.{taken-le}
 use Rattle.listing.specs.declared.CodeFound.TheVariants.{Nothing, Cut, Whole}
 use Rattle.listing.specs.declared.Listed.{Listed}
-use Rattle.listing.specs.declared.Listed.TheVariants.{Line, Last, Refused}
+use Rattle.std.proofs.Common.{Result, Ok, Err}
+use Rattle.refusal.specs.declared.Refusal.{Refusal}
+use Rattle.refusal.specs.Answer.{number}
 use Rattle.listing.specs.Listing.{all_stand, words_at, found_at, line_of, listing_line, next_at}
-use Rattle.listing.specs.Calls.{Lined, lined, listed_page, line_why, next_of, line_call}
+use Rattle.listing.specs.Calls.{Lined, lined, lined_of, listed_page, line_why, next_of, line_call}
 use Rattle.listing.proofs.Laws.{word-length}
 use Rattle.answer.specs.Answer.{three_words, place_words, answer_why}
 use Rattle.answer.proofs.Laws.{bad, given}
@@ -50,11 +52,8 @@ told-short image map a last b e p h = by (line_why (length image) map a last (le
     by zero t d = let q : count_in p ≡ length (listing_line map image last a) = ap (λ z. count_in z.page) d in omega (arith, q, line-few map image last a)
     by (suc why) t d = let q : count_in p ≡ 0 = ap (λ z. count_in z.page) d in omega (arith, q)
 
-pub line-told : (image map : List ℕ) (a last : ℕ) (b e : List ℕ) (r : Listed) (n x : ℕ) → r ≡ Line n x → left (listed_page r) e ≡ line_call image map a last b → n < 65536
-line-told image map a last b e r n x q h = told-short image map a last b e (listed_page (Line n x)) (rw q at h)
-
-pub last-told : (image map : List ℕ) (a last : ℕ) (b e : List ℕ) (r : Listed) (n : ℕ) → r ≡ Last n → left (listed_page r) e ≡ line_call image map a last b → n < 65536
-last-told image map a last b e r n q h = told-short image map a last b e (listed_page (Last n)) (rw q at h)
+pub line-told : (image map : List ℕ) (a last : ℕ) (b e : List ℕ) (r : Result Listed Refusal) (l : Listed) → r ≡ Ok l → left (listed_page r) e ≡ line_call image map a last b → l.length < 65536
+line-told image map a last b e r l q h = told-short image map a last b e (listed_page (Ok l)) (rw q at h)
 
 -- ---- the call
 
@@ -66,15 +65,11 @@ module _ (image map : List ℕ) (a last : ℕ) (t b : List ℕ) (n : ℕ) (h : n
   unfolding list_call
   list-bad some = bad (λ p t. (t, next_words_of p)) beside (λ t. (t, b)) (answer_why b) n (line_call image map a last t) t h some
 
-  module _ (none : n ≡ 0) (t' : List ℕ) (r : Listed) (e : left (listed_page r) t' ≡ line_call image map a last t) where
-    pub goes_on : (k x : ℕ) (b' : List ℕ) → r ≡ Line k x → b' ≡ three_words k x 0 → told 0 (t', b') ≡ list_call image map a last t b
+  module _ (none : n ≡ 0) (t' : List ℕ) (r : Result Listed Refusal) (e : left (listed_page r) t' ≡ line_call image map a last t) where
+    pub goes_on : (l : Listed) (b' : List ℕ) → r ≡ Ok l → b' ≡ next_words_of (lined_of l) → told 0 (t', b') ≡ list_call image map a last t b
     unfolding list_call
-    goes_on k x b' q p = given (λ p t. (t, next_words_of p)) beside (λ t. (t, b)) (answer_why b) n (line_call image map a last t) t h none _ (rw (← e, q, p) refl)
+    goes_on l b' q p = given (λ p t. (t, next_words_of p)) beside (λ t. (t, b)) (answer_why b) n (line_call image map a last t) t h none _ (rw (← e, q, p) refl)
 
-    pub ended : (k : ℕ) (b' : List ℕ) → r ≡ Last k → b' ≡ three_words k 0 1 → told 0 (t', b') ≡ list_call image map a last t b
+    pub stopped : (why : Refusal) (k : ℕ) → r ≡ Err why → k ≡ number why → told k (t', b) ≡ list_call image map a last t b
     unfolding list_call
-    ended k b' q p = given (λ p t. (t, next_words_of p)) beside (λ t. (t, b)) (answer_why b) n (line_call image map a last t) t h none _ (rw (← e, q, p) refl)
-
-    pub stopped : (why : ℕ) → r ≡ Refused why → told why (t', b) ≡ list_call image map a last t b
-    unfolding list_call
-    stopped why q = given (λ p t. (t, next_words_of p)) beside (λ t. (t, b)) (answer_why b) n (line_call image map a last t) t h none _ (rw (← e, q) refl)
+    stopped why k q d = given (λ p t. (t, next_words_of p)) beside (λ t. (t, b)) (answer_why b) n (line_call image map a last t) t h none _ (rw (← e, q, d) refl)

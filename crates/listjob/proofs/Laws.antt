@@ -27,13 +27,14 @@ use Rattle.optext.proofs.Laws.Longest.{text-le}
 use Rattle.listing.specs.declared.CodeFound.{CodeFound}
 use Rattle.listing.specs.declared.CodeFound.TheVariants.{Nothing, Cut, Whole}
 use Rattle.listing.specs.declared.Listed.{Listed}
-use Rattle.listing.specs.declared.Listed.TheVariants.{Line, Last, Refused}
+use Rattle.std.proofs.Common.{Result, Ok, Err}
+use Rattle.refusal.specs.declared.Refusal.{Refusal}
 use Rattle.listing.specs.Listing.{all_stand, words_at, found_at, line, line_of, moves_on, listing_line, next_at, listing_of}
-use Rattle.listing.specs.Calls.{Next, goes_on, ends, lined, listed_page, bad_stretch, line_why, next_of, line_in, line_call}
+use Rattle.listing.specs.Calls.{Next, goes_on, ends, next_told, lined, listed_page, bad_stretch, line_why, next_of, line_in, line_call}
 use Rattle.listing.proofs.Laws.{word-length, room-there}
 use Rattle.listing.proofs.Laws as ListingLaws
 use Rattle.listing.proofs.Laws.Joined.{taken-some, cond-none, GoodStretch, good, next-further, goes-on, ends-past, listing-more, listing-end}
-use Rattle.listjob.specs.Stretch.{first_address, last_address, job_in, line_end, ended, listing_on, listing_in, stretch_room, stretch_why, list_why, listed_in, list_of, LineFits, Lists, end_of_line, moved_by, next_page, Goes, ended_at}
+use Rattle.listjob.specs.Stretch.{first_address, last_address, job_in, line_end, ended, listing_on, listing_in, stretch_room, stretch_why, list_why, listed_in, list_of, LineFits, Lists, ended_at}
 use Rattle.listjob.proofs.Laws.Follow.{goes-within, next-good, other-taken}
 
 -- ---- how long a line is: 44 characters at most, and with its end 35 for each of its words
@@ -70,7 +71,7 @@ module _ (map image : List ℕ) (last a : ℕ) where
 -- ---- a line and its end
 
 module _ (image map : List ℕ) (a last : ℕ) (b : List ℕ) (z : line_why (length image) map a last (length b) ≡ 0) where
-  line-is : (r : Listed) (e : List ℕ) → left (listed_page r) e ≡ line_call image map a last b → left (listed_page r) e ≡ line_in image map a last b
+  line-is : (r : Result Listed Refusal) (e : List ℕ) → left (listed_page r) e ≡ line_call image map a last b → left (listed_page r) e ≡ line_in image map a last b
   unfolding line_call
   line-is r e h = rw z at h
 
@@ -90,14 +91,11 @@ module _ (image map : List ℕ) (a last : ℕ) (b : List ℕ) (z : line_why (len
       let t = answered-one (ap (λ z. z.page) h) in
       record { wrote = record { bytes = ap (λ z. z.lent) h; count = ap (λ z. z.count) t }; next = ap (λ z. z.next) t }
 
-  pub listing-line : (n next : ℕ) (r : Listed) (e : List ℕ) → r ≡ Line n next → left (listed_page r) e ≡ line_call image map a last b → Listing n (goes_on next) e
-  listing-line n next r e d h = listing n (goes_on next) e (ap (λ z. left (listed_page z) e) (sym d) ∙ line-is r e h)
+  pub listing-line : (k : Listed) (r : Result Listed Refusal) (e : List ℕ) → r ≡ Ok k → left (listed_page r) e ≡ line_call image map a last b → Listing k.length (next_told k.next) e
+  listing-line k r e d h = listing k.length (next_told k.next) e (ap (λ z. left (listed_page z) e) (sym d) ∙ line-is r e h)
 
-  pub listing-last : (n : ℕ) (r : Listed) (e : List ℕ) → r ≡ Last n → left (listed_page r) e ≡ line_call image map a last b → Listing n ends e
-  listing-last n r e d h = listing n ends e (ap (λ z. left (listed_page z) e) (sym d) ∙ line-is r e h)
-
-  pub listing-never : {A : Type 0} (why : ℕ) (r : Listed) (e : List ℕ) → r ≡ Refused why → left (listed_page r) e ≡ line_call image map a last b → A
-  listing-never why r e d h = absurd (apart (sym (ap (λ z. z.page) (ap (λ z. left (listed_page z) e) (sym d) ∙ line-is r e h))))
+  pub listing-never : (why : Refusal) (r : Result Listed Refusal) (e : List ℕ) → r ≡ Err why → left (listed_page r) e ≡ line_call image map a last b → ⊥
+  listing-never why r e d h = apart (sym (ap (λ z. z.page) (ap (λ z. left (listed_page z) e) (sym d) ∙ line-is r e h)))
 
   pub fits-end : (n : ℕ) (x : Next) (e : List ℕ) → Listing n x e → n + 1 ≤ length b
   fits-end n x e g = omega (arith, g.wrote.count, line-short map image last a, room-there (length image) map a last (length b) z)
@@ -113,17 +111,6 @@ ended-short image map a last = omega (arith, length-append (listing_line map ima
 pub part-taken : (image map : List ℕ) (a last at : ℕ) (text : List ℕ) → LineFits image map a last at text → line_why (length image) map a last (length (mid_of at (length text - at) text)) ≡ 0
 part-taken image map a last at text f =
     other-taken (length image) map a last 52 a (length (mid_of at (length text - at) text)) f.none (good (length image) map a last 52 f.none) (part_room at 52 text f.there)
-
-module _ (image map : List ℕ) (a last : ℕ) where
-  pub moved-end : (at : ℕ) (r : Listed) → Goes image map a last r → end_of_line (moved_by at r) ≡ at + end_of_line r
-  moved-end at (Line n next) g = refl
-  moved-end at (Last n) g = refl
-  moved-end at (Refused why) g = absurd (apart (sym g))
-
-  pub moved-goes : (at : ℕ) (r : Listed) → Goes image map a last r → Goes image map a last (moved_by at r)
-  moved-goes at (Line n next) g = g
-  moved-goes at (Last n) g = g
-  moved-goes at (Refused why) g = g
 
 -- ---- all of a stretch
 
@@ -144,6 +131,9 @@ module _ (image map : List ℕ) (first last : ℕ) (start : List ℕ) where
     stretch : GoodStretch a last
     stretch = good (length image) map a last 52 b.none
 
+    pub begun-low : a < 65536
+    begun-low = omega (arith, k, stretch.within)
+
     pub begun-fits : stretch_room ≤ length start → LineFits image map a last at text
     begun-fits h = record { none = b.none; there = omega (arith, h, k, b.low, b.size, stretch.within, stretch.even); low = omega (arith, k, b.low, stretch.within) }
 
@@ -153,9 +143,9 @@ module _ (image map : List ℕ) (first last : ℕ) (start : List ℕ) where
     from-here = ap ended (listing-more map image last a stretch.within (omega (arith, k, stretch.last_even)))
 
     module _ (e : List ℕ) (n : ℕ) (w : WroteAt at (ended_at image map a last) text e n) where
-      pub begun_more : (next : ℕ) → length e ≡ length text → Goes image map a last (Line n next) → Begun e next n
+      pub begun_more : (next : ℕ) → length e ≡ length text → goes_on next ≡ next_of last (next_at map image last a) → Begun e next n
       begun_more next l g =
-          let q = answered-one g in
+          let q = g in
           let p = goes-on image map last (next_at map image last a) next q in
           let within = goes-within image map last (next_at map image last a) next q in
           rw p
@@ -168,22 +158,14 @@ module _ (image map : List ℕ) (first last : ℕ) (start : List ℕ) where
             size = l ∙ b.size;
           }
 
-      pub begun-further : (next : ℕ) → Goes image map a last (Line n next) → a < next
-      begun-further next g = omega (arith, goes-on image map last (next_at map image last a) next (answered-one g), next-further map image last a)
+      pub begun-further : (next : ℕ) → goes_on next ≡ next_of last (next_at map image last a) → a < next
+      begun-further next g = omega (arith, goes-on image map last (next_at map image last a) next g, next-further map image last a)
 
-      pub begun-last : Goes image map a last (Last n) → Wrote (listing_on image map first last) start e n
+      pub begun-last : ends ≡ next_of last (next_at map image last a) → Wrote (listing_on image map first last) start e n
       unfolding ended
       begun-last g =
-          let z = ap ended (listing-end map image last (next_at map image last a) (ends-past image map last (next_at map image last a) (answered-one g))) in
+          let z = ap ended (listing-end map image last (next_at map image last a) (ends-past image map last (next_at map image last a) g)) in
           rw (b.whole, from-here, z, append-nil (ended_at image map a last)) (then b.before (ended_at image map a last) start text e at n b.wrote w)
-
-pub never-refused : {A : Type 0} (image map : List ℕ) (a last why : ℕ) → Goes image map a last (Refused why) → A
-never-refused image map a last why g = absurd (apart (sym g))
-
--- what is known of an answer is known of the case that it is
-pub told-as : (image map : List ℕ) (a last at : ℕ) (b e : List ℕ) (r q : Listed) → r ≡ q → WroteAt at (ended_at image map a last) b e (end_of_line r) × Goes image map a last r
-    → WroteAt at (ended_at image map a last) b e (end_of_line q) × Goes image map a last q
-told-as image map a last at b e r q d h = subst (λ (z : Listed). WroteAt at (ended_at image map a last) b e (end_of_line z) × Goes image map a last z) d h
 
 -- ---- refusals
 

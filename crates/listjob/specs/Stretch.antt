@@ -3,13 +3,12 @@ use Rattle.std.specs.Prelude.{ℕ, ◌+◌, ◌≤◌, cond, List, [], ◌∷◌
 use Rattle.wordbytes.specs.Words.{word_at}
 use Rattle.hexdigits.specs.Over.{in_front_of}
 use Rattle.refusal.specs.Numbers.{job_ends, no_stretch}
-use Rattle.refusal.specs.Page.{Page, refused, answered, Left, left, call, first}
+use Rattle.refusal.specs.Page.{answered, Left, left, call, first}
 use Rattle.job.specs.Job.{image_of, map_of, lines_of, why_read}
 use Rattle.benchline.specs.Line.{print_why}
 use Rattle.listing.specs.Listing.{listing_line, next_at, listing_of}
 use Rattle.listing.specs.declared.Listed.{Listed}
-use Rattle.listing.specs.declared.Listed.TheVariants.{Line, Last, Refused}
-use Rattle.listing.specs.Calls.{Next, goes_on, ends, bad_stretch, line_why, next_of}
+use Rattle.listing.specs.Calls.{next_told, bad_stretch, line_why, next_of}
 
 -- ---- what is read: "the two addresses, two bytes each, low first, and then a job"
 
@@ -71,24 +70,9 @@ pub record LineFits (image map : List ℕ) (a last at : ℕ) (text : List ℕ) :
   pub there : at + 52 ≤ length text
   pub low : at ≤ stretch_room
 
--- where an answered line ends, and where the next is
-abbrev pub end_of_line : Listed → ℕ
-end_of_line (Line n next) = n
-end_of_line (Last n) = n
-end_of_line (Refused why) = 0
-
-abbrev pub moved_by : ℕ → Listed → Listed
-moved_by at (Line n next) = Line (at + n) next
-moved_by at (Last n) = Last (at + n)
-moved_by at (Refused why) = Refused why
-
-abbrev pub next_page : Listed → Page Next
-next_page (Line n next) = answered (goes_on next)
-next_page (Last n) = answered ends
-next_page (Refused why) = refused why
-
+-- where the next line is
 abbrev pub Goes : List ℕ → List ℕ → ℕ → ℕ → Listed → Type 0
-Goes image map a last r = next_page r ≡ answered (next_of last (next_at map image last a))
+Goes image map a last l = next_told l.next ≡ next_of last (next_at map image last a)
 
 abbrev pub ended_at : List ℕ → List ℕ → ℕ → ℕ → List ℕ
 ended_at image map a last = listing_line map image last a ++ line_end

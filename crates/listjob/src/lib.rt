@@ -4,13 +4,14 @@
 ghost use Rattle.std.specs.Prelude.{◌≡◌, ◌+◌, ◌≤◌, length};
 ghost use Rattle.hexdigits.specs.Over.{Wrote, WroteAt};
 ghost use Rattle.refusal.specs.Page.{left};
+ghost use Rattle.refusal.specs.Answer.{why_of};
 ghost use Rattle.benchline.specs.Line.{printed_page};
 ghost use Rattle.listing.specs.Calls.{line_why};
 ghost use Rattle.listjob.specs.Stretch as Spec;
 
-use benchline::Printed;
+use hexdigits::put_text;
 use listing::Listed;
-use refusal::number::{JOB_ENDS, NO_STRETCH, TEXT_SHORT};
+use refusal::Refusal;
 use wordbytes::word_at;
 
 // Room for the longest listing.
@@ -21,8 +22,7 @@ fn put_end(out: &mut [u8]) -> usize
     requires { 1 ≤ length out.old }
     ensures { Wrote Spec.line_end out.old out.new result }
 {
-    out[0] = b'\n';
-    1
+    put_text(out, b"\n")
 }
 
 fn end_at(text: &mut [u8], at: usize) -> usize
@@ -32,38 +32,31 @@ fn end_at(text: &mut [u8], at: usize) -> usize
     at + put_end(&mut text[at..])
 }
 
-// The line at the address a with its end, in front of the text; where it ends, and the next address.
+// The line at the address a with its end, in front of the text: where it ends, and the next address.
 fn put_line(image: &[u8], map: &[u8], a: u16, last: u16, text: &mut [u8]) -> Listed
     requires { line_why (length image.now) map.now a last (length text.old) ≡ 0 }
-    ensures { Wrote (Spec.ended_at image.now map.now a last) text.old text.new (Spec.end_of_line result)
-        × Spec.Goes image.now map.now a last result }
+    ensures { Wrote (Spec.ended_at image.now map.now a last) text.old text.new result.length × Spec.Goes image.now map.now a last result }
 {
     match listing::list_line(image, map, a, last, text) {
-        Listed::Line(n, next) => Listed::Line(end_at(text, n), next),
-        Listed::Last(n) => Listed::Last(end_at(text, n)),
-        Listed::Refused(why) => Listed::Refused(why),
-    }
-}
-
-// What is told of a line that begins at a place.
-fn moved(at: usize, listed: Listed) -> Listed
-    requires { at + Spec.end_of_line listed ≤ 4294967295 }
-    ensures { result ≡ Spec.moved_by at listed }
-{
-    match listed {
-        Listed::Line(n, next) => Listed::Line(at + n, next),
-        Listed::Last(n) => Listed::Last(at + n),
-        Listed::Refused(why) => Listed::Refused(why),
+        Ok(line) => Listed {
+            length: end_at(text, line.length),
+            next: line.next,
+        },
+        Err(_) => unreachable!(),
     }
 }
 
 // The same from a place of the text on.
 fn line_at(image: &[u8], map: &[u8], a: u16, last: u16, text: &mut [u8], at: usize) -> Listed
     requires { Spec.LineFits image.now map.now a last at text.old }
-    ensures { WroteAt at (Spec.ended_at image.now map.now a last) text.old text.new (Spec.end_of_line result)
+    ensures { WroteAt at (Spec.ended_at image.now map.now a last) text.old text.new result.length
         × Spec.Goes image.now map.now a last result }
 {
-    moved(at, put_line(image, map, a, last, &mut text[at..]))
+    let line = put_line(image, map, a, last, &mut text[at..]);
+    Listed {
+        length: at + line.length,
+        next: line.next,
+    }
 }
 
 // The lines of a stretch, one after the other; answers where they end.
@@ -72,37 +65,40 @@ fn list_all(image: &[u8], map: &[u8], first: u16, last: u16, text: &mut [u8]) ->
     ensures { Wrote (Spec.listing_on image.now map.now first last) text.old text.new result }
 {
     let mut a = first;
-    let mut at: usize = 0;
+    let mut at = 0;
     loop {
-        match line_at(image, map, a, last, text, at) {
-            Listed::Line(end, next) => {
-                at = end;
+        let line = line_at(image, map, a, last, text, at);
+        match line.next {
+            Some(next) => {
+                at = line.length;
                 a = next;
             }
-            Listed::Last(end) => return end,
-            Listed::Refused(_) => return 0,
+            None => return line.length,
         }
     }
 }
 
-// 8, 11, the job's own, 23; or 0.
-fn list_refusal(text: usize, input: &[u8], image: usize, map: usize, lines: usize) -> u8
-    ensures { result ≡ Spec.list_why input.now text image map lines }
+// 8, 11, the job's own, 23.
+fn list_refusal(
+    text: usize,
+    input: &[u8],
+    image: usize,
+    map: usize,
+    lines: usize,
+) -> Result<(), Refusal>
+    ensures { why_of result ≡ Spec.list_why input.now text image map lines }
 {
     if text < STRETCH_ROOM {
-        return TEXT_SHORT;
+        return Err(Refusal::TextShort);
     }
     if input.len() < 4 {
-        return JOB_ENDS;
+        return Err(Refusal::JobEnds);
     }
-    let why = job::refusal(image, map, lines, &input[4..]);
-    if why != 0 {
-        return why;
-    }
+    job::refusal(image, map, lines, &input[4..])?;
     if listing::bad_stretch(word_at(input, 0), word_at(input, 2)) {
-        return NO_STRETCH;
+        return Err(Refusal::NoStretch);
     }
-    0
+    Ok(())
 }
 
 // Lists the stretch of a job's image between the two addresses that stand before the job, into the front of the text: address, words,
@@ -115,14 +111,11 @@ pub fn list_job(
     image: &mut [u8],
     map: &mut [u8],
     lines: &mut [u16],
-) -> Printed
+) -> Result<usize, Refusal>
     ensures { left (printed_page result) (text.new, image.new, map.new, lines.new)
         ≡ Spec.list_of input.now text.old image.old map.old lines.old }
 {
-    let why = list_refusal(text.len(), input, image.len(), map.len(), lines.len());
-    if why != 0 {
-        return Printed::Refused(why);
-    }
+    list_refusal(text.len(), input, image.len(), map.len(), lines.len())?;
     job::fill(&input[4..], image, map, lines);
-    Printed::Line(list_all(image, map, word_at(input, 0), word_at(input, 2), text))
+    Ok(list_all(image, map, word_at(input, 0), word_at(input, 2), text))
 }

@@ -7,7 +7,6 @@ use Rattle.format8.specs.Format8.{move_row}
 use Rattle.opcodes.specs.Fields.{block_source, block_destination}
 use Rattle.format8.specs.Page.{element_count, image_moved, state_moved}
 use Rattle.step.specs.declared.Cause.{Cause}
-use Rattle.step.specs.declared.Cause.TheVariants as Cause
 use Rattle.step.specs.Step.{After, after}
 use Rattle.step.specs.Block.{Unheard}
 use Rattle.machine.specs.Run.{no_blanks}

@@ -1,16 +1,15 @@
 -- A run's end is its trail's, its count of blanks the number of blanks on the trail, its first place the least of theirs, with the address told there.
-use Rattle.std.specs.Prelude.{ℕ, ◌+◌}
+use Rattle.std.specs.Prelude.{ℕ, ◌+◌, Option, Some, None}
 use Rattle.machine.specs.declared.Tally.{Tally}
-use Rattle.machine.specs.declared.First.{First}
-use Rattle.machine.specs.declared.First.TheVariants.{At, Never}
+use Rattle.machine.specs.declared.FirstBlank.{FirstBlank}
 use Rattle.machine.specs.Trail.{place_moved}
 
 -- ---- tallies add up
 
 -- the first of two
-abbrev pub or_first : First → First → First
-or_first (At p a) other = At p a
-or_first Never other = other
+abbrev pub or_first : Option FirstBlank → Option FirstBlank → Option FirstBlank
+or_first (Some b) other = Some b
+or_first None other = other
 
 -- The tally of steps that follow n steps: counts add up; the first blank is the first's, or else the second's moved on by n.
 unfoldable pub tally_joined : ℕ → Tally → Tally → Tally

@@ -1,33 +1,37 @@
 -- What the public calls answer: a refusal's number alone, or what was asked for in 01's numbers; and the image that they leave.
-use Rattle.std.specs.Prelude.{ℕ, List, length}
+use Rattle.std.specs.Prelude.{ℕ, List, Result, length}
 use Rattle.state.specs.declared.State.{State}
 use Rattle.state.specs.declared.Settings.{Settings}
 use Rattle.state.specs.State.{heard}
-use Rattle.machine.specs.declared.Powered.{Powered}
-use Rattle.machine.specs.declared.Powered.TheVariants as Powered
-use Rattle.machine.specs.declared.Stepped.{Stepped}
-use Rattle.machine.specs.declared.Stepped.TheVariants as Stepped
-use Rattle.machine.specs.declared.Finished.{Finished}
-use Rattle.machine.specs.declared.Finished.TheVariants as Finished
+use Rattle.step.specs.declared.Turn.{Turn}
+use Rattle.machine.specs.declared.Ran.{Ran}
 use Rattle.step.specs.Step.{After, step_of, Up, power_up_of}
-use Rattle.refusal.specs.Page.{Page, refused, answered, Left, left, call}
+use Rattle.refusal.specs.declared.Refusal.{Refusal}
+use Rattle.refusal.specs.Answer.{page_of}
+use Rattle.refusal.specs.Page.{Page, answered, Left, left, call}
 use Rattle.refusal.specs.Refusal.{power_refusal, step_refusal, run_refusal}
 use Rattle.machine.specs.Numbers.{StatePage, state_page, TurnPage, turn_page, RanPage, ran_page}
 use Rattle.machine.specs.Run.{End, end, run_of}
 
 -- ---- what is answered
 
+abbrev pub Powered : Type 0
+Powered = Result State Refusal
+
 abbrev pub powered_page : Powered → Page StatePage
-powered_page (Powered.Up s) = answered (state_page s)
-powered_page (Powered.Refused why) = refused why
+powered_page = page_of state_page
+
+abbrev pub Stepped : Type 0
+Stepped = Result Turn Refusal
 
 abbrev pub stepped_page : Stepped → Page TurnPage
-stepped_page (Stepped.Done t) = answered (turn_page t)
-stepped_page (Stepped.Refused why) = refused why
+stepped_page = page_of turn_page
+
+abbrev pub Finished : Type 0
+Finished = Result Ran Refusal
 
 abbrev pub finished_page : Finished → Page RanPage
-finished_page (Finished.Done r) = answered (ran_page r)
-finished_page (Finished.Refused why) = refused why
+finished_page = page_of ran_page
 
 -- ---- what is refused: the number, 0 for none
 

@@ -1,16 +1,13 @@
 -- The answers of the public calls in 01's numbers.
-use Rattle.std.specs.Prelude.{ℕ, ◌+◌, ◌*◌, List, [], ◌∷◌}
+use Rattle.std.specs.Prelude.{ℕ, ◌+◌, ◌*◌, List, [], ◌∷◌, Option, Some, None}
 use Rattle.wordmath.specs.declared.Flags.{Flags}
 use Rattle.wordmath.specs.Number.{digit}
 use Rattle.state.specs.declared.State.{State}
 use Rattle.state.specs.State.{mode_number}
 use Rattle.step.specs.declared.Turn.{Turn}
-use Rattle.step.specs.declared.Reached.{Reached}
-use Rattle.step.specs.declared.Reached.TheVariants as Reached
 use Rattle.step.specs.Step.{cause_number, cause_address}
 use Rattle.machine.specs.declared.Ran.{Ran}
-use Rattle.machine.specs.declared.First.{First}
-use Rattle.machine.specs.declared.First.TheVariants.{At, Never}
+use Rattle.machine.specs.declared.FirstBlank.{FirstBlank}
 
 -- ---- a state
 
@@ -39,9 +36,9 @@ pub data Address : Type 0 where
   address : ℕ → Address
   nowhere : Address
 
-abbrev pub told_of : Reached → Address
-told_of (Reached.At a) = address a
-told_of Reached.Nowhere = nowhere
+abbrev pub told_of : Option ℕ → Address
+told_of (Some a) = address a
+told_of None = nowhere
 
 pub record TurnPage : Type 0 where
   pub state : StatePage
@@ -57,9 +54,12 @@ pub data FirstPage : Type 0 where
   place : ℕ → ℕ → FirstPage
   none : FirstPage
 
-abbrev pub first_page : First → FirstPage
-first_page (At p a) = place p a
-first_page Never = none
+abbrev pub first_at : ℕ → ℕ → FirstBlank
+first_at p a = record { place = p; address = a }
+
+abbrev pub first_page : Option FirstBlank → FirstPage
+first_page (Some b) = place b.place b.address
+first_page None = none
 
 pub record RanPage : Type 0 where
   pub state : StatePage

@@ -1,5 +1,5 @@
 -- A run: one step for each line word.
-use Rattle.std.specs.Prelude.{ℕ, ◌+◌, List, [], ◌∷◌, ◌≡◌}
+use Rattle.std.specs.Prelude.{ℕ, ◌+◌, List, [], ◌∷◌, ◌≡◌, Option, Some, None}
 use Rattle.board.specs.Exec.{Store, Lent, Board}
 use Rattle.state.specs.declared.State.{State}
 use Rattle.state.specs.declared.Settings.{Settings}
@@ -7,26 +7,23 @@ use Rattle.state.specs.State.{heard}
 use Rattle.machine.specs.declared.Ran.{Ran}
 use Rattle.machine.specs.declared.Last.{Last}
 use Rattle.machine.specs.declared.Tally.{Tally}
-use Rattle.machine.specs.declared.First.{First}
-use Rattle.machine.specs.declared.First.TheVariants.{At, Never}
+use Rattle.machine.specs.declared.FirstBlank.{FirstBlank}
+use Rattle.machine.specs.Numbers.{first_at}
 use Rattle.step.specs.declared.Cause.{Cause}
-use Rattle.step.specs.declared.Cause.TheVariants as Cause
-use Rattle.step.specs.declared.Reached.{Reached}
-use Rattle.step.specs.declared.Reached.TheVariants as Reached
 use Rattle.step.specs.Step.{step_of, blank_at}
 
 -- the place of the first blank and the address that it told: the earlier one stays
-abbrev pub first_kept : First → ℕ → ℕ → First
-first_kept (At p a) place address = At p a
-first_kept Never place address = At place address
+abbrev pub first_kept : Option FirstBlank → ℕ → ℕ → Option FirstBlank
+first_kept (Some b) place address = Some b
+first_kept None place address = Some (first_at place address)
 
 -- the blanks counted, and the first of them, after the step at this place
-unfoldable pub blank_noted : Tally → ℕ → Reached → Tally
-blank_noted t place Reached.Nowhere = t
-blank_noted t place (Reached.At a) = record { blanks = t.blanks + 1; first = first_kept t.first place a }
+unfoldable pub blank_noted : Tally → ℕ → Option ℕ → Tally
+blank_noted t place None = t
+blank_noted t place (Some a) = record { blanks = t.blanks + 1; first = first_kept t.first place a }
 
 abbrev pub no_blanks : Tally
-no_blanks = record { blanks = 0; first = Never }
+no_blanks = record { blanks = 0; first = None }
 
 -- the state, the image and the tally at the end
 pub data End : Type 0 where

@@ -1,13 +1,12 @@
 -- A run over one line word, as many steps as are asked for: what the run over that many such words is.
-use Rattle.std.specs.Prelude.{ℕ, ◌+◌, ◌<◌, ◌≤◌, List, ◌≡◌, length, replicate}
+use Rattle.std.specs.Prelude.{ℕ, ◌+◌, ◌<◌, ◌≤◌, List, ◌≡◌, length, replicate, Option, Some, None}
 use Rattle.board.specs.Exec.{Lent}
 use Rattle.state.specs.declared.State.{State}
 use Rattle.state.specs.declared.Settings.{Settings}
 use Rattle.refusal.specs.Page.{Left, call}
 use Rattle.machine.specs.declared.Ran.{Ran}
 use Rattle.machine.specs.declared.Tally.{Tally}
-use Rattle.machine.specs.declared.First.{First}
-use Rattle.machine.specs.declared.First.TheVariants.{At, Never}
+use Rattle.machine.specs.declared.FirstBlank.{FirstBlank}
 use Rattle.machine.specs.Numbers.{RanPage}
 use Rattle.machine.specs.Run.{rest_of_run, run_of, ran_of}
 use Rattle.machine.specs.Entry.{run_end, step_why}
@@ -24,9 +23,9 @@ run_same_page settings image map line n s = call (step_why settings image map li
 -- ---- a part of a run
 
 -- a first blank among so many steps, and a tally of so many
-abbrev pub BlankAmong : ℕ → First → Type 0
-BlankAmong n (At p a) = p < n
-BlankAmong n Never = Unit {0}
+abbrev pub BlankAmong : ℕ → Option FirstBlank → Type 0
+BlankAmong n (Some b) = b.place < n
+BlankAmong n None = Unit {0}
 
 pub record Tallied (n : ℕ) (t : Tally) : Type 0 where
   pub few : t.blanks ≤ n

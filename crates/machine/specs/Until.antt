@@ -1,20 +1,18 @@
 -- A run that ends early: after the first step whose cause is asked for, or after which the processor waits or is halted. It is the run
 -- over the line words of those steps.
-use Rattle.std.specs.Prelude.{ℕ, suc, ◌+◌, ◌<◌, ◌≤◌, Bool, true, false, ◌||◌, cond, List, [], ◌∷◌, ◌≡◌, get_or, length, take}
+use Rattle.std.specs.Prelude.{ℕ, ◌+◌, ◌≤◌, Bool, true, false, ◌||◌, cond, List, [], ◌∷◌, ◌≡◌, get_or, take, Result}
 use Rattle.board.specs.Exec.{Lent, Store, Board}
 use Rattle.state.specs.declared.State.{State}
 use Rattle.state.specs.declared.Settings.{Settings}
 use Rattle.state.specs.declared.Mode.{Mode}
-use Rattle.state.specs.declared.Mode.TheVariants as Mode
 use Rattle.state.specs.State.{heard}
 use Rattle.step.specs.declared.Cause.{Cause}
-use Rattle.step.specs.declared.Cause.TheVariants as Cause
 use Rattle.step.specs.Step.{after, step_of, blank_at}
-use Rattle.refusal.specs.Page.{Page, refused, answered, Left, left, call}
+use Rattle.refusal.specs.declared.Refusal.{Refusal}
+use Rattle.refusal.specs.Answer.{page_of}
+use Rattle.refusal.specs.Page.{Page, answered, Left, left, call}
 use Rattle.machine.specs.declared.Stage.{Stage}
 use Rattle.machine.specs.declared.Stop.{Stop}
-use Rattle.machine.specs.declared.Stopped.{Stopped}
-use Rattle.machine.specs.declared.Stopped.TheVariants as Stopped
 use Rattle.machine.specs.declared.Until.{Until}
 use Rattle.machine.specs.Numbers.{TurnPage, turn_page, FirstPage, first_page}
 use Rattle.machine.specs.Run.{End, end, blank_noted, run_of, last_cause}
@@ -65,9 +63,11 @@ pub record StopPage : Type 0 where
 abbrev pub stop_page : Stop → StopPage
 stop_page r = record { turn = turn_page r.turn; blanks = r.tally.blanks; first = first_page r.tally.first; steps = r.steps }
 
+abbrev pub Stopped : Type 0
+Stopped = Result Stop Refusal
+
 abbrev pub stopped_page : Stopped → Page StopPage
-stopped_page (Stopped.Done r) = answered (stop_page r)
-stopped_page (Stopped.Refused why) = refused why
+stopped_page = page_of stop_page
 
 -- ---- what is right
 

@@ -5,7 +5,7 @@ ghost use Rattle.machine.specs.Until as Spec;
 ghost use Rattle.refusal.specs.Refusal.{most_line_words};
 
 use super::runs::blank_noted;
-use super::{First, Stage, Stop, Tally, Until, door};
+use super::{Stage, Stop, Tally, Until, door};
 use state::{Mode, Settings, State};
 use step::{Cause, Turn, blank_at};
 
@@ -31,14 +31,7 @@ fn asks(until: Until, cause: Cause) -> bool
 fn rests(mode: Mode) -> bool
     ensures { result ≡ Spec.rests mode }
 {
-    match mode {
-        Mode::Running => false,
-        Mode::Waiting => true,
-        Mode::PowerHalt => true,
-        Mode::SwitchHalt => true,
-        Mode::Locked => false,
-        Mode::Saved => true,
-    }
+    !matches!(mode, Mode::Running | Mode::Locked)
 }
 
 // Does a run end here?
@@ -91,7 +84,7 @@ fn stop_at(stage: Stage) -> Stop
     }
 }
 
-// The log is made once and cleared for each step.
+// The log is made once and cleared for each step. The place is the stage's, which tells where the run ended.
 pub(crate) fn until_on(
     s: State,
     image: &mut [u8],
@@ -106,7 +99,7 @@ pub(crate) fn until_on(
     let mut log = [0u16; 32];
     let tally = Tally {
         blanks: 0,
-        first: First::Never,
+        first: None,
     };
     let mut stage = Stage {
         state: s,

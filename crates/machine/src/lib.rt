@@ -7,6 +7,7 @@ ghost use Rattle.machine.specs.Entry as Spec;
 ghost use Rattle.machine.specs.Same.{run_same_page};
 ghost use Rattle.machine.specs.Until.{stopped_page, run_until_page};
 
+use refusal::Refusal;
 use state::{Settings, State};
 use step::{Cause, Turn};
 
@@ -17,16 +18,16 @@ mod same;
 
 // The first blank step of a run: its place, and the address that it tells.
 #[derive(Clone, Copy)]
-pub enum First {
-    At(u16, u16),
-    Never,
+pub struct FirstBlank {
+    pub place: u16,
+    pub address: u16,
 }
 
 // The blank steps of a run: how many, and the first.
 #[derive(Clone, Copy)]
 pub struct Tally {
     pub blanks: u16,
-    pub first: First,
+    pub first: Option<FirstBlank>,
 }
 
 // The state after a run, and its blank steps.
@@ -69,88 +70,67 @@ pub struct Stop {
     pub steps: u16,
 }
 
-#[derive(Clone, Copy)]
-pub enum Powered {
-    Up(State),
-    Refused(u8),
-}
-
-#[derive(Clone, Copy)]
-pub enum Stepped {
-    Done(Turn),
-    Refused(u8),
-}
-
-#[derive(Clone, Copy)]
-pub enum Finished {
-    Done(Ran),
-    Refused(u8),
-}
-
-#[derive(Clone, Copy)]
-pub enum Stopped {
-    Done(Stop),
-    Refused(u8),
-}
-
 // The state after power-up of a board that is set up so; or 1, 2, 3 or 35 and the image as lent.
-pub fn power_up(image: &mut [u8], map: &[u8], settings: Settings) -> Powered
+pub fn power_up(image: &mut [u8], map: &[u8], settings: Settings) -> Result<State, Refusal>
     ensures { left (Spec.powered_page result) image.new ≡ Spec.power_up_page settings image.old map.now }
 {
-    let why = refusal::power_refusal(
+    refusal::power_refusal(
         image.len(),
         map,
         settings.powerup,
         settings.halt,
         settings.register,
-    );
-    if why != 0 {
-        return Powered::Refused(why);
-    }
-    Powered::Up(step::power(image, map, settings))
+    )?;
+    Ok(step::power(image, map, settings))
 }
 
 // One step over a line word: the state and the cause after it; or 1, 2, 3, 35 or 5 and the image as lent.
-pub fn step(s: State, image: &mut [u8], map: &[u8], settings: Settings, line: u16) -> Stepped
+pub fn step(
+    s: State,
+    image: &mut [u8],
+    map: &[u8],
+    settings: Settings,
+    line: u16,
+) -> Result<Turn, Refusal>
     ensures { left (Spec.stepped_page result) image.new ≡ Spec.step_page settings image.old map.now line s }
 {
-    let why = refusal::step_refusal(
+    refusal::step_refusal(
         image.len(),
         map,
         settings.powerup,
         settings.halt,
         settings.register,
         line,
-    );
-    if why != 0 {
-        return Stepped::Refused(why);
-    }
+    )?;
     let lines = [line];
     let last = runs::run_on(s, image, map, settings, &lines);
     let ran = last.ran;
     let state = ran.state;
     let cause = last.cause;
-    Stepped::Done(Turn { state, cause })
+    Ok(Turn { state, cause })
 }
 
 // A run over line words: the state, the blanks and the first of them after it; or 1, 2, 3, 35, 4 or 5 and the image as lent.
-pub fn run(s: State, image: &mut [u8], map: &[u8], settings: Settings, lines: &[u16]) -> Finished
+pub fn run(
+    s: State,
+    image: &mut [u8],
+    map: &[u8],
+    settings: Settings,
+    lines: &[u16],
+) -> Result<Ran, Refusal>
     ensures { left (Spec.finished_page result) image.new ≡ Spec.run_page settings image.old map.now lines.now s }
 {
-    let why = refusal::run_refusal(
+    refusal::run_refusal(
         image.len(),
         map,
         settings.powerup,
         settings.halt,
         settings.register,
         lines,
-    );
-    if why != 0 {
-        return Finished::Refused(why);
-    }
+    )?;
     let last = runs::run_on(s, image, map, settings, lines);
     let ran = last.ran;
-    Finished::Done(ran)
+    Ok(ran)
 }
 
 // A run over one line word, as many steps as are asked for; or 1, 2, 3, 35 or 5 and the image as lent.
@@ -161,22 +141,19 @@ pub fn run_same(
     settings: Settings,
     line: u16,
     steps: u16,
-) -> Finished
+) -> Result<Ran, Refusal>
     ensures { left (Spec.finished_page result) image.new ≡ run_same_page settings image.old map.now line steps s }
 {
-    let why = refusal::step_refusal(
+    refusal::step_refusal(
         image.len(),
         map,
         settings.powerup,
         settings.halt,
         settings.register,
         line,
-    );
-    if why != 0 {
-        return Finished::Refused(why);
-    }
+    )?;
     let after = same::run_same_on(s, image, map, settings, line, steps);
-    Finished::Done(after)
+    Ok(after)
 }
 
 // A run over line words that ends after the first step whose cause is asked for, or after which the processor waits or is halted; or 1,
@@ -188,19 +165,16 @@ pub fn run_until(
     settings: Settings,
     lines: &[u16],
     until: Until,
-) -> Stopped
+) -> Result<Stop, Refusal>
     ensures { left (stopped_page result) image.new ≡ run_until_page settings image.old map.now lines.now until s }
 {
-    let refused = refusal::run_refusal(
+    refusal::run_refusal(
         image.len(),
         map,
         settings.powerup,
         settings.halt,
         settings.register,
         lines,
-    );
-    if refused != 0 {
-        return Stopped::Refused(refused);
-    }
-    Stopped::Done(early::until_on(s, image, map, settings, lines, until))
+    )?;
+    Ok(early::until_on(s, image, map, settings, lines, until))
 }

@@ -4,34 +4,34 @@ ghost use Rattle.board.specs.Exec.{beside, Lent, Board};
 ghost use Rattle.machine.specs.Run as Spec;
 ghost use Rattle.refusal.specs.Refusal.{most_line_words};
 
-use super::{First, Last, Ran, Tally};
-use state::{Settings, State, Went, hear};
-use step::{Cause, Kind, Reached, blank_at, calm, error, goes_on, kind_of, op_code, other};
+use super::{FirstBlank, Last, Ran, Tally};
+use state::{Settings, State, hear};
+use step::{Cause, Kind, blank_at, calm, error, goes_on, kind_of, op_code, other};
 
 // The earlier one stays.
-fn first_kept(first: First, place: u16, address: u16) -> First
+fn first_kept(first: Option<FirstBlank>, place: u16, address: u16) -> Option<FirstBlank>
     ensures { result ≡ Spec.first_kept first place address }
 {
     match first {
-        First::At(_, _) => first,
-        First::Never => First::At(place, address),
+        Some(_) => first,
+        None => Some(FirstBlank { place, address }),
     }
 }
 
 // The tally after the step at this place, which may have been a blank.
-pub(crate) fn blank_noted(t: Tally, place: u16, blank: Reached) -> Tally
+pub(crate) fn blank_noted(t: Tally, place: u16, blank: Option<u16>) -> Tally
     requires { t.blanks ≤ most_line_words }
     ensures { (result ≡ Spec.blank_noted t place blank) × (result.blanks ≤ t.blanks + 1) }
 {
     match blank {
-        Reached::At(address) => {
+        Some(address) => {
             let first = t.first;
             Tally {
                 blanks: t.blanks + 1,
                 first: first_kept(first, place, address),
             }
         }
-        Reached::Nowhere => t,
+        None => t,
     }
 }
 
@@ -51,16 +51,13 @@ pub(crate) fn run_from(
     let mut state = s;
     let mut tally = Tally {
         blanks: 0,
-        first: First::Never,
+        first: None,
     };
     let mut cause = Cause::Nothing;
-    let n = lines.len() as u16;
-    let mut i: u16 = 0;
     let mut line: u16 = 0;
     let mut out = hear(settings, 0);
     let mut quiet = calm(out);
-    while i < n {
-        let next = lines[i as usize];
+    for (i, &next) in lines.iter().enumerate() {
         if next != line {
             line = next;
             out = hear(settings, next);
@@ -70,14 +67,14 @@ pub(crate) fn run_from(
             // For a blank: where the state itself is lent, it goes through memory in every step.
             let before = state;
             match op_code(state, image, map, log, out) {
-                Went::Done(t) => {
+                Ok(t) => {
                     state = t;
                     cause = Cause::OpCode;
                 }
-                Went::Blank(a) => {
+                Err(blank) => {
                     let o = out;
                     let m = map;
-                    let turn = error(before, image, m, log, o, Kind::OpCode, a);
+                    let turn = error(before, image, m, log, o, Kind::OpCode, blank.at);
                     state = turn.state;
                     cause = turn.cause;
                 }
@@ -90,8 +87,7 @@ pub(crate) fn run_from(
             state = turn.state;
             cause = turn.cause;
         }
-        tally = blank_noted(tally, i, blank_at(cause));
-        i += 1;
+        tally = blank_noted(tally, i as u16, blank_at(cause));
     }
     Last {
         ran: Ran { state, tally },

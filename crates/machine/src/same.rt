@@ -7,27 +7,30 @@ ghost use Rattle.machine.specs.Same as Spec;
 ghost use Rattle.refusal.specs.Refusal.{most_line_words};
 
 use super::runs::run_on;
-use super::{First, Ran, Tally};
+use super::{FirstBlank, Ran, Tally};
 use state::{Settings, State};
 
 // A place moved on by n steps.
-fn moved(n: u16, first: First) -> First
+fn moved(n: u16, first: Option<FirstBlank>) -> Option<FirstBlank>
     requires { Spec.BlankAmong (65536 - n) first }
     ensures { result ≡ Trail.place_moved n first }
 {
     match first {
-        First::At(place, address) => First::At(n + place, address),
-        First::Never => First::Never,
+        Some(blank) => Some(FirstBlank {
+            place: n + blank.place,
+            address: blank.address,
+        }),
+        None => None,
     }
 }
 
 // The first of two.
-fn or_first(first: First, other: First) -> First
+fn or_first(first: Option<FirstBlank>, other: Option<FirstBlank>) -> Option<FirstBlank>
     ensures { result ≡ Counted.or_first first other }
 {
     match first {
-        First::At(_, _) => first,
-        First::Never => other,
+        Some(_) => first,
+        None => other,
     }
 }
 
@@ -85,7 +88,7 @@ fn parts(
 {
     let tally = Tally {
         blanks: 0,
-        first: First::Never,
+        first: None,
     };
     let mut ran = Ran { state: s, tally };
     let mut done: u16 = 0;

@@ -2,6 +2,8 @@
 pub mod Again
 pub mod Laid
 pub mod Next
+use Rattle.std.specs.Prelude.{Option}
+use Rattle.std.proofs.Common.{Ok, Err}
 use Prim.Native.Nat.{ℕ}
 use mathlib.Core.Bool.{true, false, not, ◌||◌}
 use mathlib.Core.List.{List, ◌++◌, append-nil}
@@ -12,30 +14,23 @@ use borrow.Author.Tests.{eqb-true, ne_eqb, not-false}
 use Rattle.state.specs.declared.State.{State}
 use Rattle.state.specs.declared.Settings.{Settings}
 use Rattle.step.specs.declared.Turn.{Turn}
-use Rattle.step.specs.declared.Reached.{Reached}
 use Rattle.step.specs.Step.{cause_number, cause_address}
 use Rattle.machine.specs.declared.Ran.{Ran}
-use Rattle.machine.specs.declared.Powered.{Powered}
-use Rattle.machine.specs.declared.Powered.TheVariants as Powered
-use Rattle.machine.specs.declared.Stepped.{Stepped}
-use Rattle.machine.specs.declared.Stepped.TheVariants as Stepped
-use Rattle.machine.specs.declared.Finished.{Finished}
-use Rattle.machine.specs.declared.Finished.TheVariants as Finished
+use Rattle.machine.specs.Entry.{Powered, Stepped, Finished, powered_page, stepped_page, finished_page, power_up_page, step_page, run_page}
 use Rattle.refusal.specs.Numbers.{no_state}
 use Rattle.refusal.specs.Page.{left, told}
 use Rattle.refusal.proofs.Laws.Refusal.{neither}
 use Rattle.machine.specs.Numbers.{state_page, nowhere, told_of, first_page, FirstPage}
-use Rattle.machine.specs.Entry.{powered_page, stepped_page, finished_page, power_up_page, step_page, run_page}
 use lib.Dec.{eqb, ltb}
 use Rattle.machine.specs.declared.Stop.{Stop}
 use Rattle.machine.specs.declared.Until.{Until}
-use Rattle.machine.specs.declared.Stopped.{Stopped}
-use Rattle.machine.specs.declared.Stopped.TheVariants as Stopped
+use Rattle.machine.specs.Until.{Stopped, stopped_page, run_until_page}
 use Rattle.machine.specs.Same.{run_same_page}
-use Rattle.machine.specs.Until.{stopped_page, run_until_page}
 use Rattle.machine_c.specs.Runs.{run_same_call, until_from, stop_bytes, refused_until, run_until_call}
 use Rattle.machine_c.specs.Layout.{state_bytes, tally_bytes, state_from, settings_from, state_refused, not_state, not_tally, refused_state, refused_settings, refused_up, refused_step, refused_run, laid}
 use Rattle.machine_c.proofs.Laws.Laid.{laid-all, laid-state, laid-tally}
+use Rattle.refusal.specs.declared.Refusal.{Refusal}
+use Rattle.refusal.specs.Answer.{number}
 use Rattle.machine_c.specs.Calls.{power_up_call, step_call, run_call}
 
 -- bytes are copied over a buffer of as many, and another is left as lent
@@ -75,14 +70,14 @@ module _ (b image map w : List ℕ) where
   up-bad e = rw e
 
   pub up_done : (b' m : List ℕ) (g : Settings) (s : State) (r : Powered) → refused_up b w ≡ false → g ≡ settings_from w → left (powered_page r) m ≡ power_up_page g image map
-      → r ≡ Powered.Up s → b' ≡ laid (state_bytes (state_page s) 0 nowhere) b → told 0 (b', m) ≡ power_up_call b image map w
+      → r ≡ Ok s → b' ≡ laid (state_bytes (state_page s) 0 nowhere) b → told 0 (b', m) ≡ power_up_call b image map w
   unfolding power_up_call
   up_done b' m g s r e j f h d = rw (e, ← j, ← f, h, d, laid-state b s 0 nowhere (up-length b w e))
 
-  pub up-refused : (m : List ℕ) (g : Settings) (why : ℕ) (r : Powered) → refused_up b w ≡ false → g ≡ settings_from w → left (powered_page r) m ≡ power_up_page g image map
-      → r ≡ Powered.Refused why → told why (b, m) ≡ power_up_call b image map w
+  pub up-refused : (m : List ℕ) (g : Settings) (n : ℕ) (why : Refusal) (r : Powered) → refused_up b w ≡ false → g ≡ settings_from w → left (powered_page r) m ≡ power_up_page g image map
+      → r ≡ Err why → n ≡ number why → told n (b, m) ≡ power_up_call b image map w
   unfolding power_up_call
-  up-refused m g why r e j f h = rw (e, ← j, ← f, h)
+  up-refused m g n why r e j f h q = rw (e, ← j, ← f, h, q)
 
 -- ---- one step
 
@@ -91,17 +86,17 @@ module _ (b image map w : List ℕ) (line : ℕ) where
   unfolding step_call
   went-bad e = rw e
 
-  pub went-done : (b' m : List ℕ) (s : State) (g : Settings) (t : Turn) (r : Stepped) (k : ℕ) (at : Reached) → refused_step b w ≡ false → s ≡ state_from b → g ≡ settings_from w
-      → left (stepped_page r) m ≡ step_page g image map line s → r ≡ Stepped.Done t → k ≡ cause_number t.cause → at ≡ cause_address t.cause
+  pub went-done : (b' m : List ℕ) (s : State) (g : Settings) (t : Turn) (r : Stepped) (k : ℕ) (at : Option ℕ) → refused_step b w ≡ false → s ≡ state_from b → g ≡ settings_from w
+      → left (stepped_page r) m ≡ step_page g image map line s → r ≡ Ok t → k ≡ cause_number t.cause → at ≡ cause_address t.cause
       → b' ≡ laid (state_bytes (state_page t.state) k (told_of at)) b → told 0 (b', m) ≡ step_call b image map w line
   unfolding step_call
   went-done b' m s g t r k at e f j p h c a d =
       rw (e, ← f, ← j, ← p, h, d, laid-state b t.state k (told_of at) (step-length b w e), c, a)
 
-  pub went-refused : (m : List ℕ) (s : State) (g : Settings) (why : ℕ) (r : Stepped) → refused_step b w ≡ false → s ≡ state_from b → g ≡ settings_from w
-      → left (stepped_page r) m ≡ step_page g image map line s → r ≡ Stepped.Refused why → told why (b, m) ≡ step_call b image map w line
+  pub went-refused : (m : List ℕ) (s : State) (g : Settings) (n : ℕ) (why : Refusal) (r : Stepped) → refused_step b w ≡ false → s ≡ state_from b → g ≡ settings_from w
+      → left (stepped_page r) m ≡ step_page g image map line s → r ≡ Err why → n ≡ number why → told n (b, m) ≡ step_call b image map w line
   unfolding step_call
-  went-refused m s g why r e f j p h = rw (e, ← f, ← j, ← p, h)
+  went-refused m s g n why r e f j p h q = rw (e, ← f, ← j, ← p, h, q)
 
 -- ---- a run
 
@@ -111,17 +106,17 @@ module _ (b t image map w lines : List ℕ) where
   ended-bad e = rw e
 
   pub ended-done : (b' t' m : List ℕ) (s : State) (g : Settings) (ran : Ran) (r : Finished) → refused_run b t w ≡ false → s ≡ state_from b → g ≡ settings_from w
-      → left (finished_page r) m ≡ run_page g image map lines s → r ≡ Finished.Done ran
+      → left (finished_page r) m ≡ run_page g image map lines s → r ≡ Ok ran
       → b' ≡ laid (state_bytes (state_page ran.state) 0 nowhere) b → t' ≡ laid (tally_bytes ran.tally.blanks (first_page ran.tally.first)) t
       → told 0 (b', t', m) ≡ run_call b t image map w lines
   unfolding run_call
   ended-done b' t' m s g ran r e f j p h d q =
       rw (e, ← f, ← j, ← p, h, d, laid-state b ran.state 0 nowhere (run_length b t w e), q, laid-tally t ran.tally.blanks (first_page ran.tally.first) (tally-length b t w e))
 
-  pub ended-refused : (m : List ℕ) (s : State) (g : Settings) (why : ℕ) (r : Finished) → refused_run b t w ≡ false → s ≡ state_from b → g ≡ settings_from w
-      → left (finished_page r) m ≡ run_page g image map lines s → r ≡ Finished.Refused why → told why (b, t, m) ≡ run_call b t image map w lines
+  pub ended-refused : (m : List ℕ) (s : State) (g : Settings) (n : ℕ) (why : Refusal) (r : Finished) → refused_run b t w ≡ false → s ≡ state_from b → g ≡ settings_from w
+      → left (finished_page r) m ≡ run_page g image map lines s → r ≡ Err why → n ≡ number why → told n (b, t, m) ≡ run_call b t image map w lines
   unfolding run_call
-  ended-refused m s g why r e f j p h = rw (e, ← f, ← j, ← p, h)
+  ended-refused m s g n why r e f j p h q = rw (e, ← f, ← j, ← p, h, q)
 
 -- ---- over one line word
 
@@ -131,17 +126,17 @@ module _ (b t image map w : List ℕ) (line n : ℕ) where
   same-bad e = rw e
 
   pub same-done : (b' t' m : List ℕ) (s : State) (g : Settings) (ran : Ran) (r : Finished) → refused_run b t w ≡ false → s ≡ state_from b → g ≡ settings_from w
-      → left (finished_page r) m ≡ run_same_page g image map line n s → r ≡ Finished.Done ran
+      → left (finished_page r) m ≡ run_same_page g image map line n s → r ≡ Ok ran
       → b' ≡ laid (state_bytes (state_page ran.state) 0 nowhere) b → t' ≡ laid (tally_bytes ran.tally.blanks (first_page ran.tally.first)) t
       → told 0 (b', t', m) ≡ run_same_call b t image map w line n
   unfolding run_same_call
   same-done b' t' m s g ran r e f j p h d q =
       rw (e, ← f, ← j, ← p, h, d, laid-state b ran.state 0 nowhere (run_length b t w e), q, laid-tally t ran.tally.blanks (first_page ran.tally.first) (tally-length b t w e))
 
-  pub same-refused : (m : List ℕ) (s : State) (g : Settings) (why : ℕ) (r : Finished) → refused_run b t w ≡ false → s ≡ state_from b → g ≡ settings_from w
-      → left (finished_page r) m ≡ run_same_page g image map line n s → r ≡ Finished.Refused why → told why (b, t, m) ≡ run_same_call b t image map w line n
+  pub same-refused : (m : List ℕ) (s : State) (g : Settings) (k : ℕ) (why : Refusal) (r : Finished) → refused_run b t w ≡ false → s ≡ state_from b → g ≡ settings_from w
+      → left (finished_page r) m ≡ run_same_page g image map line n s → r ≡ Err why → k ≡ number why → told k (b, t, m) ≡ run_same_call b t image map w line n
   unfolding run_same_call
-  same-refused m s g why r e f j p h = rw (e, ← f, ← j, ← p, h)
+  same-refused m s g k why r e f j p h q = rw (e, ← f, ← j, ← p, h, q)
 
 -- ---- until something happens
 
@@ -165,8 +160,8 @@ module _ (b t image map w lines : List ℕ) (asked : ℕ) where
   unfolding run_until_call
   until-bad e = rw e
 
-  pub until-done : (b' t' m : List ℕ) (s : State) (g : Settings) (u : Until) (stop : Stop) (r : Stopped) (k : ℕ) (at : Reached) → refused_until b t w asked ≡ false → s ≡ state_from b → g ≡ settings_from w
-      → u ≡ until_from asked → left (stopped_page r) m ≡ run_until_page g image map lines u s → r ≡ Stopped.Done stop → k ≡ cause_number stop.turn.cause → at ≡ cause_address stop.turn.cause
+  pub until-done : (b' t' m : List ℕ) (s : State) (g : Settings) (u : Until) (stop : Stop) (r : Stopped) (k : ℕ) (at : Option ℕ) → refused_until b t w asked ≡ false → s ≡ state_from b → g ≡ settings_from w
+      → u ≡ until_from asked → left (stopped_page r) m ≡ run_until_page g image map lines u s → r ≡ Ok stop → k ≡ cause_number stop.turn.cause → at ≡ cause_address stop.turn.cause
       → b' ≡ laid (state_bytes (state_page stop.turn.state) k (told_of at)) b → t' ≡ laid (stop_bytes stop.tally.blanks (first_page stop.tally.first) stop.steps) t
       → told 0 (b', t', m) ≡ run_until_call b t image map w lines asked
   unfolding run_until_call
@@ -186,7 +181,7 @@ module _ (b t image map w lines : List ℕ) (asked : ℕ) where
         a,
       )
 
-  pub until-refused : (m : List ℕ) (s : State) (g : Settings) (u : Until) (why : ℕ) (r : Stopped) → refused_until b t w asked ≡ false → s ≡ state_from b → g ≡ settings_from w → u ≡ until_from asked
-      → left (stopped_page r) m ≡ run_until_page g image map lines u s → r ≡ Stopped.Refused why → told why (b, t, m) ≡ run_until_call b t image map w lines asked
+  pub until-refused : (m : List ℕ) (s : State) (g : Settings) (u : Until) (n : ℕ) (why : Refusal) (r : Stopped) → refused_until b t w asked ≡ false → s ≡ state_from b → g ≡ settings_from w → u ≡ until_from asked
+      → left (stopped_page r) m ≡ run_until_page g image map lines u s → r ≡ Err why → n ≡ number why → told n (b, t, m) ≡ run_until_call b t image map w lines asked
   unfolding run_until_call
-  until-refused m s g u why r e f j i p h = rw (e, ← f, ← j, ← i, ← p, h)
+  until-refused m s g u n why r e f j i p h q = rw (e, ← f, ← j, ← i, ← p, h, q)

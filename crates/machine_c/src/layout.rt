@@ -5,9 +5,8 @@ ghost use Rattle.machine.specs.Numbers as Page;
 ghost use Rattle.machine.specs.Back as Back;
 ghost use Rattle.machine_c.specs.Layout as Spec;
 
-use machine::{First, Tally};
+use machine::{FirstBlank, Tally};
 use state::{Mode, Settings, State};
-use step::Reached;
 use wordbytes::{byte_at, high, low, word_at};
 use wordmath::Flags;
 
@@ -25,7 +24,7 @@ fn indicators(f: Flags) -> u8
     digit(f.n) * 8 + digit(f.z) * 4 + digit(f.v) * 2 + digit(f.c)
 }
 
-// A mode by its number.
+// A mode by its number. A TryFrom would refuse once more what `over` has refused.
 fn mode_of(n: u8) -> Mode
     ensures { result ≡ Back.mode_of n }
 {
@@ -140,27 +139,27 @@ pub fn state_from(b: &[u8]) -> State
 }
 
 // 1 where an address is told.
-fn tells(told: Reached) -> u8
+fn tells(told: Option<u16>) -> u8
     ensures { result ≡ Spec.address_told (Page.told_of told) }
 {
     match told {
-        Reached::Nowhere => 0,
-        Reached::At(_) => 1,
+        None => 0,
+        Some(_) => 1,
     }
 }
 
 // The address that is told, 0 where there is none.
-fn word_told(told: Reached) -> u16
+fn word_told(told: Option<u16>) -> u16
     ensures { result ≡ Spec.word_told (Page.told_of told) }
 {
     match told {
-        Reached::Nowhere => 0,
-        Reached::At(address) => address,
+        None => 0,
+        Some(address) => address,
     }
 }
 
 // The bytes of a state, of the cause that led to it and of the address that it tells.
-fn state_bytes(s: State, cause: u8, told: Reached) -> [u8; 24]
+fn state_bytes(s: State, cause: u8, told: Option<u16>) -> [u8; 24]
     ensures { result ≡ Spec.state_bytes (Page.state_page s) cause (Page.told_of told) }
 {
     let mode = s.mode;
@@ -194,7 +193,7 @@ fn state_bytes(s: State, cause: u8, told: Reached) -> [u8; 24]
 }
 
 // The same over a lent buffer of 24 bytes; another is left as lent.
-pub fn put_state(b: &mut [u8], s: State, cause: u8, told: Reached)
+pub fn put_state(b: &mut [u8], s: State, cause: u8, told: Option<u16>)
     ensures { b.new ≡ Spec.laid (Spec.state_bytes (Page.state_page s) cause (Page.told_of told)) b.old }
 {
     if b.len() != 24 {
@@ -205,22 +204,22 @@ pub fn put_state(b: &mut [u8], s: State, cause: u8, told: Reached)
 }
 
 // The place of the first blank, FFFF where there is none.
-pub(crate) fn place_of(first: First) -> u16
+pub(crate) fn place_of(first: Option<FirstBlank>) -> u16
     ensures { result ≡ Spec.place_number (Page.first_page first) }
 {
     match first {
-        First::At(place, _) => place,
-        First::Never => 0xffff,
+        Some(blank) => blank.place,
+        None => 0xffff,
     }
 }
 
 // The address that the first blank told, 0 where there is none.
-pub(crate) fn place_told(first: First) -> u16
+pub(crate) fn place_told(first: Option<FirstBlank>) -> u16
     ensures { result ≡ Spec.place_told (Page.first_page first) }
 {
     match first {
-        First::At(_, address) => address,
-        First::Never => 0,
+        Some(blank) => blank.address,
+        None => 0,
     }
 }
 

@@ -8,9 +8,7 @@ ghost use Rattle.machine_c.specs.Calls as Spec;
 use layout::{
     put_state, put_tally, refused_run, refused_step, refused_up, settings_from, state_from,
 };
-use machine::{Finished, Powered, Stepped};
-use refusal::number::NO_STATE;
-use step::Reached;
+use refusal::Refusal;
 
 pub mod layout;
 pub mod runs;
@@ -26,14 +24,14 @@ pub extern "C" fn wd16_power_up(
     ensures { told result (state.new, image.new) ≡ Spec.power_up_call state.old image.old map.now settings.now }
 {
     if refused_up(state, settings) {
-        return NO_STATE;
+        return u8::from(Refusal::NoState);
     }
     match machine::power_up(image, map, settings_from(settings)) {
-        Powered::Up(s) => {
-            put_state(state, s, 0, Reached::Nowhere);
+        Ok(s) => {
+            put_state(state, s, 0, None);
             0
         }
-        Powered::Refused(why) => why,
+        Err(why) => u8::from(why),
     }
 }
 
@@ -49,10 +47,10 @@ pub extern "C" fn wd16_step(
     ensures { told result (state.new, image.new) ≡ Spec.step_call state.old image.old map.now settings.now line }
 {
     if refused_step(state, settings) {
-        return NO_STATE;
+        return u8::from(Refusal::NoState);
     }
     match machine::step(state_from(state), image, map, settings_from(settings), line) {
-        Stepped::Done(t) => {
+        Ok(t) => {
             let after = t.state;
             let cause = t.cause;
             put_state(
@@ -63,7 +61,7 @@ pub extern "C" fn wd16_step(
             );
             0
         }
-        Stepped::Refused(why) => why,
+        Err(why) => u8::from(why),
     }
 }
 
@@ -80,7 +78,7 @@ pub extern "C" fn wd16_run(
     ensures { told result (state.new, tally.new, image.new) ≡ Spec.run_call state.old tally.old image.old map.now settings.now lines.now }
 {
     if refused_run(state, tally, settings) {
-        return NO_STATE;
+        return u8::from(Refusal::NoState);
     }
     match machine::run(
         state_from(state),
@@ -89,13 +87,13 @@ pub extern "C" fn wd16_run(
         settings_from(settings),
         lines,
     ) {
-        Finished::Done(ran) => {
+        Ok(ran) => {
             let after = ran.state;
             let counted = ran.tally;
-            put_state(state, after, 0, Reached::Nowhere);
+            put_state(state, after, 0, None);
             put_tally(tally, counted);
             0
         }
-        Finished::Refused(why) => why,
+        Err(why) => u8::from(why),
     }
 }

@@ -9,9 +9,8 @@ use crate::layout::{
     place_of, place_told, put_state, put_tally, refused_run, refused_step, settings_from,
     state_from,
 };
-use machine::{Finished, Stopped, Tally, Until};
-use refusal::number::NO_STATE;
-use step::Reached;
+use machine::{Tally, Until};
+use refusal::Refusal;
 use wordbytes::{high, low};
 
 // So many steps over one line word; or 21, 1, 2, 3, 35 or 5.
@@ -28,7 +27,7 @@ pub extern "C" fn wd16_run_same(
     ensures { told result (state.new, tally.new, image.new) ≡ Spec.run_same_call state.old tally.old image.old map.now settings.now line steps }
 {
     if refused_run(state, tally, settings) {
-        return NO_STATE;
+        return u8::from(Refusal::NoState);
     }
     match machine::run_same(
         state_from(state),
@@ -38,14 +37,14 @@ pub extern "C" fn wd16_run_same(
         line,
         steps,
     ) {
-        Finished::Done(ran) => {
+        Ok(ran) => {
             let after = ran.state;
             let counted = ran.tally;
-            put_state(state, after, 0, Reached::Nowhere);
+            put_state(state, after, 0, None);
             put_tally(tally, counted);
             0
         }
-        Finished::Refused(why) => why,
+        Err(why) => u8::from(why),
     }
 }
 
@@ -113,7 +112,7 @@ pub extern "C" fn wd16_run_until(
     ensures { told result (state.new, tally.new, image.new) ≡ Spec.run_until_call state.old tally.old image.old map.now settings.now lines.now until }
 {
     if refused_until(state, tally, settings, until) {
-        return NO_STATE;
+        return u8::from(Refusal::NoState);
     }
     match machine::run_until(
         state_from(state),
@@ -123,7 +122,7 @@ pub extern "C" fn wd16_run_until(
         lines,
         until_from(until),
     ) {
-        Stopped::Done(stop) => {
+        Ok(stop) => {
             let turn = stop.turn;
             let after = turn.state;
             let cause = turn.cause;
@@ -137,6 +136,6 @@ pub extern "C" fn wd16_run_until(
             put_stop(tally, counted, stop.steps);
             0
         }
-        Stopped::Refused(why) => why,
+        Err(why) => u8::from(why),
     }
 }

@@ -3,15 +3,15 @@
 #![tactic(auto)]
 
 use job::READ_OF_JOB;
-use printing::{put, put_decimal, put_first, read_full, say_unless};
+use printing::{first, read_full, say_unless};
 use refusal::MOST_LINE_WORDS;
+use std::io;
 use std::io::Print;
-use trace::{LONGEST_TRACE, Made};
+use trace::LONGEST_TRACE;
 
-fn say_refused(err: &impl Print, why: u8) {
-    put(err, b"REFUSED ");
-    put_decimal(err, why as u64);
-    put(err, b"\n");
+// Writes the first bytes of what a trace was made in.
+fn put_trace(out: &impl Print, bytes: &[u8], n: usize) -> io::Result<()> {
+    out.write_all(first(bytes, n)?)
 }
 
 fn main(rt: HostRuntime) {
@@ -22,10 +22,13 @@ fn main(rt: HostRuntime) {
     let mut lines = [0u16; MOST_LINE_WORDS];
     let mut out = [0u8; LONGEST_TRACE];
     match trace::make(&input[..got], &mut out, &mut image, &mut map, &mut lines) {
-        Made::Bytes(n) => {
-            let written = put_first(&rt.stdout(), &out, n);
-            say_unless(&rt.stderr(), written, b"make_trace");
+        Ok(n) => {
+            let written = put_trace(&rt.stdout(), &out, n);
+            say_unless(&rt.stderr(), written, "make_trace");
         }
-        Made::Refused(why) => say_refused(&rt.stderr(), why),
+        Err(why) => {
+            let number = u8::from(why);
+            let _ = eprintln!(rt; "REFUSED {number}");
+        }
     }
 }

@@ -1,4 +1,5 @@
-// The fields of an op code, as the manual draws them at the head of each format.
+// The fields of an op code, as the manual draws them at the head of each format. Each stands under its own name: one
+// function with the place and the size as const parameters would leave the same names around it, and be no plainer.
 ghost use Rattle.std.specs.Prelude.{◌≡◌};
 ghost use Rattle.opcodes.specs.Fields as Spec;
 

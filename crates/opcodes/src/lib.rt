@@ -7,7 +7,7 @@ ghost use Rattle.opcodes.specs.Codes.{immediate_at, way_at, unary_at, binary_at,
 pub mod fields;
 
 // The op codes of format 6 with a number, in the order of bits 5 and 4.
-#[derive(Clone, Copy)]
+#[derive(Clone, Copy, Debug, Eq, PartialEq)]
 pub enum Immediate {
     Addi,
     Subi,
@@ -16,7 +16,7 @@ pub enum Immediate {
 }
 
 // The four kinds of shift, in the order of bits 5 and 4 of format 6.
-#[derive(Clone, Copy)]
+#[derive(Clone, Copy, Debug, Eq, PartialEq)]
 pub enum Way {
     RightRotate,
     LeftRotate,
@@ -25,7 +25,7 @@ pub enum Way {
 }
 
 // The op codes 0A00 to 0CC0 and 8A00 to 8CC0 of format 7, in their order; Swap is SWAB and SWAD.
-#[derive(Clone, Copy)]
+#[derive(Clone, Copy, Debug, Eq, PartialEq)]
 pub enum Unary {
     Ror,
     Rol,
@@ -42,7 +42,7 @@ pub enum Unary {
 }
 
 // The op codes of format 10 on words.
-#[derive(Clone, Copy)]
+#[derive(Clone, Copy, Debug, Eq, PartialEq)]
 pub enum Binary {
     Add,
     Sub,
@@ -56,12 +56,14 @@ pub enum Binary {
 }
 
 // The op codes of format 10 on bytes.
-#[derive(Clone, Copy)]
+#[derive(Clone, Copy, Debug, Eq, PartialEq)]
 pub enum ByteBinary {
     Cmpb,
     Movb,
     Bisb,
 }
+
+// Look-ups in the manual's tables, each with its last row past its end: From, which would hide that, is no plainer.
 
 pub fn immediate_at(k: u16) -> Immediate
     ensures { result ≡ immediate_at k }

@@ -2,5 +2,4 @@
 pub mod Bounds
 pub mod Destination
 pub mod Modes
-pub mod Once
 pub mod Operand

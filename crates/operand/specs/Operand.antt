@@ -3,14 +3,11 @@ use Rattle.std.specs.Prelude.{ℕ, ◌%◌, [], ◌∷◌, cond, eqb, ltb, get_o
 use Rattle.arith.specs.Ops.{with_low}
 use Rattle.board.specs.Work.{Work, give, read_at, load, Size, word, byte, ◌>>=◌, ◌>>◌}
 use Rattle.board.specs.Work as Work
-use Rattle.board.specs.Exec.{Store, Now, good, gone}
 use Rattle.state.specs.declared.State.{State}
-use Rattle.state.specs.declared.Went.{Went}
 use Rattle.state.specs.State.{reg, with_reg}
 use Rattle.wordmath.specs.Address.{plus, minus}
 use Rattle.operand.specs.declared.Place.{Place}
 use Rattle.operand.specs.declared.Place.TheVariants.{Reg, Mem}
-use Rattle.operand.specs.declared.Found.{Found}
 
 -- An increment or decrement is 2, but 1 for a byte unless the register is SP or PC.
 abbrev pub increment_of : Size → ℕ → ℕ
@@ -114,21 +111,3 @@ write_to z s k Reg v = give (with_part z s k v)
 write_to z s k (Mem a which w) v = do
   Work.write z a v
   give s
-
--- ---- what the answers say
-
-abbrev pub found_as : Found → Store → Now Place
-found_as (Found.At p) st = good p st
-found_as (Found.Blank a) st = gone a st
-
-abbrev pub unfound : Found → Went
-unfound (Found.At p) = Went.Blank 0
-unfound (Found.Blank a) = Went.Blank a
-
--- where an operand in memory stands
-abbrev pub address_of : Place → ℕ
-address_of Reg = 0
-address_of (Mem a which v) = a
-
-abbrev pub unanswered : Place → Went
-unanswered p = Went.Blank (address_of p)

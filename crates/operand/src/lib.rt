@@ -3,14 +3,12 @@
 
 ghost use Rattle.std.specs.Prelude.{◌≡◌, ◌%◌, ◌<◌};
 ghost use Rattle.board.specs.Work.{word, byte, size_of};
-ghost use Rattle.board.specs.Exec.{beside, Lent, Board, Saw, word_as, byte_as};
-ghost use Rattle.state.specs.Answer.{Works};
+ghost use Rattle.board.specs.Exec.{beside, Lent, Board, Saw, Works};
 ghost use Rattle.operand.specs.Operand as Spec;
 ghost use Rattle.operand.specs.Modes as Modes;
-ghost use Rattle.operand.specs.Operand.{found_as};
 
-use board::{Byte, Stored, Word};
-use state::{State, Went};
+use board::Blank;
+use state::State;
 use wordbytes::low;
 use wordmath::address::{minus, plus};
 
@@ -23,37 +21,12 @@ pub enum Place {
 
 pub mod destination;
 
+// The state after decoding, the place of the operand, and its value.
 #[derive(Clone, Copy)]
-pub enum Found {
-    At(Place),
-    Blank(u16),
-}
-
-// The state after decoding, the place of the operand, its value; or the address where nothing is fitted.
-#[derive(Clone, Copy)]
-pub enum Held {
-    At(State, Place, u16),
-    Blank(u16),
-}
-
-// Decoding that reached an unfitted address ends the work there.
-pub fn unfound(found: Found) -> Went
-    ensures { result ≡ Spec.unfound found }
-{
-    match found {
-        Found::At(_) => Went::Blank(0),
-        Found::Blank(a) => Went::Blank(a),
-    }
-}
-
-// An operand that was not answered when it was read: nothing is fitted at its address.
-pub fn unanswered(place: Place) -> Went
-    ensures { result ≡ Spec.unanswered place }
-{
-    match place {
-        Place::Reg => Went::Blank(0),
-        Place::Mem(a, _, _) => Went::Blank(a),
-    }
+pub struct Held {
+    pub state: State,
+    pub place: Place,
+    pub operand: u16,
 }
 
 // The increment or decrement of a byte op code: 1, but 2 for SP and PC.
@@ -70,14 +43,12 @@ fn base(k: u16, r: u16, pc: u16) -> u16
 }
 
 // The word at an address is the address of the operand; a register moves.
-fn deferred(image: &[u8], map: &[u8], at: u16, which: u16, v: u16) -> Found
+fn deferred(image: &[u8], map: &[u8], at: u16, which: u16, v: u16) -> Result<Place, Blank>
     requires { Lent map.now image.now }
-    ensures { Saw map.now (Spec.deferred at which v) image.now (found_as result) }
+    ensures { Saw map.now (Spec.deferred at which v) image.now result }
 {
-    let Word::Value(a) = board::load(image, map, at) else {
-        return Found::Blank(at);
-    };
-    Found::At(Place::Mem(a, which, v))
+    let a = board::load(image, map, at)?;
+    Ok(Place::Mem(a, which, v))
 }
 
 // Modes 3 and 5: the register points to the operand's address.
@@ -109,9 +80,9 @@ fn beyond(at: u16, by: u16, mode: u16) -> u16
 }
 
 // Modes 1 to 5: the register points to the operand, or to its address.
-fn pointed(image: &[u8], map: &[u8], step: u16, k: u16, r: u16, mode: u16) -> Found
+fn pointed(image: &[u8], map: &[u8], step: u16, k: u16, r: u16, mode: u16) -> Result<Place, Blank>
     requires { Lent map.now image.now }
-    ensures { Saw map.now (Modes.pointed step k r mode) image.now (found_as result) }
+    ensures { Saw map.now (Modes.pointed step k r mode) image.now result }
 {
     let by = stride(step, mode);
     let at = pointer(r, by, mode);
@@ -119,29 +90,35 @@ fn pointed(image: &[u8], map: &[u8], step: u16, k: u16, r: u16, mode: u16) -> Fo
     if defers(mode) {
         return deferred(image, map, at, k, next);
     }
-    Found::At(Place::Mem(at, k, next))
+    Ok(Place::Mem(at, k, next))
 }
 
 // Where the operand of a mode and a register stands; a register operand, the commonest, is tried first.
-pub fn locate(image: &[u8], map: &[u8], step: u16, k: u16, r: u16, pc: u16, mode: u16) -> Found
+pub fn locate(
+    image: &[u8],
+    map: &[u8],
+    step: u16,
+    k: u16,
+    r: u16,
+    pc: u16,
+    mode: u16,
+) -> Result<Place, Blank>
     requires { Lent map.now image.now }
-    ensures { Saw map.now (Spec.locate step k r pc mode) image.now (found_as result) }
+    ensures { Saw map.now (Spec.locate step k r pc mode) image.now result }
 {
     if mode == 0 {
-        return Found::At(Place::Reg);
+        return Ok(Place::Reg);
     }
     if mode < 6 {
         return pointed(image, map, step, k, r, mode);
     }
-    let Word::Value(x) = board::load(image, map, pc) else {
-        return Found::Blank(pc);
-    };
+    let x = board::load(image, map, pc)?;
     let at = plus(base(k, r, pc), x);
     let next = plus(pc, 2);
     if 6 < mode {
         return deferred(image, map, at, 7, next);
     }
-    Found::At(Place::Mem(at, 7, next))
+    Ok(Place::Mem(at, 7, next))
 }
 
 // The state with the register moved that decoding moves.
@@ -154,24 +131,24 @@ pub fn moved(s: State, place: Place) -> State
     }
 }
 
-// The word at a place; r is what its register holds.
-pub fn read_word(image: &[u8], map: &[u8], place: Place, r: u16) -> Word
+// The word at a place; r is what its register holds. A byte answers a u8, so that no op code on bytes has to show its operand's range.
+pub fn read_word(image: &[u8], map: &[u8], place: Place, r: u16) -> Result<u16, Blank>
     requires { Lent map.now image.now }
-    ensures { Saw map.now (Spec.read_of word r place) image.now (word_as result) }
+    ensures { Saw map.now (Spec.read_of word r place) image.now result }
 {
     match place {
-        Place::Reg => Word::Value(r),
+        Place::Reg => Ok(r),
         Place::Mem(a, _, _) => board::load(image, map, a),
     }
 }
 
 // The byte at a place; of a register, the lower byte.
-pub fn read_byte(image: &[u8], map: &[u8], place: Place, r: u16) -> Byte
+pub fn read_byte(image: &[u8], map: &[u8], place: Place, r: u16) -> Result<u8, Blank>
     requires { Lent map.now image.now }
-    ensures { Saw map.now (Spec.read_of byte r place) image.now (byte_as result) }
+    ensures { Saw map.now (Spec.read_of byte r place) image.now result }
 {
     match place {
-        Place::Reg => Byte::Value(low(r)),
+        Place::Reg => Ok(low(r)),
         Place::Mem(a, _, _) => board::load_byte(image, map, a),
     }
 }
@@ -195,17 +172,15 @@ pub fn write(
     k: u16,
     place: Place,
     v: u16,
-) -> Went
+) -> Result<State, Blank>
     requires { Board map.now (beside image.old log.old) }
     ensures { Works map.now (Spec.write_to (size_of bytes) s k place v) image.old log.old result image.new log.new }
 {
     match place {
-        Place::Reg => Went::Done(with_part(s, bytes, k, v)),
+        Place::Reg => Ok(with_part(s, bytes, k, v)),
         Place::Mem(a, _, _) => {
-            let Stored::Done = board::write(image, map, log, bytes, a, v) else {
-                return Went::Blank(a);
-            };
-            Went::Done(s)
+            board::write(image, map, log, bytes, a, v)?;
+            Ok(s)
         }
     }
 }

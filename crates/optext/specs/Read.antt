@@ -1,5 +1,5 @@
 -- The reader as a function: the words of the op code whose text a text is, or none.
-use Rattle.std.specs.Prelude.{ℕ, zero, suc, ◌/◌, ◌%◌, ◌^◌, Bool, true, false, cond, List, [], ◌∷◌, length, take, ◌==◌, slice_index}
+use Rattle.std.specs.Prelude.{ℕ, zero, suc, ◌/◌, ◌%◌, ◌^◌, Bool, true, false, cond, List, [], ◌∷◌, Option, Some, None, length, take, ◌==◌, slice_index}
 use Rattle.optext.specs.declared.Op.{Op}
 use Rattle.optext.specs.Line.{taken, text_of}
 
@@ -22,6 +22,11 @@ found_below (suc n) t = cond (same_text (text_of (op_code n)) t) (op_code n) (fo
 unfoldable pub words_of_text : List ℕ → List ℕ
 words_of_text t = found_below (2 ^ 48) t
 
--- up to three words by value; without words it is no op code
+-- up to three words by value
 abbrev pub op_of : List ℕ → Op
 op_of ws = record { count = length ws; a = slice_index ws 0; b = slice_index ws 1; c = slice_index ws 2 }
+
+-- without words it is no op code
+abbrev pub op_or_none : List ℕ → Option Op
+op_or_none [] = None
+op_or_none (w ∷ ws) = Some (op_of (w ∷ ws))

@@ -147,7 +147,3 @@ abbrev pub row_bytes : Row → List ℕ
 row_bytes r =
     slice_index_or r.name 0 32 ∷ slice_index_or r.name 1 32 ∷ slice_index_or r.name 2 32 ∷ slice_index_or r.name 3 32 ∷ slice_index_or r.name 4 32
     ∷ (hex4 r.base ++ (letter_of r.first ∷ letter_of r.second ∷ 32 ∷ []))
-
-abbrev pub table_bytes : List Row → List ℕ
-table_bytes [] = []
-table_bytes (r ∷ rs) = row_bytes r ++ table_bytes rs

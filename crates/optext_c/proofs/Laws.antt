@@ -17,11 +17,12 @@ use Rattle.refusal.proofs.Laws.Page.{first_some}
 use Rattle.answer.specs.Answer.{three_words, answer_why, place_words, answering}
 use Rattle.answer.proofs.Laws.{bad}
 use Rattle.optext.specs.declared.Written.{Written}
-use Rattle.optext.specs.declared.Written.TheVariants.{Line}
-use Rattle.optext.specs.declared.ReadBack.{ReadBack}
-use Rattle.optext.specs.declared.ReadBack.TheVariants.{Words, WordsShort}
+use Rattle.optext.specs.declared.WriteRefusal.{WriteRefusal}
+use Rattle.std.proofs.Common.{Result, Ok, Err}
+use Rattle.optext.specs.declared.ReadRefusal.{ReadRefusal}
+use Rattle.optext.specs.declared.ReadRefusal.TheVariants.{WordsShort}
 use Rattle.optext.specs.Line.{taken}
-use Rattle.optext.specs.Answer.{written_page, write_of, Writes, read_page}
+use Rattle.optext.specs.Answer.{line, written_page, write_of, Writes, read_page}
 use Rattle.optext.specs.Words.{Accepts, RefusedText, Reads}
 use Rattle.optext.proofs.Laws.Theorems.{words-of}
 use Rattle.optext.proofs.Laws.Calls.{lined}
@@ -42,7 +43,7 @@ given-words b n w x y q p r s = rw (q, p, r, s) refl
 -- ---- writing
 
 -- the answer's numbers are small
-pub line_small : (ws b e : List ℕ) (r : Written) (n m : ℕ) → Writes ws b r e → r ≡ Line n m → (n < 65536) × (m < 65536)
+pub line_small : (ws b e : List ℕ) (r : Result Written WriteRefusal) (n m : ℕ) → Writes ws b r e → r ≡ line n m → (n < 65536) × (m < 65536)
 line_small ws b e r n m w d =
     let l = lined ws b n m e (ap (λ z. left (written_page z) e) (sym d) ∙ w.met) in
     (omega (arith, l.long, w.short), omega (arith, l.many, w.few))
@@ -75,13 +76,13 @@ module _ (b t a : List ℕ) where
   pub write-38 : answer_why a ≡ 0 → (length b % 2 ≡ 0 → ⊥) → told words_odd (t, a) ≡ write_call b t a
   write-38 h k = lent-bad words_odd (lent-38 a b h k) odd-some
 
-  pub written : (ws e : List ℕ) (r r' : Written) → answer_why a ≡ 0 → length b % 2 ≡ 0 → ws ≡ words_in b → Writes ws t r e → r ≡ r' → answering text_words a (left (written_page r') e) ≡ write_call b t a
+  pub written : (ws e : List ℕ) (r r' : Result Written WriteRefusal) → answer_why a ≡ 0 → length b % 2 ≡ 0 → ws ≡ words_in b → Writes ws t r e → r ≡ r' → answering text_words a (left (written_page r') e) ≡ write_call b t a
   unfolding write_call
   written ws e r r' h k q w d = rw (lent_none a b h k, ← q, ← w.met, ← d) refl
 
-  pub written-line : (ws e a' : List ℕ) (r : Written) (n m : ℕ) → answer_why a ≡ 0 → length b % 2 ≡ 0 → ws ≡ words_in b → Writes ws t r e → r ≡ Line n m
+  pub written-line : (ws e a' : List ℕ) (r : Result Written WriteRefusal) (n m : ℕ) → answer_why a ≡ 0 → length b % 2 ≡ 0 → ws ≡ words_in b → Writes ws t r e → r ≡ line n m
       → a' ≡ three_words n m 0 → told 0 (e, a') ≡ write_call b t a
-  written-line ws e a' r n m h k q w d z = rw z (written ws e r (Line n m) h k q w d)
+  written-line ws e a' r n m h k q w d z = rw z (written ws e r (line n m) h k q w d)
 
 -- ---- reading
 
@@ -105,12 +106,12 @@ count-some t ws e n p = omega (arith, p.count, p.whole.count)
 take-few : (n : ℕ) (l : List ℕ) → n ≡ length (take n l) → n ≤ length l
 take-few n l e = omega (arith, e, length-take n l)
 
-pub count_small : (t ws e : List ℕ) (r : ReadBack) (n : ℕ) → Reads (read_page r) t ws e → r ≡ Words n → length e ≡ 3 → (1 ≤ n) × (n ≤ 3)
+pub count_small : (t ws e : List ℕ) (r : Result ℕ ReadRefusal) (n : ℕ) → Reads (read_page r) t ws e → r ≡ Ok n → length e ≡ 3 → (1 ≤ n) × (n ≤ 3)
 count_small t ws e r n p d l =
-    let q : Accepts t ws e n = subst (λ (z : ReadBack). Reads (read_page z) t ws e) d p in
+    let q : Accepts t ws e n = subst (λ (z : Result ℕ ReadRefusal). Reads (read_page z) t ws e) d p in
     (count-some t ws e n q, omega (arith, take-few n e q.count, l))
 
-pub column-small : (t ws e : List ℕ) (r r' : ReadBack) (n c : ℕ) → Reads (read_page r) t ws e → r ≡ r' → read_page r' ≡ refused_at n c → c < 65536
+pub column-small : (t ws e : List ℕ) (r r' : Result ℕ ReadRefusal) (n c : ℕ) → Reads (read_page r) t ws e → r ≡ r' → read_page r' ≡ refused_at n c → c < 65536
 column-small t ws e r r' n c p d q =
     let s : RefusedText n c t ws e = subst (λ (z : Page ℕ). Reads z t ws e) (ap read_page d ∙ q) p in
     omega (arith, s.short)
@@ -148,18 +149,18 @@ module _ (t b a : List ℕ) where
   given-three w x y h p q r = given-words b 3 w x y (lent-large (length b / 2) (omega arith)) p q r
 
   -- what it answers is what is left
-  pub read_done : (ws e b' a' : List ℕ) (r : ReadBack) (n : ℕ) → answer_why a ≡ 0 → length b % 2 ≡ 0 → ws ≡ words_in b → Reads (read_page r) t ws e → r ≡ Words n → length e ≡ 3
+  pub read_done : (ws e b' a' : List ℕ) (r : Result ℕ ReadRefusal) (n : ℕ) → answer_why a ≡ 0 → length b % 2 ≡ 0 → ws ≡ words_in b → Reads (read_page r) t ws e → r ≡ Ok n → length e ≡ 3
       → b' ≡ in_front_of (bytes_in (take n (get_or e 0 0 ∷ get_or e 1 0 ∷ get_or e 2 0 ∷ []))) b → a' ≡ three_words n 0 0 → ReadCall t b a (told 0 (b', a'))
   read_done ws e b' a' r n h k q p d l u v =
-      read-with (read_page (Words n)) e (told 0 (b', a')) h k (subst (λ (z : List ℕ). Reads (read_page (Words n)) t z e) q (subst (λ (z : ReadBack). Reads (read_page z) t ws e) d p)) (rw (u, v, words-of 3 e l (omega arith)) refl)
+      read-with (read_page (Ok n)) e (told 0 (b', a')) h k (subst (λ (z : List ℕ). Reads (read_page (Ok n)) t z e) q (subst (λ (z : Result ℕ ReadRefusal). Reads (read_page z) t ws e) d p)) (rw (u, v, words-of 3 e l (omega arith)) refl)
 
-  pub read_short : {A : Type 0} (ws e : List ℕ) (r : ReadBack) → Reads (read_page r) t ws e → r ≡ WordsShort → length ws ≡ 3 → A
-  read_short ws e r p d l = absurd (no_room (subst (λ (z : ReadBack). Reads (read_page z) t ws e) d p))
+  pub read_short : {A : Type 0} (ws e : List ℕ) (r : Result ℕ ReadRefusal) → Reads (read_page r) t ws e → r ≡ Err WordsShort → length ws ≡ 3 → A
+  read_short ws e r p d l = absurd (no_room (subst (λ (z : Result ℕ ReadRefusal). Reads (read_page z) t ws e) d p))
     where
       no_room : Reads (refused output_short) t ws e → ⊥
       no_room q = omega (arith, q.1.room, l)
 
-  pub read-refused : (ws e a' : List ℕ) (r r' : ReadBack) (n n' c : ℕ) → answer_why a ≡ 0 → length b % 2 ≡ 0 → ws ≡ words_in b → Reads (read_page r) t ws e → r ≡ r' → read_page r' ≡ refused_at n c
+  pub read-refused : (ws e a' : List ℕ) (r r' : Result ℕ ReadRefusal) (n n' c : ℕ) → answer_why a ≡ 0 → length b % 2 ≡ 0 → ws ≡ words_in b → Reads (read_page r) t ws e → r ≡ r' → read_page r' ≡ refused_at n c
       → (n' ≡ n) × (a' ≡ place_words c) → ReadCall t b a (told n' (b, a'))
   read-refused ws e a' r r' n n' c h k q p d z v =
       read-with (refused_at n c) e (told n' (b, a')) h k (subst (λ (l : List ℕ). Reads (refused_at n c) t l e) q (subst (λ (y : Page ℕ). Reads y t ws e) (ap read_page d ∙ z) p)) (rw (v.0, v.1) refl)

@@ -8,11 +8,11 @@ ghost use Rattle.refusal.specs.Page.{told};
 ghost use Rattle.answer.specs.Answer.{three_words, place_words, SixBytes};
 ghost use Rattle.optext_c.specs.Calls as Spec;
 
-use optext::{ReadBack, Written};
-use refusal::number::{OUTPUT_SHORT, TEXT_SHORT, WORDS_ODD};
+use optext::{ReadRefusal, WriteRefusal};
+use refusal::Refusal;
 use wordbytes::{high, low, word_at};
 
-// The text's own refusals: no words, a needed next word is missing.
+// The text's own refusals, in the numbers that C is told and no one else: no words, a needed next word is missing.
 const NO_WORDS: u8 = 6;
 
 const WORD_MISSING: u8 = 7;
@@ -38,10 +38,7 @@ fn put_answer(answer: &mut [u8], a: usize, b: usize, c: usize)
 fn lent(bytes: usize) -> usize
     ensures { (result ≡ Spec.lent (bytes / 2)) × (result ≤ 3) }
 {
-    if bytes / 2 < 3 {
-        return bytes / 2;
-    }
-    3
+    (bytes / 2).min(3)
 }
 
 // Writes the text of the op code that begins the words into the text buffer; the answer is the line's length, the words taken,
@@ -50,24 +47,23 @@ fn lent(bytes: usize) -> usize
 pub extern "C" fn wd16_write_text(words: &[u8], text: &mut [u8], answer: &mut [u8]) -> u8
     ensures { told result (text.new, answer.new) ≡ Spec.write_call words.now text.old answer.old }
 {
-    let refused = answer::refusal(answer);
-    if refused != 0 {
-        return refused;
+    if let Err(why) = answer::refusal(answer) {
+        return u8::from(why);
     }
     let bytes = words.len();
     if bytes % 2 != 0 {
-        return WORDS_ODD;
+        return u8::from(Refusal::WordsOdd);
     }
     let given = [word_at(words, 0), word_at(words, 2), word_at(words, 4)];
     let n = lent(bytes);
     match optext::write(&given[..n], text) {
-        Written::Line(length, taken) => {
-            put_answer(answer, length, taken, 0);
+        Ok(line) => {
+            put_answer(answer, line.length, line.taken, 0);
             0
         }
-        Written::TextShort => TEXT_SHORT,
-        Written::NoWords => NO_WORDS,
-        Written::WordMissing => WORD_MISSING,
+        Err(WriteRefusal::TextShort) => u8::from(Refusal::TextShort),
+        Err(WriteRefusal::NoWords) => NO_WORDS,
+        Err(WriteRefusal::WordMissing) => WORD_MISSING,
     }
 }
 
@@ -105,27 +101,26 @@ fn refused_at(answer: &mut [u8], column: usize, why: u8) -> u8
 pub extern "C" fn wd16_read_text(text: &[u8], words: &mut [u8], answer: &mut [u8]) -> u8
     ensures { Spec.ReadCall text.now words.old answer.old (told result (words.new, answer.new)) }
 {
-    let refused = answer::refusal(answer);
-    if refused != 0 {
-        return refused;
+    if let Err(why) = answer::refusal(answer) {
+        return u8::from(why);
     }
     if words.len() % 2 != 0 {
-        return WORDS_ODD;
+        return u8::from(Refusal::WordsOdd);
     }
     if words.len() < 6 {
-        return OUTPUT_SHORT;
+        return u8::from(Refusal::OutputShort);
     }
     let mut given = [word_at(words, 0), word_at(words, 2), word_at(words, 4)];
     match optext::read(text, &mut given) {
-        ReadBack::Words(n) => {
+        Ok(n) => {
             put_words(words, given[0], given[1], given[2], n);
             put_answer(answer, n, 0, 0);
             0
         }
-        ReadBack::WordsShort => OUTPUT_SHORT,
-        ReadBack::EarlyEnd(column) => refused_at(answer, column, EARLY_END),
-        ReadBack::AfterText(column) => refused_at(answer, column, AFTER_TEXT),
-        ReadBack::UnknownName(column) => refused_at(answer, column, UNKNOWN_NAME),
-        ReadBack::BadOperand(column) => refused_at(answer, column, BAD_OPERAND),
+        Err(ReadRefusal::WordsShort) => u8::from(Refusal::OutputShort),
+        Err(ReadRefusal::EarlyEnd(column)) => refused_at(answer, column, EARLY_END),
+        Err(ReadRefusal::AfterText(column)) => refused_at(answer, column, AFTER_TEXT),
+        Err(ReadRefusal::UnknownName(column)) => refused_at(answer, column, UNKNOWN_NAME),
+        Err(ReadRefusal::BadOperand(column)) => refused_at(answer, column, BAD_OPERAND),
     }
 }

@@ -2,24 +2,32 @@
 pub mod Joined
 pub mod Search
 use mathlib.Core.Path.{◌≡◌, refl, ap, sym, ◌∙◌}
-use mathlib.Core.Bool.{Bool, true, false, cond, ◌&&◌, true≢false, and-false}
+use mathlib.Core.Bool.{Bool, true, false, cond, not, ◌&&◌, true≢false, and-false}
 use mathlib.Core.List.{List, [], ◌∷◌, ◌++◌}
 use mathlib.Core.Logic.{◌⊎◌, ⊎_elim}
 use Prim.Native.Nat.{ℕ, zero, suc, ◌+◌, ◌-◌, ◌≤◌, ◌<◌}
 use native.Mathlib.Omega.{arith}
 use borrow.Author.Tests.{eq-eqb, ne_eqb, lt-ltb, le-ltb}
-use lib.Dec.{eqb}
-use lib.ListN.{length, take, drop, get_or, length-append, length-take, length-drop, get_or-eq_default}
-use lib.Seq.{take_all}
+use lib.Dec.{eqb, leb}
+use lib.ListN.{length, take, drop, get_or, length-append, length-take, length-drop, get_or-eq_default, get_or-append}
+use lib.Seq.{take_all, get_or-append_seam, take-append-le}
+use native.Mathlib.Numerals.{add-one}
 use Rattle.hexdigits.specs.Digits.{letters, hex4}
 use Rattle.hexdigits.specs.Over.{in_front_of, TextLeft, text_left, written}
 use Rattle.optext.specs.declared.Op.{Op}
 use Rattle.optext.specs.Digits.{un_hex4}
-use Rattle.optext.specs.Read.{same_text}
+use Rattle.std.proofs.Common.{Option, Some, None, subst}
+use Rattle.std.specs.Prelude.{IfSome}
+use Rattle.optext.specs.Read.{same_text, op_of, op_or_none}
+use Rattle.std.specs.List.{prefix_len}
+use Rattle.std.specs.Cmp.Lexicographic.{pointwise}
+use Rattle.optext.specs.First.{first_from}
+use Rattle.optext.proofs.Laws.Read.{same-pointwise}
 use Rattle.optext.proofs.Laws.Choose.{lt-cases, bool_cases, first-le}
-use Rattle.patchline.specs.Text.{slice, padding_from, gives, is_name, past_of, find_from, is_at, name_in, label_of}
-use Rattle.patchline.specs.Line.{operands_at, comma_at, first_in, second_in, bare_operand, at_of, label_in, filled_in, alias_of, tail_of, filled, is_directive, op_in, says, op, said_of, said_with, is_branch, is_sob}
-use Rattle.patchline.specs.declared.oneline.How.TheVariants.{Origin, Plain}
+use Rattle.plate.specs.Plate.{format_of}
+use Rattle.patchline.specs.Text.{slice, padding_from, without_padding, is_past, gives, is_name, past_of, find_from, is_at, name_in, label_of}
+use Rattle.patchline.specs.Line.{operands_at, comma_at, first_in, second_in, bare_operand, at_of, label_in, filled_in, alias_of, tail_of, filled, is_directive, op_in, says, op, said_of, said_with, op_or, is_branch, is_sob}
+use Rattle.patchline.specs.declared.oneline.How.TheVariants.{Unknown, Origin, Plain, Relative}
 use Rattle.patchline.specs.declared.oneline.Said.{Said}
 
 -- parts of a text
@@ -32,19 +40,66 @@ pub part-all : (a e : ℕ) (t u : List ℕ) → u ≡ drop a t → length u ≤ 
 part-all a e t u q h = q ∙ sym (take_all (e - a) (drop a t) (rw q at h))
 
 -- where the padding begins
-pub end-here : (t : List ℕ) (i b : ℕ) → 0 < i → b ≡ get_or t (i - 1) 0 → (b ≡ 32 → ⊥) → i ≡ padding_from i t
+padding-le : (n : ℕ) (t : List ℕ) → padding_from n t ≤ n
 unfolding padding_from
-end-here t zero b h e n = absurd (omega arith)
-end-here t (suc i) b h e n =
-    let z : suc i - 1 ≡ i = omega arith in
-    rw (ne_eqb (get_or t i 0) 32 (λ q. n ((rw z at e) ∙ q))) refl
+padding-le zero t = omega arith
+padding-le (suc n) t = go (eqb (get_or t n 0) 32) (padding-le n t)
+  where
+    go : (b : Bool) → padding_from n t ≤ n → cond b (padding_from n t) (suc n) ≤ suc n
+    go true h = omega arith
+    go false h = omega arith
 
-pub end_step : (t : List ℕ) (i b : ℕ) → 0 < i → b ≡ get_or t (i - 1) 0 → b ≡ 32 → padding_from i t ≡ padding_from (i - 1) t
+padding-front : (n : ℕ) (b s : List ℕ) → n ≤ length b → padding_from n (b ++ s) ≡ padding_from n b
 unfolding padding_from
-end_step t zero b h e n = absurd (omega arith)
-end_step t (suc i) b h e n =
-    let z : suc i - 1 ≡ i = omega arith in
-    rw (z, eq-eqb (get_or t i 0) 32 (sym (rw z at e) ∙ n)) refl
+padding-front zero b s h = refl
+padding-front (suc n) b s h = rw (get_or-append b s 0 n (omega arith), padding-front n b s (omega arith)) refl
+
+longer : (b : List ℕ) (x : ℕ) → length (b ++ (x ∷ [])) ≡ suc (length b)
+longer b x = length-append b (x ∷ []) ∙ add-one (length b)
+
+-- a text that ends with no space has no padding
+pub pad-kept : (b : List ℕ) (x : ℕ) → (x ≡ 32 → ⊥) → without_padding (b ++ (x ∷ [])) ≡ b ++ (x ∷ [])
+unfolding without_padding padding_from
+pad-kept b x n = rw (longer b x, get_or-append_seam b x [] 0, ne_eqb x 32 n) (take_all (suc (length b)) (b ++ (x ∷ [])) (omega (arith, longer b x)))
+
+-- a space at the end is padding
+pub pad_more : (b : List ℕ) (x : ℕ) → x ≡ 32 → without_padding (b ++ (x ∷ [])) ≡ without_padding b
+unfolding without_padding padding_from
+pad_more b x e =
+    rw (longer b x, get_or-append_seam b x [] 0, eq-eqb x 32 e, padding-front (length b) b (x ∷ []) (omega arith))
+    (take-append-le (padding_from (length b) b) b (x ∷ []) (padding-le (length b) b))
+
+pub pad_none : (t : List ℕ) → length t ≡ 0 → t ≡ without_padding t
+unfolding without_padding padding_from
+pad_none [] h = refl
+pad_none (x ∷ t) h = absurd (omega arith)
+
+-- how far a text has letters alone
+past-from : (f : ℕ → Bool) (t : List ℕ) (n : ℕ) → n ≡ length t → first_from (λ (k : ℕ). not (f (get_or t k 0))) n 0 ≡ prefix_len f t
+past-from f [] n e = rw e refl
+past-from f (x ∷ t) n e = rw e (go (f x) (shifted (length t) 0 ∙ ap suc (past-from f t (length t) refl)))
+  where
+    shifted : (m i : ℕ) → first_from (λ (k : ℕ). not (f (get_or (x ∷ t) k 0))) m (suc i) ≡ suc (first_from (λ (k : ℕ). not (f (get_or t k 0))) m i)
+    shifted zero i = refl
+    shifted (suc m) i = at_i (f (get_or t i 0)) (shifted m (suc i))
+      where
+        at_i : (b : Bool) → first_from (λ (k : ℕ). not (f (get_or (x ∷ t) k 0))) m (suc (suc i)) ≡ suc (first_from (λ (k : ℕ). not (f (get_or t k 0))) m (suc i))
+            → cond (not b) (suc i) (first_from (λ (k : ℕ). not (f (get_or (x ∷ t) k 0))) m (suc (suc i))) ≡ suc (cond (not b) i (first_from (λ (k : ℕ). not (f (get_or t k 0))) m (suc i)))
+        at_i true h = h
+        at_i false h = refl
+
+    go : (b : Bool) → first_from (λ (k : ℕ). not (f (get_or (x ∷ t) k 0))) (length t) 1 ≡ suc (prefix_len f t)
+        → cond (not b) 0 (first_from (λ (k : ℕ). not (f (get_or (x ∷ t) k 0))) (length t) 1) ≡ cond b (1 + prefix_len f t) 0
+    go true h = omega (arith, h)
+    go false h = refl
+
+pub letters-past : (top : ℕ) (t : List ℕ) → prefix_len (λ (x : ℕ). leb 65 x && leb x top) t ≡ past_of top t
+unfolding past_of is_past
+letters-past top t = sym (past-from (λ (x : ℕ). leb 65 x && leb x top) t (length t) refl)
+
+pub letters-le : (top : ℕ) (t : List ℕ) → past_of top t ≤ length t
+unfolding past_of
+letters-le top t = omega (arith, first-le (is_past top t) (length t) 0)
 
 -- tests joined
 pub gives-short : (u l : List ℕ) → length l ≤ length u → false ≡ gives u l
@@ -114,6 +169,9 @@ filled-in-le d o =
     yes h = omega arith
 
 -- aliases
+pub tells-same : {r b : Bool} {a t : List ℕ} (h : List ℕ) → r ≡ pointwise eqb h a → a ≡ t → r ≡ b → same_text h t ≡ b
+tells-same h e q k = ap (λ (l : List ℕ). same_text h l) (sym q) ∙ sym (same-pointwise h _) ∙ sym e ∙ k
+
 module _ (h : List ℕ) where
   pub alias-1 : same_text h (letters "BHIS ") ≡ true → alias_of h ≡ letters "BCC "
   unfolding alias_of
@@ -168,6 +226,46 @@ tail-le d t = ⊎_elim (λ h. rw (tail-some d t h) (some (filled-in-le d (second
     some : length (filled_in d (second_in t)) ≤ length (second_in t) + length d → length (second_in t) ≤ length t
         → suc (length (filled_in d (second_in t))) ≤ 1 + (length t + length d)
     some p q = omega arith
+
+-- an op code that there is has a word
+pub op_or-is : (ws : List ℕ) → op_or (op_or_none ws) ≡ op_of ws
+op_or-is [] = refl
+op_or-is (w ∷ ws) = refl
+
+pub op-some : (r : Option Op) (ws : List ℕ) → r ≡ op_or_none ws → IfSome r (λ o. o.count ≤ 3) → IfSome r (λ o. (0 < o.count) × (o.count ≤ 3))
+op-some r [] e h = subst (λ (z : Option Op). IfSome z (λ o. (0 < o.count) × (o.count ≤ 3))) (sym e) tt
+op-some r (w ∷ ws) e h = subst (λ (z : Option Op). IfSome z (λ o. o.count ≤ 3) → IfSome z (λ o. (0 < o.count) × (o.count ≤ 3))) (sym e) (λ k. (omega arith, k)) h
+
+pub given_op : (r : Option Op) (ws : List ℕ) (o : Op) → r ≡ op_or_none ws → r ≡ Some o → op_of ws ≡ o
+given_op r ws o e q = sym (op_or-is ws) ∙ ap op_or (sym e ∙ q)
+
+pub given-some : (r : Option Op) (ws : List ℕ) (o : Op) → r ≡ op_or_none ws → IfSome r (λ o. o.count ≤ 3) → r ≡ Some o → (0 < o.count) × (o.count ≤ 3)
+given-some r ws o e h q = subst (λ (z : Option Op). IfSome z (λ o. (0 < o.count) × (o.count ≤ 3))) q (op-some r ws e h)
+
+pub given-none : (r : Option Op) (ws : List ℕ) → r ≡ op_or_none ws → r ≡ None → (op_of ws).count ≤ 0
+given-none r ws e q = let z : op_of ws ≡ op 0 0 = sym (op_or-is ws) ∙ ap op_or (sym e ∙ q) in omega (arith, ap (λ (o : Op). o.count) z)
+
+pub op_or-le : (r : Option Op) → IfSome r (λ o. (0 < o.count) × (o.count ≤ 3)) → (op_or r).count ≤ 3
+op_or-le (Some o) h = h.1
+op_or-le None h = omega arith
+
+pub some-first : (r : Option Op) → IfSome r (λ o. (0 < o.count) × (o.count ≤ 3)) → IfSome r (λ o. 0 < o.count)
+some-first (Some o) h = h.0
+some-first None h = tt
+
+-- a field or an offset that is an op code's, or none
+pub other-none : (is_branch (op 0 0).a ≡ false) × (is_sob (op 0 0).a ≡ false)
+unfolding format_of
+other-none = (refl, refl)
+
+module _ (f : Option Op) (p : is_branch (op_or f).a ≡ false) (q : is_sob (op_or f).a ≡ false) where
+  pub with-relative : (o : Op) → 0 < o.count → says Relative o ≡ said_with (op_or f) o
+  unfolding said_with
+  with-relative o h = rw (p, q, ne_eqb o.count 0 (λ e. omega arith)) refl
+
+  pub with-unknown : says Unknown (op 0 0) ≡ said_with (op_or f) (op 0 0)
+  unfolding said_with
+  with-unknown = rw (p, q) refl
 
 -- what a line says
 module _ (t : List ℕ) where

@@ -1,5 +1,5 @@
 -- What the rest of a line says. A label in it stands for digits: the text with zeros in its place is read by 01's reader, and what the label comes to is put in later.
-use Rattle.std.specs.Prelude.{Bool, true, false, cond, ◌&&◌, List, [], ◌∷◌, ◌++◌, ℕ, ◌+◌, ◌/◌, ◌%◌, ltb, eqb, length, drop, get_or}
+use Rattle.std.specs.Prelude.{Option, Some, None, Bool, true, false, cond, ◌&&◌, List, [], ◌∷◌, ◌++◌, ℕ, ◌+◌, ◌/◌, ◌%◌, ltb, eqb, length, drop, get_or}
 use Rattle.hexdigits.specs.Digits.{letters, hex4}
 use Rattle.optext.specs.declared.Op.{Op}
 use Rattle.optext.specs.Digits.{un_hex4}
@@ -77,6 +77,11 @@ op n a = record { count = n; a = a; b = 0; c = 0 }
 -- the op code whose text this is; without words if there is none
 unfoldable pub op_in : List ℕ → Op
 op_in t = op_of (words_of_text t)
+
+-- the op code that there is, or none
+abbrev pub op_or : Option Op → Op
+op_or (Some o) = o
+op_or None = op 0 0
 
 unfoldable pub said_with : Op → Op → Said
 said_with field offset =

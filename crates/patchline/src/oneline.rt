@@ -1,17 +1,18 @@
 // What the rest of a line says.
-ghost use Rattle.std.specs.Prelude.{◌≡◌, ◌&&◌, ◌+◌, ◌≤◌, ◌<◌, length, take, drop, get_or};
+ghost use Rattle.std.specs.Prelude.{◌≡◌, ◌+◌, ◌≤◌, ◌<◌, IfSome, length};
 ghost use Rattle.hexdigits.specs.Over.{Wrote, WroteAt};
-ghost use Rattle.patchline.specs.Line.{operands_at, comma_at, first_in, second_in, at_of, label_in, filled_in, alias_of, tail_of, filled, is_number, is_directive, is_branch, is_sob, op, op_in, said_of, said_with, reaches, with_label, with_offset};
+ghost use Rattle.patchline.specs.Line.{operands_at, comma_at, first_in, second_in, at_of, label_in, filled_in, alias_of, tail_of, filled, is_number, is_directive, is_branch, is_sob, op, op_in, said_of, said_with, op_or, reaches, with_label, with_offset};
 ghost use Rattle.patchline.specs.Line as Spec;
 
-use crate::text::{is_name, part, place, same};
+use crate::text::{is_name, part, place};
+use hexdigits::put_text;
 use optext::Op;
 use optext::reading::{after, un_hex4};
 use wordbytes::byte_at;
 use wordmath::address::{minus, plus};
 
 // How a line is taken.
-#[derive(Clone, Copy)]
+#[derive(Clone, Copy, PartialEq, Eq)]
 pub enum How {
     // 24: not known.
     Unknown,
@@ -28,7 +29,7 @@ pub enum How {
 }
 
 // How a line is taken, and its words; of .ORG the origin as if it were the first word.
-#[derive(Clone, Copy)]
+#[derive(Clone, Copy, PartialEq, Eq)]
 pub struct Said {
     pub how: How,
     pub op: Op,
@@ -88,46 +89,31 @@ pub fn label_in(o: &[u8]) -> &[u8]
     &u[..0]
 }
 
-// A text, in front of a lent one.
-fn put(out: &mut [u8], s: &[u8]) -> usize
-    requires { length s.now ≤ length out.old }
-    ensures { Wrote s.now out.old out.new result }
-{
-    let mut i = 0;
-    while i < s.len() {
-        out[i] = s[i];
-        i += 1;
-    }
-    i
-}
-
-// The same from a place on.
+// A text from a place on.
 fn put_at(out: &mut [u8], at: usize, s: &[u8]) -> usize
     requires { at + length s.now ≤ length out.old }
     ensures { WroteAt at s.now out.old out.new result }
 {
-    let n = put(&mut out[at..], s);
-    at + n
+    at + put_text(&mut out[at..], s)
 }
 
 // The mnemonic and its space, of an alias the op code's.
-fn put_alias(out: &mut [u8], h: &[u8]) -> usize
-    requires { (33 ≤ length out.old) × (length h.now ≤ 33) }
-    ensures { Wrote (alias_of h.now) out.old out.new result }
+fn alias(h: &[u8]) -> &[u8]
+    ensures { result.now ≡ alias_of h.now }
 {
-    if same(h, b"BHIS ") {
-        return put(out, b"BCC ");
+    if h == b"BHIS ".as_slice() {
+        return b"BCC ";
     }
-    if same(h, b"BLO ") {
-        return put(out, b"BCS ");
+    if h == b"BLO ".as_slice() {
+        return b"BCS ";
     }
-    if same(h, b"CALL ") {
-        return put(out, b"JSR PC,");
+    if h == b"CALL ".as_slice() {
+        return b"JSR PC,";
     }
-    if same(h, b"JMP ") {
-        return put(out, b"LEA PC,");
+    if h == b"JMP ".as_slice() {
+        return b"LEA PC,";
     }
-    put(out, h)
+    h
 }
 
 // An operand with digits where its label stands.
@@ -137,10 +123,10 @@ fn put_operand(out: &mut [u8], o: &[u8], d: &[u8]) -> usize
 {
     if is_name(bare(o)) {
         let n = at(o);
-        let m = put(out, part(o, 0, n));
+        let m = put_text(out, part(o, 0, n));
         return put_at(out, m, d);
     }
-    put(out, o)
+    put_text(out, o)
 }
 
 fn put_operand_at(out: &mut [u8], at: usize, o: &[u8], d: &[u8]) -> usize
@@ -168,19 +154,19 @@ fn put_filled(out: &mut [u8], t: &[u8], d: &[u8]) -> usize
     requires { (128 ≤ length out.old) × (length t.now ≤ 33) × (length d.now ≤ 8) }
     ensures { Wrote (filled d.now t.now) out.old out.new result }
 {
-    let n = put_alias(out, part(t, 0, operands_at(t)));
+    let n = put_text(out, alias(part(t, 0, operands_at(t))));
     let m = put_operand_at(out, n, first(t), d);
     put_tail_at(out, m, t, d)
 }
 
 // The op code whose text it then is. Its text has 24 characters at most, and a text loses nine at most where digits and an
 // op code's name stand for labels and an alias: so a text over 33 is no op code's.
-fn filled_op(t: &[u8], d: &[u8]) -> Op
+fn filled_op(t: &[u8], d: &[u8]) -> Option<Op>
     requires { (2 ≤ length d.now) × (length d.now ≤ 8) }
-    ensures { (result ≡ op_in (filled d.now t.now)) × (result.count ≤ 3) }
+    ensures { (op_or result ≡ op_in (filled d.now t.now)) × IfSome result (λ o. (0 < o.count) × (o.count ≤ 3)) }
 {
     if 33 < t.len() {
-        return word_op(0, 0);
+        return None;
     }
     let mut out = [0u8; 128];
     let n = put_filled(&mut out, t, d);
@@ -193,7 +179,7 @@ fn is_number(t: &[u8]) -> bool
 {
     let mut digits = [0u8; 4];
     hexdigits::put_hex4(&mut digits, un_hex4(t));
-    same(t, &digits)
+    t == digits.as_slice()
 }
 
 // Is it this directive and four digits?
@@ -201,7 +187,7 @@ fn is_directive(name: &[u8], t: &[u8]) -> bool
     ensures { result ≡ is_directive name.now t.now }
 {
     let n = name.len();
-    same(part(t, 0, n), name) & is_number(after(t, n))
+    (part(t, 0, n) == name) & is_number(after(t, n))
 }
 
 fn is_branch(w: u16) -> bool
@@ -216,42 +202,38 @@ fn is_sob(w: u16) -> bool
     w / 512 == 59
 }
 
-fn word_op(n: usize, a: u16) -> Op
-    ensures { result ≡ op n a }
+fn word_op(count: usize, a: u16) -> Op
+    ensures { result ≡ op count a }
 {
     Op {
-        count: n,
+        count,
         a,
         b: 0,
         c: 0,
     }
 }
 
-fn said_with(field: Op, offset: Op) -> Said
-    ensures { result ≡ said_with field offset }
+fn says(how: How, op: Op) -> Said
+    ensures { result ≡ Spec.says how op }
 {
-    if is_branch(field.a) {
-        return Said {
-            how: How::Branch,
-            op: field,
-        };
+    Said { how, op }
+}
+
+fn said_with(field: Option<Op>, offset: Option<Op>) -> Said
+    requires { IfSome offset (λ o. 0 < o.count) }
+    ensures { result ≡ said_with (op_or field) (op_or offset) }
+{
+    if let Some(op) = field {
+        if is_branch(op.a) {
+            return says(How::Branch, op);
+        }
+        if is_sob(op.a) {
+            return says(How::Sob, op);
+        }
     }
-    if is_sob(field.a) {
-        return Said {
-            how: How::Sob,
-            op: field,
-        };
-    }
-    if offset.count == 0 {
-        let none = word_op(0, 0);
-        return Said {
-            how: How::Unknown,
-            op: none,
-        };
-    }
-    Said {
-        how: How::Relative,
-        op: offset,
+    match offset {
+        Some(op) => says(How::Relative, op),
+        None => says(How::Unknown, word_op(0, 0)),
     }
 }
 
@@ -259,33 +241,17 @@ fn said_with(field: Op, offset: Op) -> Said
 pub fn meaning(t: &[u8]) -> Said
     ensures { (result ≡ said_of t.now) × (result.op.count ≤ 3) }
 {
-    if t.len() == 0 {
-        let none = word_op(0, 0);
-        return Said {
-            how: How::Plain,
-            op: none,
-        };
+    if t.is_empty() {
+        return says(How::Plain, word_op(0, 0));
     }
-    let plain = optext::op_of(t);
-    if 0 < plain.count {
-        return Said {
-            how: How::Plain,
-            op: plain,
-        };
+    if let Some(op) = optext::op_of(t) {
+        return says(How::Plain, op);
     }
     if is_directive(b".ORG ", t) {
-        let origin = word_op(0, un_hex4(after(t, 5)));
-        return Said {
-            how: How::Origin,
-            op: origin,
-        };
+        return says(How::Origin, word_op(0, un_hex4(after(t, 5))));
     }
     if is_directive(b".WORD ", t) {
-        let word = word_op(1, un_hex4(after(t, 6)));
-        return Said {
-            how: How::Plain,
-            op: word,
-        };
+        return says(How::Plain, word_op(1, un_hex4(after(t, 6))));
     }
     let field = filled_op(t, b"00");
     let offset = filled_op(t, b"0000(PC)");
@@ -309,12 +275,9 @@ pub fn reach(how: How, v: u16, h: u16) -> bool
     ensures { result ≡ reaches how v h }
 {
     match how {
-        How::Unknown => true,
-        How::Origin => true,
-        How::Plain => true,
         How::Branch => plus(ahead(v, h), 256) < 512,
         How::Sob => behind(v, h) < 128,
-        How::Relative => true,
+        How::Unknown | How::Origin | How::Plain | How::Relative => true,
     }
 }
 
@@ -322,30 +285,17 @@ fn with_offset(third: bool, v: u16, h: u16, o: Op) -> Op
     ensures { result ≡ with_offset third v h o }
 {
     if third {
-        return Op {
-            count: o.count,
-            a: o.a,
-            b: o.b,
-            c: minus(v, plus(h, 6)),
-        };
+        let c = minus(v, plus(h, 6));
+        return Op { c, ..o };
     }
-    Op {
-        count: o.count,
-        a: o.a,
-        b: minus(v, plus(h, 4)),
-        c: o.c,
-    }
+    let b = minus(v, plus(h, 4));
+    Op { b, ..o }
 }
 
-fn with_a(x: u16, o: Op) -> Op
-    ensures { result ≡ Spec.with_a x o }
+fn with_a(a: u16, o: Op) -> Op
+    ensures { result ≡ Spec.with_a a o }
 {
-    Op {
-        count: o.count,
-        a: x,
-        b: o.b,
-        c: o.c,
-    }
+    Op { a, ..o }
 }
 
 // The words with the value of a label in them.
@@ -353,9 +303,7 @@ pub fn with_label(how: How, third: bool, v: u16, h: u16, o: Op) -> Op
     ensures { result ≡ with_label how third v h o }
 {
     match how {
-        How::Unknown => o,
-        How::Origin => o,
-        How::Plain => o,
+        How::Unknown | How::Origin | How::Plain => o,
         How::Branch => with_a(plus(o.a, ahead(v, h) / 2 % 256), o),
         How::Sob => with_a(plus(o.a, behind(v, h) / 2 % 64), o),
         How::Relative => with_offset(third, v, h, o),

@@ -1,82 +1,42 @@
 // A line taken apart: its label, and the rest without its padding.
-ghost use Rattle.std.specs.Prelude.{◌≡◌, not, ◌&&◌, ◌≤◌, ◌<◌, leb, length, drop, get_or};
-ghost use Rattle.optext.specs.Read as Read;
-ghost use Rattle.patchline.specs.Text.{slice, is_at, find_from, is_past, past_of, is_register, is_name, padding_from, without_padding, rest_from, label_of, rest_of};
+ghost use Rattle.std.specs.Prelude.{◌≡◌, ◌≤◌, length};
+ghost use Rattle.patchline.specs.Text.{slice, find_from, past_of, is_register, is_name, without_padding, rest_from, label_of, rest_of};
 ghost use Rattle.patchline.specs.Text as Spec;
 
 use optext::reading::after;
 use wordbytes::byte_at;
-
-// Do two texts have the same bytes?
-pub(crate) fn same(a: &[u8], b: &[u8]) -> bool
-    ensures { result ≡ Read.same_text a.now b.now }
-{
-    check::same(a, b)
-}
 
 // What stands from a place on, up to another.
 pub(crate) fn part(t: &[u8], a: usize, e: usize) -> &[u8]
     ensures { result.now ≡ slice a e t.now }
 {
     let u = after(t, a);
-    let n = u.len();
-    if e <= a {
-        return &u[..0];
-    }
-    let m = e - a;
-    if n <= m {
-        return u;
-    }
-    &u[..m]
-}
-
-// Does a byte stand at a place?
-fn is_at(c: u8, t: &[u8], k: usize) -> bool
-    ensures { result ≡ is_at c t.now k }
-{
-    byte_at(t, k) == c
+    &u[..e.saturating_sub(a).min(u.len())]
 }
 
 // The first place of a byte from a place on, or the end.
 pub(crate) fn place(c: u8, t: &[u8], from: usize) -> usize
     ensures { result ≡ find_from c t.now from }
 {
-    let mut i = from;
-    while i < t.len() {
-        if is_at(c, t, i) {
+    for i in from..t.len() {
+        if t[i] == c {
             return i;
         }
-        i += 1;
     }
-    i
-}
-
-// Is the byte at a place no letter from A to `top`?
-fn is_past(top: u8, t: &[u8], k: usize) -> bool
-    ensures { result ≡ is_past top t.now k }
-{
-    let c = byte_at(t, k);
-    !((b'A' <= c) & (c <= top))
+    from.max(t.len())
 }
 
 // How far a text has letters from A to `top` alone.
 fn past(top: u8, t: &[u8]) -> usize
     ensures { (result ≡ past_of top t.now) × (result ≤ length t.now) }
 {
-    let mut i = 0;
-    while i < t.len() {
-        if is_past(top, t, i) {
-            return i;
-        }
-        i += 1;
-    }
-    i
+    t.iter().take_while(|&&c| b'A' <= c && c <= top).count()
 }
 
 fn is_register(u: &[u8]) -> bool
     ensures { result ≡ is_register u.now }
 {
-    same(u, b"SP") | same(u, b"PC")
+    (u == b"SP".as_slice()) | (u == b"PC".as_slice())
 }
 
 // May a label have this name?
@@ -101,7 +61,7 @@ pub fn gives(u: &[u8], line: &[u8]) -> bool
 {
     let n = u.len();
     if n < line.len() {
-        return same(&line[..n], u) & ((byte_at(line, n) == b':') & (byte_at(line, n + 1) == b' '));
+        return (&line[..n] == u) & ((byte_at(line, n) == b':') & (byte_at(line, n + 1) == b' '));
     }
     false
 }
@@ -120,26 +80,18 @@ pub fn label(line: &[u8]) -> &[u8]
     &line[..0]
 }
 
-// Where the padding begins.
-fn end(t: &[u8]) -> usize
-    ensures { (result ≡ padding_from (length t.now) t.now) × (result ≤ length t.now) }
-{
-    let mut i = t.len();
-    while 0 < i {
-        if byte_at(t, i - 1) != b' ' {
-            return i;
-        }
-        i -= 1;
-    }
-    0
-}
-
 // A text without its padding.
 fn unpadded(t: &[u8]) -> &[u8]
     ensures { result.now ≡ without_padding t.now }
 {
-    let n = end(t);
-    &t[..n]
+    let mut kept = t;
+    while let Some((last, before)) = kept.split_last() {
+        if *last != b' ' {
+            return kept;
+        }
+        kept = before;
+    }
+    kept
 }
 
 // How far the rest of a line is behind its label, which has six letters at most.

@@ -1,4 +1,5 @@
-// The service sheet's plate: the format of an op code by its high byte. 1 stands for formats 1 to 4.
+// The service sheet's plate: the format of an op code by its high byte. 1 stands for formats 1 to 4. The manual names formats by
+// their numbers, so an enum would only spell these.
 #![tactic(auto)]
 
 ghost use Rattle.std.specs.Prelude.{◌≡◌, ◌/◌};

@@ -1,84 +1,66 @@
-// What the programs share: bytes, numbers and lines on an output, what is said on standard error where they could not be written,
-// reading until a buffer is full, a board's settings and the lines of an input. Each function that prints answers whether all was
-// written.
+// What the programs share: lines and refusals on an output, what is said on standard error where they could not be written, reading
+// until a buffer is full, a board's settings and the lines of an input.
 #![tactic(auto)]
 
-ghost use Rattle.std.specs.Prelude.{◌≡◌, ◌≤◌, length};
+ghost use Rattle.std.specs.Prelude.{◌≡◌, ◌≤◌, ◌<◌, ◌==◌, true, not, length, take};
+ghost use Rattle.std.specs.Result.{IsOkAnd, is_err};
+ghost use Rattle.std.specs.List.{prefix_len};
 ghost use Rattle.printing.specs.Lines as Spec;
 
-use benchline::Printed;
-use hexdigits::put_hex4;
+use refusal::Refusal;
 use state::Settings;
-use std::io::{Print, Read};
+use std::io;
+use std::io::{ErrorKind, Print, Read};
 
-pub fn put(out: &impl Print, text: &[u8]) -> bool {
-    out.write_all(text).is_ok()
+// The first n of the bytes of a text, or of words. Where there are fewer there is no answer to write.
+pub fn first<T>(all: &[T], n: usize) -> io::Result<&[T]>
+    ensures whole { n ≤ length all.now → IsOkAnd result (λ s. s.now ≡ take n all.now) }
+    ensures none { length all.now < n → is_err result ≡ true }
+{
+    Ok(all.get(..n).ok_or(ErrorKind::InvalidInput)?)
 }
 
-// A number in decimal digits.
-pub fn put_decimal(out: &impl Print, n: u64) -> bool {
-    out.print(n).is_ok()
+// A text and the end of the line.
+pub fn put_line(out: &impl Print, text: &[u8]) -> io::Result<()> {
+    out.write_all(text)?;
+    out.write_all(b"\n")
 }
 
-// The first n bytes of a text.
-pub fn put_first(out: &impl Print, text: &[u8], n: usize) -> bool {
-    if n <= text.len() {
-        return put(out, &text[..n]);
+pub fn put_spaces(out: &impl Print, n: usize) -> io::Result<()> {
+    for _ in 0..n {
+        out.write_all(b" ")?;
     }
-    false
-}
-
-// The same, and the end of the line.
-pub fn put_line(out: &impl Print, text: &[u8], n: usize) -> bool {
-    put_first(out, text, n) && put(out, b"\n")
-}
-
-fn put_space(out: &impl Print) -> bool {
-    put(out, b" ")
-}
-
-pub fn put_spaces(out: &impl Print, n: usize) -> bool {
-    let mut i = 0;
-    while i < n {
-        if !put_space(out) {
-            return false;
-        }
-        i += 1;
-    }
-    true
-}
-
-// A word's four hex digits.
-pub fn put_word(out: &impl Print, w: u16) -> bool {
-    let mut digits = [0u8; 4];
-    put_hex4(&mut digits, w);
-    put(out, &digits)
+    Ok(())
 }
 
 // A line that was printed into a text.
-pub fn put_printed(out: &impl Print, text: &[u8], printed: Printed) -> bool {
+pub fn put_printed(
+    out: &impl Print,
+    text: &[u8],
+    printed: Result<usize, Refusal>,
+) -> io::Result<()> {
     match printed {
-        Printed::Line(n) => put_line(out, text, n),
-        Printed::Refused(_) => false,
+        Ok(n) => put_line(out, first(text, n)?),
+        Err(_) => Err(ErrorKind::InvalidInput.into()),
     }
 }
 
 // bench's line of a refusal: REFUSED and its number.
-pub fn put_refused(out: &impl Print, why: u8) -> bool {
+pub fn put_refused(out: &impl Print, why: Refusal) -> io::Result<()> {
     let mut text = [0u8; 16];
-    let printed = benchline::write_refused(&mut text, why);
+    let printed = benchline::write_refused(&mut text, u8::from(why));
     put_printed(out, &text, printed)
 }
 
 // Says on standard error that a program's answer could not be written, where it was not.
-pub fn say_unless(err: &impl Print, written: bool, program: &[u8]) {
-    if !written {
-        put(err, program);
-        put(err, b": the answer could not be written\n");
+pub fn say_unless(err: &impl Print, written: io::Result<()>, program: &str) {
+    if written.is_err() {
+        let _ = println!(err; "{program}: the answer could not be written");
     }
 }
 
-// Reads until the buffer is full, the input ends or a read fails, and answers how many bytes it put at the buffer's start.
+// Reads until the buffer is full, the input ends or a read fails, and answers how many bytes it put at the buffer's start. No method
+// of the library stops at all three and says how far it came.
 pub fn read_full(input: &mut impl Read, buffer: &mut [u8]) -> usize
     ensures { result ≤ length buffer.new }
 {
@@ -99,11 +81,12 @@ pub fn read_full(input: &mut impl Read, buffer: &mut [u8]) -> usize
 pub fn read_board(input: &mut impl Read) -> Settings {
     let mut bytes = [0u8; 4];
     read_full(input, &mut bytes);
+    let [blocks, powerup, halt, register] = bytes;
     Settings {
-        blocks: bytes[0] != 0,
-        powerup: bytes[1],
-        halt: bytes[2],
-        register: bytes[3],
+        blocks: blocks != 0,
+        powerup,
+        halt,
+        register,
     }
 }
 
@@ -111,12 +94,15 @@ pub fn read_board(input: &mut impl Read) -> Settings {
 pub fn line_end(t: &[u8], from: usize) -> usize
     ensures { result ≡ Spec.line_ends_at t.now from }
 {
-    let mut i = from;
-    while i < t.len() {
-        if t[i] == b'\n' {
-            return i;
-        }
-        i += 1;
+    if t.len() < from {
+        return from;
     }
-    i
+    from + length_before(&t[from..])
+}
+
+// How many bytes stand before the first newline.
+fn length_before(t: &[u8]) -> usize
+    ensures { result ≡ prefix_len (λ b. not (b == 10)) t.now }
+{
+    t.iter().take_while(|b| **b != b'\n').count()
 }

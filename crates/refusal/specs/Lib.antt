@@ -1,3 +1,4 @@
+pub mod Answer
 pub mod Numbers
 pub mod Page
 pub mod Refusal

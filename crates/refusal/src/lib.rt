@@ -1,10 +1,82 @@
-// The refusals 1 to 5 and 35 of what the processor is lent, and 0 for none.
+// The refusals, and the checks of what the processor is lent: 1 to 5 and 35.
 #![tactic(auto)]
 
 ghost use Rattle.std.specs.Prelude.{◌≡◌, ◌+◌, ◌*◌, ◌/◌, ◌%◌, ◌<◌, ◌≤◌, ◌&&◌, length, nat_lt, slice_index};
+ghost use Rattle.refusal.specs.Answer.{number, why_of};
 ghost use Rattle.refusal.specs.Refusal as Spec;
 
-pub mod number;
+// The refusals of documents 01 and 02, by what they refuse, each with its number. 6, 7, 9 and 30 to 32 are the text's alone: optext has them,
+// beside 8 and 10, as the cases of its answers.
+#[derive(Clone, Copy, Debug, PartialEq, Eq)]
+pub enum Refusal {
+    // What the processor is lent: the image is not 65,536 bytes, the map not 256, a map byte is over 2; a jumper number is over 3 or
+    // the address register over 63; there are over 4,096 line words (for the job reader: the line buffer is not 4,096 words), an
+    // unused bit of a line word is set.
+    ImageLength = 1,
+    MapLength = 2,
+    MapByte = 3,
+    Setup = 35,
+    LinesLength = 4,
+    LineBit = 5,
+    // What is lent to be written is too short: a text; an output, or the words of a text that is read.
+    TextShort = 8,
+    OutputShort = 10,
+    // A job: it ends inside a count or an entry.
+    JobEnds = 11,
+    // Its pages: over 256; not rising.
+    ManyPages = 12,
+    PageNotRising = 13,
+    // Its words: over 4,096; an address that is odd, not rising, in an unfitted page.
+    ManyWords = 14,
+    AddressOdd = 15,
+    AddressNotRising = 16,
+    AddressUnfitted = 17,
+    // Its line words: over 4,096; an unused bit is set. Bytes are left over.
+    ManyLines = 18,
+    JobLineBit = 19,
+    BytesLeft = 20,
+    // Its read-only pages: not rising, or not fitted.
+    ReadOnlyPage = 22,
+    // The functions for C: a buffer has a wrong length, or a byte over its range.
+    NoState = 21,
+    // A listing: an address is odd, or the last is below the first.
+    NoStretch = 23,
+    // The text for C: an odd number of bytes is lent for words.
+    WordsOdd = 38,
+    // The assembler: its source is not whole lines, or over 1,024 of them.
+    SourceLines = 36,
+    // A line's text is unknown; its label was given already; a label that it names is given nowhere.
+    UnknownText = 24,
+    LabelAgain = 25,
+    LabelMissing = 26,
+    // A branch or SOB doesn't reach its label; an odd origin, or words that overlap an earlier line's or run past FFFF.
+    OutOfReach = 27,
+    OutOfPlace = 28,
+    // A trace: it ends inside its count or a state, or bytes are left over.
+    TraceCut = 29,
+    // The recorder: a reading is out of range; there were 4,096 scans already; a channel is over 15.
+    ReadingOutOfRange = 33,
+    ScansFull = 37,
+    NoChannel = 34,
+}
+
+impl From<Refusal> for u8 {
+    ghost from_gives = { λ why n. n ≡ number why };
+
+    fn from(why: Refusal) -> u8 {
+        why as u8
+    }
+}
+
+// An answer's number for C: 0 where nothing is refused.
+pub fn told(answer: Result<(), Refusal>) -> u8
+    ensures { result ≡ why_of answer }
+{
+    match answer {
+        Ok(()) => 0,
+        Err(why) => u8::from(why),
+    }
+}
 
 // The most line words of a run.
 pub const MOST_LINE_WORDS: usize = 4096;
@@ -50,12 +122,10 @@ fn all_flat(map: &[u8]) -> bool
 {
     let mut seen: u32 = 0;
     let mut next: u32 = 0;
-    let mut i: u16 = 0;
-    while i < 256 {
-        let w = four(map, i as usize);
-        seen = seen | w;
-        next = next | std::num::wrapping_add_u32(w, 0x0101_0101);
-        i += 4;
+    for k in 0..64 {
+        let w = four(map, k * 4);
+        seen |= w;
+        next |= w.wrapping_add(0x0101_0101);
     }
     low(seen) & low(next)
 }
@@ -65,45 +135,43 @@ fn all_plain(lines: &[u16]) -> bool
     requires { length lines.now ≤ Spec.most_line_words }
     ensures { result ≡ Spec.all_of Spec.plain lines.now }
 {
-    let n = lines.len() as u16;
     let mut seen: u16 = 0;
-    let mut i: u16 = 0;
-    while i < n {
-        seen = seen | lines[i as usize];
-        i += 1;
+    for &line in lines {
+        seen |= line;
     }
     plain(seen)
 }
 
 // 1, 2 or 3.
-pub fn board_refusal(size: usize, map: &[u8]) -> u8
-    ensures { result ≡ Spec.board_refusal size map.now }
+pub fn board_refusal(size: usize, map: &[u8]) -> Result<(), Refusal>
+    ensures { why_of result ≡ Spec.board_refusal size map.now }
 {
     if size != 65536 {
-        return number::IMAGE_LENGTH;
+        return Err(Refusal::ImageLength);
     }
     if map.len() != 256 {
-        return number::MAP_LENGTH;
+        return Err(Refusal::MapLength);
     }
     if !all_flat(map) {
-        return number::MAP_BYTE;
+        return Err(Refusal::MapByte);
     }
-    0
+    Ok(())
 }
 
-fn lines_refusal(lines: &[u16]) -> u8
-    ensures { result ≡ Spec.lines_refusal lines.now }
+fn lines_refusal(lines: &[u16]) -> Result<(), Refusal>
+    ensures { why_of result ≡ Spec.lines_refusal lines.now }
 {
     if MOST_LINE_WORDS < lines.len() {
-        return number::LINES_LENGTH;
+        return Err(Refusal::LinesLength);
     }
     if !all_plain(lines) {
-        return number::LINE_BIT;
+        return Err(Refusal::LineBit);
     }
-    0
+    Ok(())
 }
 
 // The jumpers of the power-up option, those of the halt option, the address register.
+// Three numbers and no struct: theirs is `Settings` of state, and this crate, which the crates of text use without a processor, stands on none.
 fn jumpers_fit(p: u8, h: u8, r: u8) -> bool
     ensures { result ≡ Spec.jumpers_fit p h r }
 {
@@ -111,36 +179,38 @@ fn jumpers_fit(p: u8, h: u8, r: u8) -> bool
 }
 
 // 1, 2, 3 or 35.
-pub fn power_refusal(size: usize, map: &[u8], p: u8, h: u8, r: u8) -> u8
-    ensures { result ≡ Spec.power_refusal size map.now p h r }
+pub fn power_refusal(size: usize, map: &[u8], p: u8, h: u8, r: u8) -> Result<(), Refusal>
+    ensures { why_of result ≡ Spec.power_refusal size map.now p h r }
 {
-    let why = board_refusal(size, map);
-    if why != 0 {
-        return why;
-    }
+    board_refusal(size, map)?;
     if jumpers_fit(p, h, r) {
-        0
+        Ok(())
     } else {
-        number::SETUP
+        Err(Refusal::Setup)
     }
 }
 
-pub fn step_refusal(size: usize, map: &[u8], p: u8, h: u8, r: u8, line: u16) -> u8
-    ensures { result ≡ Spec.step_refusal size map.now p h r line }
+pub fn step_refusal(size: usize, map: &[u8], p: u8, h: u8, r: u8, line: u16) -> Result<(), Refusal>
+    ensures { why_of result ≡ Spec.step_refusal size map.now p h r line }
 {
-    let why = power_refusal(size, map, p, h, r);
-    if why != 0 {
-        return why;
+    power_refusal(size, map, p, h, r)?;
+    if plain(line) {
+        Ok(())
+    } else {
+        Err(Refusal::LineBit)
     }
-    if plain(line) { 0 } else { number::LINE_BIT }
 }
 
-pub fn run_refusal(size: usize, map: &[u8], p: u8, h: u8, r: u8, lines: &[u16]) -> u8
-    ensures { result ≡ Spec.run_refusal size map.now p h r lines.now }
+pub fn run_refusal(
+    size: usize,
+    map: &[u8],
+    p: u8,
+    h: u8,
+    r: u8,
+    lines: &[u16],
+) -> Result<(), Refusal>
+    ensures { why_of result ≡ Spec.run_refusal size map.now p h r lines.now }
 {
-    let why = power_refusal(size, map, p, h, r);
-    if why != 0 {
-        return why;
-    }
+    power_refusal(size, map, p, h, r)?;
     lines_refusal(lines)
 }

@@ -1,4 +1,5 @@
 -- From the callees' promises to a job's run, and to bench's line.
+use Rattle.std.proofs.Common.{Result, Ok, Err}
 use Prim.Native.Nat.{ℕ, ◌<◌, ◌≤◌}
 use mathlib.Core.List.{List}
 use mathlib.Core.Path.{◌≡◌, refl, sym, ap, ◌∙◌}
@@ -7,26 +8,25 @@ use borrow.Author.Tests.{le-leb, lt-leb}
 use lib.ListN.{length, take}
 use Rattle.wordbytes.specs.Words.{word_at}
 use Rattle.refusal.specs.Numbers.{text_short}
+use Rattle.refusal.specs.declared.Refusal.{Refusal}
+use Rattle.refusal.specs.Answer.{number}
 use Rattle.refusal.specs.Page.{refused, answered, left}
 use Rattle.refusal.proofs.Laws.Page.{answered-one, call-refused, call-right, call-told}
 use Rattle.refusal.proofs.Laws.Refusal.{run_sound}
 use Rattle.machine.specs.declared.Ran.{Ran}
-use Rattle.machine.specs.declared.Finished.{Finished}
-use Rattle.machine.specs.declared.Finished.TheVariants as Finished
+use Rattle.machine.specs.Entry.{Finished, finished_page}
 use Rattle.machine.specs.Numbers.{RanPage, ran_page}
 use Rattle.machine.specs.Run.{End, end, run_of, ran_of}
-use Rattle.machine.specs.Entry.{finished_page}
 use Rattle.machine.proofs.Laws.Back.{ran-one}
 use Rattle.job.specs.Job.{lines_at, image_of, map_of, lines_of, line_words, Filled, why_read}
 use Rattle.job.proofs.Laws.Sound.{job-taken}
 use Rattle.hexdigits.specs.Over.{in_front_of}
-use Rattle.benchline.specs.declared.Printed.{Printed}
 use Rattle.benchline.specs.Line.{printed_page, print_of}
 use Rattle.benchline.proofs.Laws.{line-length}
 use Rattle.benchline.proofs.Laws.Printed.{printed-fits}
 use Rattle.endline.specs.Report.{end_on, bench_board, end_text}
 use Rattle.runjob.specs.declared.Started.{Started}
-use Rattle.runjob.specs.Bench.{up_of, Accepted, RunBegins, run_in, ran_at, job_run, end_line, bench_of}
+use Rattle.runjob.specs.Bench.{Accepted, RunBegins, run_in, ran_at, job_run, end_line, bench_of}
 
 -- ---- the beginning: the buffers of an accepted job have their lengths, and its line words are few
 
@@ -77,14 +77,14 @@ module _ (input text image map lines : List ℕ) where
   bench-short h = rw (lt-leb 61 (length text) h)
 
   module _ (room : 61 ≤ length text) (r : Finished) (i m l : List ℕ) (e : left (finished_page r) (i, m, l) ≡ job_run input image map lines) where
-    pub bench-refused : (why : ℕ) → r ≡ Finished.Refused why → left (refused why) (text, i, m, l) ≡ bench_of input text image map lines
+    pub bench-refused : (why : Refusal) → r ≡ Err why → left (refused (number why)) (text, i, m, l) ≡ bench_of input text image map lines
     unfolding job_run bench_of
     bench-refused why d =
         let t = call-told (why_read (length image) (length map) (length lines) input) (ran_at input (run_in input)) (image, map, lines) (end-answer input (run_in input)) (ap (λ z. left (finished_page z) (i, m, l)) (sym d) ∙ e) in
         rw (ap (λ z. z.0) t.2, ap (λ z. z.1) t.2, ap (λ z. z.2) t.2, le-leb 61 (length text) room)
-        (call-refused (why_read (length image) (length map) (length lines) input) (end_line input text (run_in input)) (text, image, map, lines) why t.0 t.1)
+        (call-refused (why_read (length image) (length map) (length lines) input) (end_line input text (run_in input)) (text, image, map, lines) (number why) t.0 t.1)
 
-    pub bench-done : (ran : Ran) (p : Printed) (text' : List ℕ) → r ≡ Finished.Done ran → left (printed_page p) text' ≡ print_of (end_text ran) text
+    pub bench-done : (ran : Ran) (p : Result ℕ Refusal) (text' : List ℕ) → r ≡ Ok ran → left (printed_page p) text' ≡ print_of (end_text ran) text
         → left (printed_page p) (text', i, m, l) ≡ bench_of input text image map lines
     unfolding job_run bench_of
     bench-done ran p text' d w =

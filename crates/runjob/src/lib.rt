@@ -9,10 +9,9 @@ ghost use Rattle.machine.specs.Door.{GoodBoard, Runs};
 ghost use Rattle.endline.specs.Report.{bench_board};
 ghost use Rattle.runjob.specs.Bench as Spec;
 
-use benchline::Printed;
 use endline::bench_board;
-use machine::{Finished, Ran, door};
-use refusal::number::TEXT_SHORT;
+use machine::{Ran, door};
+use refusal::Refusal;
 use state::State;
 
 // Where a job begins: the state after power-up, and the number of its line words.
@@ -42,18 +41,20 @@ fn run_first(s: State, image: &mut [u8], map: &[u8], lines: &[u16], count: u16) 
 }
 
 // Reads a job into the lent buffers, powers up bench's board and runs over the job's line words; or the job's own refusal.
-pub fn run(input: &[u8], image: &mut [u8], map: &mut [u8], lines: &mut [u16]) -> Finished
+pub fn run(
+    input: &[u8],
+    image: &mut [u8],
+    map: &mut [u8],
+    lines: &mut [u16],
+) -> Result<Ran, Refusal>
     ensures { left (finished_page result) (image.new, map.new, lines.new)
         ≡ Spec.job_run input.now image.old map.old lines.old }
 {
-    let why = job::refusal(image.len(), map.len(), lines.len(), input);
-    if why != 0 {
-        return Finished::Refused(why);
-    }
+    job::refusal(image.len(), map.len(), lines.len(), input)?;
     let begun = begin(input, image, map, lines);
     let s = begun.state;
     let count = begun.count;
-    Finished::Done(run_first(s, image, map, lines, count))
+    Ok(run_first(s, image, map, lines, count))
 }
 
 // The same, and bench's line in front of the text; or 8 where the text is under 61, then the job's own refusal. A refusal leaves
@@ -64,15 +65,13 @@ pub fn run_job(
     image: &mut [u8],
     map: &mut [u8],
     lines: &mut [u16],
-) -> Printed
+) -> Result<usize, Refusal>
     ensures { left (printed_page result) (text.new, image.new, map.new, lines.new)
         ≡ Spec.bench_of input.now text.old image.old map.old lines.old }
 {
     if text.len() < 61 {
-        return Printed::Refused(TEXT_SHORT);
+        return Err(Refusal::TextShort);
     }
-    match run(input, image, map, lines) {
-        Finished::Done(ran) => endline::write_end(text, ran),
-        Finished::Refused(why) => Printed::Refused(why),
-    }
+    let ran = run(input, image, map, lines)?;
+    endline::write_end(text, ran)
 }

@@ -12,13 +12,13 @@ use wordmath::{Done, Flags, Pair};
 pub fn single(way: Way, count: u16, x: u16, f: Flags) -> Done
     ensures { result ≡ single_of way count x f }
 {
-    let k = n_bit(way);
+    let k = n_bit(16, way);
     let t = shift(
         16,
         way,
         count,
         BitsAndC {
-            x: x as u32,
+            x: u32::from(x),
             c: f.c,
         },
     );
@@ -29,13 +29,13 @@ pub fn single(way: Way, count: u16, x: u16, f: Flags) -> Done
 pub fn double(way: Way, count: u16, low: u16, high: u16, f: Flags) -> Pair
     ensures { result ≡ double_of way count low high f }
 {
-    let k = n_bit(way);
+    let k = n_bit(16, way);
     let t = shift(
         32,
         way,
         count,
         BitsAndC {
-            x: high as u32 * 0x1_0000 + low as u32,
+            x: u32::from(high) * 0x1_0000 + u32::from(low),
             c: f.c,
         },
     );

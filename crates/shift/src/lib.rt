@@ -8,7 +8,7 @@ pub mod signed;
 mod turning;
 
 // A number that is being shifted and the C flag beside it.
-#[derive(Clone, Copy)]
+#[derive(Clone, Copy, Debug, Eq, PartialEq)]
 pub(crate) struct BitsAndC {
     pub x: u32,
     pub c: bool,

@@ -6,37 +6,18 @@ use super::BitsAndC;
 use super::shifted::{leave, n_bit};
 use super::turning::turn;
 use opcodes::Way;
+use wordmath::width::Width;
 use wordmath::{Done, Flags};
 
-// ROR, ROL, ASR, ASL
-pub fn one_bit16(way: Way, d: u16, f: Flags) -> Done
-    ensures { result ≡ one_bit_of 16 way d f }
+// ROR, ROL, ASR, ASL and RORB, ROLB, ASRB, ASLB
+pub fn one_bit<W: Width>(way: Way, d: W, f: Flags) -> Done
+    ensures { result ≡ one_bit_of W.BITS way (W.value d) f }
 {
-    let k = n_bit(way);
-    let t = turn(
-        16,
-        way,
-        BitsAndC {
-            x: d as u32,
-            c: f.c,
-        },
-    );
+    let start = BitsAndC {
+        x: d.number(),
+        c: f.c,
+    };
+    let k = n_bit(W::BITS, way);
+    let t = turn(W::BITS, way, start);
     leave(k, t)
-}
-
-// RORB, ROLB, ASRB, ASLB
-pub fn one_bit8(way: Way, d: u8, f: Flags) -> Done
-    ensures { result ≡ one_bit_of 8 way d f }
-{
-    leave(
-        7,
-        turn(
-            8,
-            way,
-            BitsAndC {
-                x: d as u32,
-                c: f.c,
-            },
-        ),
-    )
 }

@@ -1,36 +1,47 @@
 // What a shift leaves: the registers and the indicators.
-ghost use Rattle.std.specs.Prelude.{◌≡◌, ◌<◌, ◌^◌};
+ghost use Rattle.std.specs.Prelude.{◌≡◌, ◌<◌, ◌^◌, eqb};
+ghost use Rattle.wordmath.specs.Number.{bit, differ};
 ghost use Rattle.shift.specs.Shifted.{n_bit, leaves, leaves_pair, looked, leaves_long};
 
 use super::BitsAndC;
 use opcodes::Way;
 use wordmath::{Done, Flags, Pair};
 
-pub(crate) fn n_bit(way: Way) -> u16
-    ensures { (result ≡ n_bit 16 way) × (result < 16) }
+// The bit that N is, on a number of w bits.
+pub(crate) fn n_bit(w: u32, way: Way) -> u32
+    requires { 0 < w }
+    ensures { result ≡ n_bit w way }
 {
     match way {
         Way::RightRotate => 7,
-        Way::LeftRotate => 15,
+        Way::LeftRotate => w - 1,
         Way::RightArith => 7,
-        Way::LeftArith => 15,
+        Way::LeftArith => w - 1,
     }
 }
 
-pub(crate) fn leave(k: u16, t: BitsAndC) -> Done
+// N is bit k of the register r, and V is N exclusive or C.
+fn indicators(k: u32, r: u16, c: bool) -> Flags
+    requires { k < 16 }
+    ensures { result ≡ record { n = bit k r; z = eqb r 0; v = differ (bit k r) c; c = c } }
+{
+    let n = (r >> k) % 2 == 1;
+    Flags {
+        n,
+        z: r == 0,
+        v: n != c,
+        c,
+    }
+}
+
+pub(crate) fn leave(k: u32, t: BitsAndC) -> Done
     requires { (k < 16) × (t.x < 2 ^ 16) }
     ensures { result ≡ leaves k t }
 {
-    let r = t.x as u16;
-    let n = (r >> k) % 2 == 1;
+    let value = t.x as u16;
     Done {
-        value: r,
-        flags: Flags {
-            n,
-            z: r == 0,
-            v: n != t.c,
-            c: t.c,
-        },
+        value,
+        flags: indicators(k, value, t.c),
     }
 }
 
@@ -46,23 +57,18 @@ pub(crate) fn look(way: Way, x: u32) -> u16
     }
 }
 
-pub(crate) fn leave_pair(k: u16, r: u16, t: BitsAndC) -> Pair
+pub(crate) fn leave_pair(k: u32, r: u16, t: BitsAndC) -> Pair
     requires { k < 16 }
     ensures { result ≡ leaves_pair k r t }
 {
-    let n = (r >> k) % 2 == 1;
     Pair {
         low: (t.x % 0x1_0000) as u16,
         high: (t.x / 0x1_0000) as u16,
-        flags: Flags {
-            n,
-            z: r == 0,
-            v: n != t.c,
-            c: t.c,
-        },
+        flags: indicators(k, r, t.c),
     }
 }
 
+// N and Z are of all 32 bits, and V is reset: no shift of format 6 leaves its pair so.
 pub(crate) fn leave_long(t: BitsAndC) -> Pair
     ensures { result ≡ leaves_long t }
 {

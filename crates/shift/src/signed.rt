@@ -31,13 +31,13 @@ pub fn ash(x: u16, k: u8) -> Done
         };
     }
     let start = BitsAndC {
-        x: x as u32,
+        x: u32::from(x),
         c: true,
     };
     if k < 128 {
-        leave(15, shift(16, Way::LeftArith, k as u16, start))
+        leave(15, shift(16, Way::LeftArith, u16::from(k), start))
     } else {
-        leave(15, shift(16, Way::RightArith, 256 - k as u16, start))
+        leave(15, shift(16, Way::RightArith, 256 - u16::from(k), start))
     }
 }
 
@@ -53,12 +53,12 @@ pub fn ashc(low: u16, high: u16, k: u8) -> Pair
         };
     }
     let start = BitsAndC {
-        x: high as u32 * 0x1_0000 + low as u32,
+        x: u32::from(high) * 0x1_0000 + u32::from(low),
         c: true,
     };
     if k < 128 {
-        leave_long(shift(32, Way::LeftArith, k as u16, start))
+        leave_long(shift(32, Way::LeftArith, u16::from(k), start))
     } else {
-        leave_long(shift(32, Way::RightArith, 256 - k as u16, start))
+        leave_long(shift(32, Way::RightArith, 256 - u16::from(k), start))
     }
 }

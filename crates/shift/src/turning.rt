@@ -19,7 +19,7 @@ fn right_one(w: u32, b: bool, x: u32) -> BitsAndC
 {
     let top = weight(w);
     BitsAndC {
-        x: x / 2 + b as u32 * top,
+        x: x / 2 + u32::from(b) * top,
         c: x % 2 == 1,
     }
 }
@@ -30,7 +30,7 @@ fn left_one(w: u32, b: bool, x: u32) -> BitsAndC
 {
     let top = weight(w);
     BitsAndC {
-        x: x % top * 2 + b as u32,
+        x: x % top * 2 + u32::from(b),
         c: (x >> (w - 1)) % 2 == 1,
     }
 }
@@ -54,10 +54,8 @@ pub(crate) fn shift(w: u32, way: Way, count: u16, t: BitsAndC) -> BitsAndC
     ensures { (result ≡ turns w way count t) × (result.x < 2 ^ w) }
 {
     let mut s = t;
-    let mut i = 0;
-    while i < count {
+    for _ in 0..count {
         s = turn(w, way, s);
-        i += 1;
     }
     s
 }

@@ -1,6 +1,4 @@
 -- The laws of the crate's definitions.
-pub mod Answer
 pub mod Bounds
-pub mod Once
 pub mod Registers
 pub mod State

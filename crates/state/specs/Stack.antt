@@ -7,7 +7,11 @@ use Rattle.state.specs.declared.Outside.{Outside}
 use Rattle.state.specs.declared.Mode.TheVariants.{Running}
 use Rattle.state.specs.State.{reg, with_reg, with_sp, with_pc, with_i2, with_mode, with_mark, with_status, ps_of}
 use Rattle.wordmath.specs.Address.{plus, minus}
-use Rattle.state.specs.Answer.{Taken, taken_word}
+use Rattle.state.specs.declared.Taken.{Taken}
+
+-- a state and a word
+abbrev pub taken_word : State → ℕ → Taken
+taken_word s v = record { state = s; word = v }
 
 -- ↓ SP, @SP ← v
 unfoldable pub push : State → ℕ → Work State

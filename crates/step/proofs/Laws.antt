@@ -11,4 +11,3 @@ pub mod Restart
 pub mod Saved
 pub mod Told
 pub mod Written
-pub mod Xct

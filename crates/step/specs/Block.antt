@@ -10,7 +10,6 @@ use Rattle.format8.specs.Format8.{move_row}
 use Rattle.opcodes.specs.Fields.{block_source, block_destination}
 use Rattle.format8.specs.Page.{source_by, destination_by, along}
 use Rattle.step.specs.declared.Kind.TheVariants.{OpCode}
-use Rattle.step.specs.Xct.{code}
 use Rattle.step.specs.Step.{kind_in}
 
 -- ---- the addresses of the elements

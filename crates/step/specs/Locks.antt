@@ -2,7 +2,6 @@
 use Rattle.std.specs.Prelude.{ℕ, true, ◌≡◌}
 use Rattle.state.specs.declared.Outside.{Outside}
 use Rattle.state.specs.declared.Mode.{Mode}
-use Rattle.state.specs.declared.Mode.TheVariants as Mode
 use Rattle.step.specs.declared.Kind.{Kind}
 use Rattle.step.specs.declared.Kind.TheVariants.{HaltEnd, Restarts, Restores}
 

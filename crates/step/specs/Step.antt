@@ -1,6 +1,6 @@
 -- One step.
-use Rattle.std.specs.Prelude.{ℕ, ◌+◌, ◌*◌, ◌%◌, Bool, true, false, not, ◌&&◌, cond, List, [], ◌∷◌, get_or}
-use Rattle.board.specs.Work.{Work, give, Came, value, blank, run, ◌>>=◌, ◌>>◌}
+use Rattle.std.specs.Prelude.{ℕ, ◌+◌, ◌*◌, ◌%◌, Bool, true, false, not, ◌&&◌, cond, List, [], ◌∷◌, get_or, Option, Some, None}
+use Rattle.board.specs.Work.{Work, give, Came, value, blank, run, ◌>>=◌}
 use Rattle.state.specs.declared.State.{State}
 use Rattle.state.specs.declared.Outside.{Outside}
 use Rattle.state.specs.declared.Settings.{Settings}
@@ -15,10 +15,7 @@ use Rattle.step.specs.declared.Turn.{Turn}
 use Rattle.step.specs.declared.Kind.{Kind}
 use Rattle.step.specs.declared.Kind.TheVariants.{OpCode, HaltEnd, Boots, Saves, LocksUp, Restarts, Restores, NonVectored, Vectored, Waits, Stuck}
 use Rattle.step.specs.declared.Cause.{Cause}
-use Rattle.step.specs.declared.Cause.TheVariants as Cause
 use Rattle.step.specs.declared.Cause.TheVariants.{OpCodeBlank, InterruptBlank, SaveBlank, LockedAt}
-use Rattle.step.specs.declared.Reached.{Reached}
-use Rattle.step.specs.declared.Reached.TheVariants.{Nowhere, At}
 
 -- ---- the options that the jumpers select
 
@@ -95,37 +92,37 @@ work_of Stuck out s = give s
 -- of a cause: 01's number; the address that a step tells, which is that of a blank or of a lock-up newly met; and that of a blank alone, after which the bus error's trap succeeded
 pub record CauseRow : Type 0 where
   pub number : ℕ
-  pub address : Reached
-  pub blank : Reached
+  pub address : Option ℕ
+  pub blank : Option ℕ
 
-abbrev cause_row : ℕ → Reached → Reached → CauseRow
+abbrev cause_row : ℕ → Option ℕ → Option ℕ → CauseRow
 cause_row n a b = record { number = n; address = a; blank = b }
 
 -- 7 is given to none
 abbrev pub of_cause : Cause → CauseRow
-of_cause Cause.OpCode = cause_row 0 Nowhere Nowhere  -- an op code or its trap
-of_cause Cause.Switch = cause_row 1 Nowhere Nowhere  -- I3
-of_cause Cause.NonVectored = cause_row 2 Nowhere Nowhere  -- I1
-of_cause Cause.Vectored = cause_row 3 Nowhere Nowhere  -- I0
-of_cause Cause.Nothing = cause_row 4 Nowhere Nowhere  -- nothing done
-of_cause (OpCodeBlank a) = cause_row 5 (At a) (At a)  -- bus error in an op code
-of_cause (InterruptBlank a) = cause_row 6 (At a) (At a)  -- in an interrupt
-of_cause (SaveBlank a) = cause_row 9 (At a) (At a)  -- in a save
-of_cause (LockedAt a) = cause_row 8 (At a) Nowhere  -- locked now
-of_cause Cause.Locked = cause_row 8 Nowhere Nowhere  -- locked before, or by the option
+of_cause Cause.OpCode = cause_row 0 None None  -- an op code or its trap
+of_cause Cause.Switch = cause_row 1 None None  -- I3
+of_cause Cause.NonVectored = cause_row 2 None None  -- I1
+of_cause Cause.Vectored = cause_row 3 None None  -- I0
+of_cause Cause.Nothing = cause_row 4 None None  -- nothing done
+of_cause (OpCodeBlank a) = cause_row 5 (Some a) (Some a)  -- bus error in an op code
+of_cause (InterruptBlank a) = cause_row 6 (Some a) (Some a)  -- in an interrupt
+of_cause (SaveBlank a) = cause_row 9 (Some a) (Some a)  -- in a save
+of_cause (LockedAt a) = cause_row 8 (Some a) None  -- locked now
+of_cause Cause.Locked = cause_row 8 None None  -- locked before, or by the option
 
 abbrev pub cause_number : Cause → ℕ
 cause_number cause = (of_cause cause).number
 
-abbrev pub cause_address : Cause → Reached
+abbrev pub cause_address : Cause → Option ℕ
 cause_address cause = (of_cause cause).address
 
-abbrev pub blank_at : Cause → Reached
+abbrev pub blank_at : Cause → Option ℕ
 blank_at cause = (of_cause cause).blank
 
-abbrev pub is_told : Reached → Bool
-is_told Nowhere = false
-is_told (At a) = true
+abbrev pub is_told : Option ℕ → Bool
+is_told None = false
+is_told (Some a) = true
 
 abbrev pub is_blank : Cause → Bool
 is_blank cause = is_told (blank_at cause)

@@ -2,13 +2,13 @@
 #![tactic(auto)]
 
 ghost use Rattle.std.specs.Prelude.{cond, false, ◌≡◌};
-ghost use Rattle.board.specs.Exec.{beside, Lent, Board, Saw, undone};
-ghost use Rattle.state.specs.Answer.{Works, went_as};
+ghost use Rattle.board.specs.Exec.{beside, Lent, Board, Saw, undone, Works};
 ghost use Rattle.step.specs.Step as Spec;
 ghost use Rattle.step.specs.Inner as Inner;
 
+use board::Blank;
 use places::{restore_places, save_places};
-use state::{Mode, Outside, Settings, State, Went};
+use state::{Mode, Outside, Settings, State};
 use wordmath::address::plus;
 use xct::op_work;
 
@@ -19,14 +19,13 @@ mod xct;
 
 // What is to be done after an op code's fetch: an op code to execute, traced or not; an XCT that is aborted.
 #[derive(Clone, Copy)]
-pub(crate) enum Begun {
+pub enum Begun {
     Code(State, u16, bool),
     Abort(State),
-    Blank(u16),
 }
 
 // What a line word makes of a step: an op code; the end of a halt on power fail; bootstrap, save, lock-up, a fetch from 16, the end of a save; I1, I0; nothing is done; locked.
-#[derive(Clone, Copy)]
+#[derive(Clone, Copy, Debug, PartialEq, Eq)]
 pub enum Kind {
     OpCode,
     HaltEnd,
@@ -56,13 +55,6 @@ pub enum Cause {
     Locked,
 }
 
-// An address that is told, or none.
-#[derive(Clone, Copy)]
-pub enum Reached {
-    Nowhere,
-    At(u16),
-}
-
 // The state after a step, and its cause.
 #[derive(Clone, Copy)]
 pub struct Turn {
@@ -70,7 +62,7 @@ pub struct Turn {
     pub cause: Cause,
 }
 
-// 01's number of a cause.
+// 01's number of a cause. A cause that tells an address has no cast.
 pub fn cause_number(cause: Cause) -> u8
     ensures { result ≡ Spec.cause_number cause }
 {
@@ -89,38 +81,38 @@ pub fn cause_number(cause: Cause) -> u8
 }
 
 // The address of a blank: the bus error's trap succeeded.
-pub fn blank_at(cause: Cause) -> Reached
+pub fn blank_at(cause: Cause) -> Option<u16>
     ensures { result ≡ Spec.blank_at cause }
 {
     match cause {
-        Cause::OpCode => Reached::Nowhere,
-        Cause::Switch => Reached::Nowhere,
-        Cause::NonVectored => Reached::Nowhere,
-        Cause::Vectored => Reached::Nowhere,
-        Cause::Nothing => Reached::Nowhere,
-        Cause::OpCodeBlank(at) => Reached::At(at),
-        Cause::InterruptBlank(at) => Reached::At(at),
-        Cause::SaveBlank(at) => Reached::At(at),
-        Cause::LockedAt(_) => Reached::Nowhere,
-        Cause::Locked => Reached::Nowhere,
+        Cause::OpCode => None,
+        Cause::Switch => None,
+        Cause::NonVectored => None,
+        Cause::Vectored => None,
+        Cause::Nothing => None,
+        Cause::OpCodeBlank(at) => Some(at),
+        Cause::InterruptBlank(at) => Some(at),
+        Cause::SaveBlank(at) => Some(at),
+        Cause::LockedAt(_) => None,
+        Cause::Locked => None,
     }
 }
 
 // The address that a step tells: that of a blank, and that of a lock-up which is newly met.
-pub fn address_of(cause: Cause) -> Reached
+pub fn address_of(cause: Cause) -> Option<u16>
     ensures { result ≡ Spec.cause_address cause }
 {
     match cause {
-        Cause::OpCode => Reached::Nowhere,
-        Cause::Switch => Reached::Nowhere,
-        Cause::NonVectored => Reached::Nowhere,
-        Cause::Vectored => Reached::Nowhere,
-        Cause::Nothing => Reached::Nowhere,
-        Cause::OpCodeBlank(a) => Reached::At(a),
-        Cause::InterruptBlank(a) => Reached::At(a),
-        Cause::SaveBlank(a) => Reached::At(a),
-        Cause::LockedAt(a) => Reached::At(a),
-        Cause::Locked => Reached::Nowhere,
+        Cause::OpCode => None,
+        Cause::Switch => None,
+        Cause::NonVectored => None,
+        Cause::Vectored => None,
+        Cause::Nothing => None,
+        Cause::OpCodeBlank(a) => Some(a),
+        Cause::InterruptBlank(a) => Some(a),
+        Cause::SaveBlank(a) => Some(a),
+        Cause::LockedAt(a) => Some(a),
+        Cause::Locked => None,
     }
 }
 
@@ -228,21 +220,24 @@ fn vector(out: Outside) -> u16
 }
 
 // I0: ↓ PS, ↓ PC, I2 reset, running; T = word at 28 plus twice the device code; PC = T + word at T.
-fn vectored(s: State, image: &mut [u8], map: &[u8], log: &mut [u16; 32], out: Outside) -> Went
+fn vectored(
+    s: State,
+    image: &mut [u8],
+    map: &[u8],
+    log: &mut [u16; 32],
+    out: Outside,
+) -> Result<State, Blank>
     requires { Board map.now (beside image.old log.old) }
     ensures { Works map.now (Spec.vectored out s) image.old log.old result image.new log.new }
 {
-    let went = s.trap_now(image, map, log, out, 0x28);
-    let Went::Done(t) = went else {
-        return went;
-    };
+    let t = s.trap_now(image, map, log, out, 0x28)?;
     t.tabled(image, map, plus(t.regs.pc, plus(out.device, out.device)))
 }
 
 // The end of a halt, and an option: PC from 16, running.
-fn restart(s: State, image: &[u8], map: &[u8]) -> Went
+fn restart(s: State, image: &[u8], map: &[u8]) -> Result<State, Blank>
     requires { Lent map.now image.now }
-    ensures { Saw map.now (Spec.restart s) image.now (went_as result) }
+    ensures { Saw map.now (Spec.restart s) image.now result }
 {
     s.with_mode(Mode::Running).from_loc(image, map, 0x16)
 }
@@ -255,7 +250,7 @@ fn bootstrap(settings: Settings, s: State) -> State
         .with_pc(0xc000 + settings.register as u16 % 64 * 256)
 }
 
-// The work of a step that is no op code.
+// The work of a step that is no op code. An arm for each kind, as 01 lists them.
 fn seldom(
     s: State,
     image: &mut [u8],
@@ -263,14 +258,14 @@ fn seldom(
     log: &mut [u16; 32],
     out: Outside,
     k: Kind,
-) -> Went
+) -> Result<State, Blank>
     requires { (Board map.now (beside image.old log.old)) × (Spec.is_code k ≡ false) }
     ensures { Works map.now (Spec.work_of k out s) image.old log.old result image.new log.new }
 {
     match k {
-        Kind::OpCode => Went::Done(s),
+        Kind::OpCode => Ok(s),
         Kind::HaltEnd => restart(s, image, map),
-        Kind::Boots => Went::Done(bootstrap(out.settings, s)),
+        Kind::Boots => Ok(bootstrap(out.settings, s)),
         // Options and interrupts are seldom: their work stays out of line.
         Kind::Saves => {
             let t = s;
@@ -278,7 +273,7 @@ fn seldom(
             let m = map;
             state::apart(save_places(t, image, m, log, o))
         }
-        Kind::LocksUp => Went::Done(s.with_mode(Mode::Locked)),
+        Kind::LocksUp => Ok(s.with_mode(Mode::Locked)),
         Kind::Restarts => restart(s, image, map),
         Kind::Restores => {
             let t = s;
@@ -297,8 +292,8 @@ fn seldom(
             let m = map;
             state::apart(vectored(t, image, m, log, o))
         }
-        Kind::Waits => Went::Done(s),
-        Kind::Stuck => Went::Done(s),
+        Kind::Waits => Ok(s),
+        Kind::Stuck => Ok(s),
     }
 }
 
@@ -306,19 +301,7 @@ fn seldom(
 pub fn is_code(k: Kind) -> bool
     ensures { result ≡ Spec.is_code k }
 {
-    match k {
-        Kind::OpCode => true,
-        Kind::HaltEnd => false,
-        Kind::Boots => false,
-        Kind::Saves => false,
-        Kind::LocksUp => false,
-        Kind::Restarts => false,
-        Kind::Restores => false,
-        Kind::NonVectored => false,
-        Kind::Vectored => false,
-        Kind::Waits => false,
-        Kind::Stuck => false,
-    }
+    matches!(k, Kind::OpCode)
 }
 
 // Nothing is asked for: no I3, no I1, no I0.
@@ -331,14 +314,7 @@ pub fn calm(out: Outside) -> bool
 fn running(mode: Mode) -> bool
     ensures { result ≡ Inner.running mode }
 {
-    match mode {
-        Mode::Running => true,
-        Mode::Waiting => false,
-        Mode::PowerHalt => false,
-        Mode::SwitchHalt => false,
-        Mode::Locked => false,
-        Mode::Saved => false,
-    }
+    matches!(mode, Mode::Running)
 }
 
 // Is the next step an op code? Where nothing is asked for and the processor runs it is.
@@ -408,7 +384,7 @@ fn bus_error(
     log: &mut [u16; 32],
     out: Outside,
     k: Kind,
-) -> Went
+) -> Result<State, Blank>
     requires { Board map.now (beside image.old log.old) }
     ensures { Works map.now (Spec.bus_error k out s) image.old log.old result image.new log.new }
 {
@@ -433,7 +409,13 @@ pub fn error(
 }
 
 // The work of a step that is an op code, with a log that may hold an earlier step's entries.
-pub fn op_code(s: State, image: &mut [u8], map: &[u8], log: &mut [u16; 32], out: Outside) -> Went
+pub fn op_code(
+    s: State,
+    image: &mut [u8],
+    map: &[u8],
+    log: &mut [u16; 32],
+    out: Outside,
+) -> Result<State, Blank>
     requires { Board map.now (beside image.old log.old) }
     ensures { Inner.Coded map.now out s image.old result (beside image.new log.new) }
 {
@@ -455,11 +437,11 @@ pub fn other(
 {
     board::clear(log);
     match seldom(s, image, map, log, out, k) {
-        Went::Done(t) => Turn {
+        Ok(t) => Turn {
             state: t,
             cause: cause_of(k),
         },
-        Went::Blank(a) => error(s, image, map, log, out, k, a),
+        Err(blank) => error(s, image, map, log, out, k, blank.at),
     }
 }
 
@@ -472,7 +454,7 @@ pub fn power(image: &mut [u8], map: &[u8], settings: Settings) -> State
     let s = state::cleared();
     let out = state::hear(settings, 0);
     let k = power_up_option(settings);
-    if let Went::Done(t) = seldom(s, image, map, &mut log, out, k) {
+    if let Ok(t) = seldom(s, image, map, &mut log, out, k) {
         return t;
     }
     board::rollback(image, &mut log);

@@ -1,16 +1,23 @@
 // One step that leaves its log as it stands: what the step wrote.
 ghost use Rattle.std.specs.Prelude.{◌≡◌};
-ghost use Rattle.board.specs.Exec.{beside, Board, undone};
-ghost use Rattle.state.specs.Answer.{Works};
+ghost use Rattle.board.specs.Exec.{beside, Board, undone, Works};
 ghost use Rattle.step.specs.Step.{work_of, error_of, step_of};
 ghost use Rattle.step.specs.Written as Spec;
 
 use super::xct::op_work;
 use super::{Cause, Kind, Turn, bus_error, cause_of, error_cause_of, is_code, kind_of, seldom};
-use state::{Mode, Outside, State, Went};
+use board::Blank;
+use state::{Mode, Outside, State};
 
 // The work of a step.
-fn work(s: State, image: &mut [u8], map: &[u8], log: &mut [u16; 32], out: Outside, k: Kind) -> Went
+fn work(
+    s: State,
+    image: &mut [u8],
+    map: &[u8],
+    log: &mut [u16; 32],
+    out: Outside,
+    k: Kind,
+) -> Result<State, Blank>
     requires { Board map.now (beside image.old log.old) }
     ensures { Works map.now (work_of k out s) image.old log.old result image.new log.new }
 {
@@ -35,7 +42,7 @@ pub(crate) fn dropped(
         (Spec.error_writes map.now k out s (undone (beside image.old log.old))) result (beside image.new log.new) }
 {
     board::rollback(image, log);
-    if let Went::Done(t) = bus_error(s, image, map, log, out, k) {
+    if let Ok(t) = bus_error(s, image, map, log, out, k) {
         return Turn {
             state: t,
             cause: error_cause_of(k, a),
@@ -57,10 +64,10 @@ pub fn step(s: State, image: &mut [u8], map: &[u8], log: &mut [u16; 32], out: Ou
     let k = kind_of(s, out);
     board::clear(log);
     match work(s, image, map, log, out, k) {
-        Went::Done(t) => Turn {
+        Ok(t) => Turn {
             state: t,
             cause: cause_of(k),
         },
-        Went::Blank(a) => dropped(s, image, map, log, out, k, a),
+        Err(blank) => dropped(s, image, map, log, out, k, blank.at),
     }
 }

@@ -24,7 +24,8 @@ use Rattle.optext.proofs.Laws.Longest.{text-le}
 use Rattle.optext.proofs.Laws.Meets.{taken-le}
 use Rattle.listing.specs.declared.CodeFound.TheVariants.{Nothing, Cut, Whole}
 use Rattle.listing.specs.declared.Listed.{Listed}
-use Rattle.listing.specs.declared.Listed.TheVariants as Listed
+use Rattle.std.specs.Prelude.{Result, Ok, Err}
+use Rattle.refusal.specs.declared.Refusal.{Refusal}
 use Rattle.listing.specs.Listing.{all_stand, found_at, listing_line, words_at}
 use Rattle.listing.specs.Listing as Listing
 use Rattle.listing.specs.Calls.{Lined, listed_page, bad_stretch, line_why, line_in, line_call}
@@ -39,8 +40,7 @@ use Rattle.step.specs.declared.Kind.{Kind}
 use Rattle.step.specs.Step.{kind_of, is_code, step_of, turn_of}
 use Rattle.step.specs.Written.{entries, step_writes}
 use Rattle.stepline.specs.declared.Shown.{Shown}
-use Rattle.stepline.specs.declared.Shown.TheVariants as Shown
-use Rattle.stepline.specs.Shown.{column, columns, figures, writes_text, tab, code_text, step_line, step_text, show_why, shown_as, show_of, shown_page}
+use Rattle.stepline.specs.Shown.{column, columns, figures, writes_text, tab, code_text, step_line, step_text, show_why, shown_as, show_of, step_shown}
 use Rattle.stepline.specs.Shown as Spec
 
 -- ---- columns
@@ -117,7 +117,7 @@ code_here : (map m : List ℕ) (s : State) (c : Bool) → not c ≡ false → co
 unfolding code_text
 code_here map m s c y = rw (not-false c y) refl
 
-module _ (map m b e : List ℕ) (s : State) (r : Listed) (c : Bool) (low : s.regs.pc < 65536) (h : 52 ≤ length b) (k : board_refusal (length m) map ≡ 0)
+module _ (map m b e : List ℕ) (s : State) (r : Result Listed Refusal) (c : Bool) (low : s.regs.pc < 65536) (h : 52 ≤ length b) (k : board_refusal (length m) map ≡ 0)
     (g : left (listed_page r) e ≡ line_call m map (s.regs.pc / 2 * 2) 65534 b) (y : not c ≡ false) where
   not-refused : line_why (length m) map (s.regs.pc / 2 * 2) 65534 (length b) ≡ 0
   unfolding line_why
@@ -191,7 +191,7 @@ module _ (settings : Settings) (image map : List ℕ) (line number : ℕ) (s : S
   -- the line of the turn, the image and the addresses that the step came to
   shown-is : (r : Turn) (n : ℕ) (m e ws : List ℕ) → turn_of r m ≡ step_of map (heard settings line) s image → ws ≡ step_writes map (heard settings line) s image
       → Wrote (step_line settings map line number s image (turn_of r m) ws) b e n
-      → left (shown_page (Shown.Line n r)) (m, e) ≡ shown_as (step_of map (heard settings line) s image) (step_text settings map line number s image) b
+      → left (answered (step_shown n r)) (m, e) ≡ shown_as (step_of map (heard settings line) s image) (step_text settings map line number s image) b
   unfolding step_text
   shown-is r n m e ws d q w = rw (← d, ← q, w.bytes, w.count) refl
 
@@ -200,7 +200,7 @@ module _ (settings : Settings) (image map : List ℕ) (line number : ℕ) (s : S
       → out ≡ heard settings line → k ≡ kind_of s out → code ≡ is_code k → turn_of r m ≡ step_of map out s image → ws ≡ step_writes map out s image
       → values ≡ figures settings map number line s r.state r.cause
       → Wrote (code_text map code s image) b b1 n1 → WroteAt n1 tab b1 b2 n2 → WroteAt n2 (columns values 15) b2 b3 n3 → WroteAt n3 (writes_text m ws) b3 e n
-      → left (shown_page (Shown.Line n r)) (m, e) ≡ shown_as (step_of map (heard settings line) s image) (step_text settings map line number s image) b
+      → left (answered (step_shown n r)) (m, e) ≡ shown_as (step_of map (heard settings line) s image) (step_text settings map line number s image) b
   unfolding step_line
   line-is r out k code values m ws b1 b2 b3 e n1 n2 n3 n ho hk hc turn wrote hv w1 w2 w3 w4 =
       let code_is : code ≡ is_code (kind_of s (heard settings line)) = hc ∙ ap is_code (hk ∙ ap (λ (o : Outside). kind_of s o) ho) in

@@ -1,7 +1,7 @@
 -- THE LINE OF A STEP: what stands at PC where the step is an op code, as a listing has it, and a tab; then columns of four hex digits and
 -- a space: the step's number, the line word; R0 to R5, SP, PC, PS and the mode after the step, each where it changed; the cause's number,
 -- the address that is told and the map's byte for its page; then the even address and the word after the step of every word that the step wrote, in its order.
-use Rattle.std.specs.Prelude.{ℕ, zero, suc, ◌*◌, ◌/◌, ◌%◌, Bool, false, cond, List, [], ◌∷◌, ◌++◌, length, get_or, eqb, ltb}
+use Rattle.std.specs.Prelude.{ℕ, zero, suc, ◌*◌, ◌/◌, ◌%◌, Bool, false, cond, List, [], ◌∷◌, ◌++◌, length, get_or, eqb, ltb, Option, Some, None, Result}
 use Rattle.hexdigits.specs.Digits.{hex_of}
 use Rattle.hexdigits.specs.Over.{in_front_of}
 use Rattle.wordbytes.specs.Words.{byte_at, word_at}
@@ -10,17 +10,16 @@ use Rattle.state.specs.declared.Settings.{Settings}
 use Rattle.state.specs.State.{mode_number, ps_of, heard}
 use Rattle.step.specs.declared.Turn.{Turn}
 use Rattle.step.specs.declared.Cause.{Cause}
-use Rattle.step.specs.declared.Reached.{Reached}
-use Rattle.step.specs.declared.Reached.TheVariants.{Nowhere, At}
 use Rattle.step.specs.Step.{After, kind_of, is_code, cause_number, cause_address, step_of}
 use Rattle.step.specs.Written.{step_writes}
 use Rattle.refusal.specs.Numbers.{text_short}
-use Rattle.refusal.specs.Page.{Page, refused, answered, Left, left, call, first}
+use Rattle.refusal.specs.Page.{Page, answered, Left, left, call, first}
 use Rattle.refusal.specs.Refusal.{step_refusal}
 use Rattle.machine.specs.Numbers.{TurnPage, turn_page}
 use Rattle.listing.specs.Listing.{listing_line}
 use Rattle.stepline.specs.declared.Shown.{Shown}
-use Rattle.stepline.specs.declared.Shown.TheVariants as Shown
+use Rattle.refusal.specs.declared.Refusal.{Refusal}
+use Rattle.refusal.specs.Answer.{page_of}
 
 -- ---- columns
 
@@ -50,14 +49,14 @@ columns values (suc n) = columns values n ++ column (get_or values n 0)
 abbrev pub changed : ℕ → ℕ → ℕ
 changed before after = cond (eqb before after) none after
 
-abbrev pub cause_word : Reached → ℕ
-cause_word Nowhere = none
-cause_word (At a) = a
+abbrev pub cause_word : Option ℕ → ℕ
+cause_word None = none
+cause_word (Some a) = a
 
 -- the map's byte for the page of that address
-abbrev pub page_told : List ℕ → Reached → ℕ
-page_told map Nowhere = none
-page_told map (At a) = byte_at map (a / 256)
+abbrev pub page_told : List ℕ → Option ℕ → ℕ
+page_told map None = none
+page_told map (Some a) = byte_at map (a / 256)
 
 -- PS as it is formed on a quiet line
 abbrev pub status : Settings → State → ℕ
@@ -135,9 +134,11 @@ pub record ShownPage : Type 0 where
 abbrev pub step_shown : ℕ → Turn → ShownPage
 step_shown n t = record { count = n; turn = turn_page t }
 
-abbrev pub shown_page : Shown → Page ShownPage
-shown_page (Shown.Line n t) = answered (step_shown n t)
-shown_page (Shown.Refused why) = refused why
+abbrev pub shown_line : Shown → ShownPage
+shown_line s = step_shown s.length s.turn
+
+abbrev pub shown_page : Result Shown Refusal → Page ShownPage
+shown_page r = page_of shown_line r
 
 -- the image after the step; the line at the front of the text, and the rest of it as it was
 abbrev pub shown_as : After → List ℕ → List ℕ → Left ShownPage (List ℕ × List ℕ)

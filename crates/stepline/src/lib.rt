@@ -7,22 +7,23 @@ ghost use Rattle.board.specs.Exec.{Board, Lent, beside, log_count};
 ghost use Rattle.state.specs.State.{heard};
 ghost use Rattle.step.specs.Step.{cause_number, step_of};
 ghost use Rattle.step.specs.Written.{addresses};
-ghost use Rattle.refusal.specs.Page.{left};
+ghost use Rattle.refusal.specs.Page.{left, answered};
+ghost use Rattle.refusal.specs.Answer.{why_of};
 ghost use Rattle.refusal.specs.Refusal.{board_refusal};
 ghost use Rattle.stepline.specs.Shown as Spec;
 
 use hexdigits::hex;
-use listing::{Listed, list_line};
-use refusal::number::TEXT_SHORT;
+use listing::list_line;
+use refusal::Refusal;
 use state::{Settings, State};
-use step::{Cause, Reached, Turn, is_code, kind_of, logged};
+use step::{Cause, Turn, is_code, kind_of, logged};
 use wordbytes::{byte_at, word_at};
 
-// What is answered: the line's length, and the state and the cause after the step; or a refusal's number.
+// A step's line: its length, and the state and the cause after the step.
 #[derive(Clone, Copy)]
-pub enum Shown {
-    Line(usize, Turn),
-    Refused(u8),
+pub struct Shown {
+    pub length: usize,
+    pub turn: Turn,
 }
 
 // A column that says nothing.
@@ -66,11 +67,9 @@ fn put_columns(text: &mut [u8], values: [u32; 15]) -> usize
     requires { 75 ≤ length text.old }
     ensures { Wrote (Spec.columns values 15) text.old text.new result }
 {
-    let mut i: usize = 0;
     let mut at: usize = 0;
-    while i < 15 {
-        at = column_at(text, at, values[i]);
-        i += 1;
+    for x in values {
+        at = column_at(text, at, x);
     }
     at
 }
@@ -94,22 +93,22 @@ fn changed(before: u16, after: u16) -> u32
     after as u32
 }
 
-fn told(address: Reached) -> u32
+fn told(address: Option<u16>) -> u32
     ensures { result ≡ Spec.cause_word address }
 {
     match address {
-        Reached::Nowhere => NONE,
-        Reached::At(a) => a as u32,
+        None => NONE,
+        Some(a) => a as u32,
     }
 }
 
 // The map's byte for the page of that address.
-fn page_told(map: &[u8], address: Reached) -> u32
+fn page_told(map: &[u8], address: Option<u16>) -> u32
     ensures { result ≡ Spec.page_told map.now address }
 {
     match address {
-        Reached::Nowhere => NONE,
-        Reached::At(a) => byte_at(map, (a / 256) as usize) as u32,
+        None => NONE,
+        Some(a) => byte_at(map, (a / 256) as usize) as u32,
     }
 }
 
@@ -189,11 +188,9 @@ fn put_writes(text: &mut [u8], image: &[u8], log: &[u16; 32]) -> usize
     ensures { Wrote (Spec.writes_text image.now (addresses log.now)) text.old text.new result }
 {
     let entries = log[0] as usize;
-    let mut i: usize = 0;
     let mut at: usize = 0;
-    while i < entries {
+    for i in 0..entries {
         at = word_text_at(text, at, image, log[i * 2 + 1]);
-        i += 1;
     }
     at
 }
@@ -216,9 +213,8 @@ fn put_code(text: &mut [u8], s: State, image: &[u8], map: &[u8], code: bool) -> 
         return 0;
     }
     match list_line(image, map, s.regs.pc / 2 * 2, 0xfffe, text) {
-        Listed::Line(n, _) => n,
-        Listed::Last(n) => n,
-        Listed::Refused(_) => 0,
+        Ok(listed) => listed.length,
+        Err(_) => 0,
     }
 }
 
@@ -248,7 +244,7 @@ fn write_on(
     number: u16,
 ) -> Shown
     requires { (278 ≤ length text.old) × (Lent map.now image.old) × (board_refusal (length image.old) map.now ≡ 0) }
-    ensures { left (Spec.shown_page result) (image.new, text.new)
+    ensures { left (answered (Spec.shown_line result)) (image.new, text.new)
         ≡ Spec.shown_as (step_of map.now (heard settings line) s image.old) (Spec.step_text settings map.now line number s image.old) text.old }
 {
     let out = state::hear(settings, line);
@@ -264,28 +260,31 @@ fn write_on(
         figures(settings, map, number, line, s, t, cause),
     );
     let n = writes_at(text, after, image, &log);
-    Shown::Line(n, turn)
+    Shown { length: n, turn }
 }
 
 // 1, 2, 3, 35, 5 or 8.
-fn show_refusal(size: usize, map: &[u8], settings: Settings, line: u16, text: usize) -> u8
-    ensures { result ≡ Spec.show_why settings size map.now line text }
+fn show_refusal(
+    size: usize,
+    map: &[u8],
+    settings: Settings,
+    line: u16,
+    text: usize,
+) -> Result<(), Refusal>
+    ensures { why_of result ≡ Spec.show_why settings size map.now line text }
 {
-    let why = refusal::step_refusal(
+    refusal::step_refusal(
         size,
         map,
         settings.powerup,
         settings.halt,
         settings.register,
         line,
-    );
-    if why != 0 {
-        return why;
-    }
+    )?;
     if text < 278 {
-        return TEXT_SHORT;
+        return Err(Refusal::TextShort);
     }
-    0
+    Ok(())
 }
 
 // Makes one step over a line word, and writes its line, under the number that it is given, in front of the text, with no line end; or 1,
@@ -298,12 +297,9 @@ pub fn write_step(
     settings: Settings,
     line: u16,
     number: u16,
-) -> Shown
+) -> Result<Shown, Refusal>
     ensures { left (Spec.shown_page result) (image.new, text.new) ≡ Spec.show_of settings image.old map.now line number s text.old }
 {
-    let why = show_refusal(image.len(), map, settings, line, text.len());
-    if why != 0 {
-        return Shown::Refused(why);
-    }
-    write_on(text, s, image, map, settings, line, number)
+    show_refusal(image.len(), map, settings, line, text.len())?;
+    Ok(write_on(text, s, image, map, settings, line, number))
 }

@@ -2,21 +2,13 @@
 // line alone. The board is its four settings as for C, a byte each. Where the answer could not be written standard error says so.
 #![tactic(auto)]
 
-use job::{JobRead, READ_OF_JOB};
-use machine::Powered;
-use printing::{put_line, put_refused, read_board, read_full, say_unless};
-use refusal::MOST_LINE_WORDS;
-use refusal::number::LINES_LENGTH;
+use job::READ_OF_JOB;
+use printing::{first, put_line, put_refused, read_board, read_full, say_unless};
+use refusal::{MOST_LINE_WORDS, Refusal};
 use state::{Settings, State};
+use std::io;
 use std::io::Print;
-use stepline::{Shown, write_step};
-
-fn put_refusal(out: &impl Print, shown: Shown) -> bool {
-    match shown {
-        Shown::Line(_, _) => false,
-        Shown::Refused(why) => put_refused(out, why),
-    }
-}
+use stepline::write_step;
 
 // Steps over the line words, and writes each step's line.
 fn put_steps(
@@ -26,29 +18,32 @@ fn put_steps(
     map: &[u8],
     board: Settings,
     lines: &[u16],
-) -> bool {
+) -> io::Result<()> {
     let mut text = [0u8; 288];
     let mut state = s;
-    let mut i: usize = 0;
-    while i < lines.len() {
+    for (i, line) in lines.iter().enumerate() {
         let number = (i % 0x1_0000) as u16;
-        let shown = write_step(&mut text, state, image, map, board, lines[i], number);
-        let Shown::Line(n, turn) = shown else {
-            return put_refusal(out, shown);
-        };
-        if !put_line(out, &text, n) {
-            return false;
+        match write_step(&mut text, state, image, map, board, *line, number) {
+            Ok(shown) => {
+                put_line(out, first(&text, shown.length)?)?;
+                state = shown.turn.state;
+            }
+            Err(why) => return put_refused(out, why),
         }
-        state = turn.state;
-        i += 1;
     }
-    true
+    Ok(())
 }
 
-fn step_up(out: &impl Print, image: &mut [u8], map: &[u8], board: Settings, lines: &[u16]) -> bool {
+fn step_up(
+    out: &impl Print,
+    image: &mut [u8],
+    map: &[u8],
+    board: Settings,
+    lines: &[u16],
+) -> io::Result<()> {
     match machine::power_up(image, map, board) {
-        Powered::Up(s) => put_steps(out, s, image, map, board, lines),
-        Powered::Refused(why) => put_refused(out, why),
+        Ok(s) => put_steps(out, s, image, map, board, lines),
+        Err(why) => put_refused(out, why),
     }
 }
 
@@ -59,22 +54,21 @@ fn step_first(
     board: Settings,
     lines: &[u16],
     count: u16,
-) -> bool {
-    let n = count as usize;
-    if n <= lines.len() {
-        return step_up(out, image, map, board, &lines[..n]);
+) -> io::Result<()> {
+    match lines.get(..usize::from(count)) {
+        Some(lines) => step_up(out, image, map, board, lines),
+        None => put_refused(out, Refusal::LinesLength),
     }
-    put_refused(out, LINES_LENGTH)
 }
 
 // Reads the job, powers up and steps.
-fn step_job(out: &impl Print, input: &[u8], board: Settings) -> bool {
+fn step_job(out: &impl Print, input: &[u8], board: Settings) -> io::Result<()> {
     let mut image = [0u8; 65536];
     let mut map = [0u8; 256];
     let mut lines = [0u16; MOST_LINE_WORDS];
     match job::read_job(input, &mut image, &mut map, &mut lines) {
-        JobRead::Refused(why) => put_refused(out, why),
-        JobRead::Lines(count) => step_first(out, &mut image, &map, board, &lines, count),
+        Ok(count) => step_first(out, &mut image, &map, board, &lines, count),
+        Err(why) => put_refused(out, why),
     }
 }
 
@@ -83,5 +77,5 @@ fn main(rt: HostRuntime) {
     let mut input = [0u8; READ_OF_JOB];
     let got = read_full(&mut rt.stdin(), &mut input);
     let written = step_job(&rt.stdout(), &input[..got], board);
-    say_unless(&rt.stderr(), written, b"steps");
+    say_unless(&rt.stderr(), written, "steps");
 }

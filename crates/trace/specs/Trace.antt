@@ -1,5 +1,5 @@
 -- The trace of a job: after each step from power-up, the bench line's fields from R0 to the mode. What is right, and what another shop's trace is found to be.
-use Rattle.std.specs.Prelude.{ℕ, zero, suc, ◌+◌, ◌*◌, ◌%◌, false, cond, List, [], ◌∷◌, ◌++◌, length, eqb, leb}
+use Rattle.std.specs.Prelude.{ℕ, zero, suc, ◌+◌, ◌*◌, ◌%◌, false, cond, List, [], ◌∷◌, ◌++◌, length, eqb, leb, Result}
 use Rattle.wordbytes.specs.Words.{word_at, bytes_in}
 use Rattle.state.specs.declared.State.{State}
 use Rattle.state.specs.State.{mode_number, ps_of, heard}
@@ -7,7 +7,9 @@ use Rattle.step.specs.declared.Cause.TheVariants as Cause
 use Rattle.step.specs.Step.{After, after}
 use Rattle.hexdigits.specs.Over.{in_front_of}
 use Rattle.refusal.specs.Numbers.{output_short, trace_cut}
-use Rattle.refusal.specs.Page.{Page, refused, answered, Left, left, call, first}
+use Rattle.refusal.specs.declared.Refusal.{Refusal}
+use Rattle.refusal.specs.Answer.{page_of}
+use Rattle.refusal.specs.Page.{Page, answered, Left, left, call, first}
 use Rattle.machine.specs.Numbers.{registers_of}
 use Rattle.machine.specs.Trail.{trail_of, last_after}
 use Rattle.job.specs.Job.{map_of, lines_of, line_words, why_read}
@@ -15,10 +17,6 @@ use Rattle.endline.specs.Report.{bench_board}
 use Rattle.runjob.specs.Bench.{up_of}
 use Rattle.trace.specs.declared.Verdict.{Verdict}
 use Rattle.trace.specs.declared.Verdict.TheVariants.{Accepted, Wrong, Missing, Extra}
-use Rattle.trace.specs.declared.Checked.{Checked}
-use Rattle.trace.specs.declared.Checked.TheVariants as Checked
-use Rattle.trace.specs.declared.Made.{Made}
-use Rattle.trace.specs.declared.Made.TheVariants as Made
 
 -- ---- the right trace of a job
 
@@ -117,9 +115,11 @@ verdict_page (Wrong step field right) = wrong step field right
 verdict_page (Missing step) = missing step
 verdict_page (Extra step) = extra step
 
+abbrev pub Checked : Type 0
+Checked = Result Verdict Refusal
+
 abbrev pub checked_page : Checked → Page VerdictPage
-checked_page (Checked.Done v) = answered (verdict_page v)
-checked_page (Checked.Refused why) = refused why
+checked_page = page_of verdict_page
 
 -- the job's own refusal first, then the trace's
 abbrev pub why_check : List ℕ → List ℕ → ℕ → ℕ → ℕ → ℕ
@@ -137,9 +137,11 @@ check_of input t image map lines =
 
 -- ---- the trace made
 
+abbrev pub Made : Type 0
+Made = Result ℕ Refusal
+
 abbrev pub made_page : Made → Page ℕ
-made_page (Made.Bytes n) = answered n
-made_page (Made.Refused why) = refused why
+made_page = page_of (λ n. n)
 
 -- 10: fewer bytes are lent than the longest trace has, of 4,096 entries
 abbrev pub longest_trace : ℕ

@@ -6,6 +6,7 @@ ghost use Rattle.std.proofs.lemmas.List.Edits.{sets};
 ghost use Rattle.wordbytes.specs.Words.{low, high, bytes_in};
 ghost use Rattle.board.specs.Exec.{Board, beside};
 ghost use Rattle.step.specs.Step.{up};
+ghost use Rattle.refusal.specs.Answer.{why_of};
 ghost use Rattle.refusal.specs.Page.{left};
 ghost use Rattle.machine.specs.Door.{GoodBoard};
 ghost use Rattle.trace.specs.Trace as Spec;
@@ -13,7 +14,7 @@ ghost use Rattle.trace.specs.Walk as Walk;
 
 use endline::bench_board;
 use machine::door;
-use refusal::number;
+use refusal::Refusal;
 use runjob::begin;
 use state::State;
 use wordbytes::{high, low, word_at};
@@ -26,20 +27,6 @@ pub enum Verdict {
     Wrong(u16, u16, u16),
     Missing(u16),
     Extra(u16),
-}
-
-// What the check answers.
-#[derive(Clone, Copy)]
-pub enum Checked {
-    Done(Verdict),
-    Refused(u8),
-}
-
-// What is answered where a trace is made: how many bytes it has.
-#[derive(Clone, Copy)]
-pub enum Made {
-    Bytes(usize),
-    Refused(u8),
 }
 
 // The bytes of the longest trace of a job, of 4,096 entries.
@@ -89,9 +76,7 @@ fn or_else(found: Verdict, later: Verdict) -> Verdict
 {
     match found {
         Verdict::Accepted => later,
-        Verdict::Wrong(_, _, _) => found,
-        Verdict::Missing(_) => found,
-        Verdict::Extra(_) => found,
+        _ => found,
     }
 }
 
@@ -100,13 +85,10 @@ fn entry_verdict(step: u16, entry: [u16; 10], trace: &[u8], at: usize) -> Verdic
     requires { (at < 4294967296) × (length entry ≡ 10) }
     ensures { result ≡ Spec.first_wrong step 0 entry (Spec.fields_from trace.now at 10) }
 {
-    let mut field: usize = 0;
-    while field < 10 {
-        let right = entry[field];
+    for (field, &right) in entry.iter().enumerate() {
         if right != word_at(trace, at + field * 2) {
             return Verdict::Wrong(step, field as u16, right);
         }
-        field += 1;
     }
     Verdict::Accepted
 }
@@ -140,13 +122,11 @@ fn judge_steps(s: State, image: &mut [u8], map: &[u8], lines: &[u16], trace: &[u
     let mut log = [0u16; 32];
     let mut state = s;
     let mut found = Verdict::Accepted;
-    let mut i: usize = 0;
-    while i < lines.len() {
-        state = stepped(state, image, map, &mut log, lines[i]);
+    for (i, &line) in lines.iter().enumerate() {
+        state = stepped(state, image, map, &mut log, line);
         found = or_else(found, step_verdict(i as u16, state, trace));
-        i += 1;
     }
-    or_else(found, end_verdict(i as u16, trace))
+    or_else(found, end_verdict(lines.len() as u16, trace))
 }
 
 // The same over the first line words of the buffer.
@@ -166,17 +146,17 @@ fn judge_first(
     judge_steps(s, image, map, &lines[..n], trace)
 }
 
-// The refusal of a trace, or 0: it is cut inside its count; inside a state, or bytes are left over.
-fn trace_refusal(trace: &[u8]) -> u8
-    ensures { result ≡ Spec.why_trace trace.now }
+// The refusal of a trace: it is cut inside its count; inside a state, or bytes are left over.
+fn trace_refusal(trace: &[u8]) -> Result<(), Refusal>
+    ensures { why_of result ≡ Spec.why_trace trace.now }
 {
     if trace.len() < 2 {
-        return number::TRACE_CUT;
+        return Err(Refusal::TraceCut);
     }
     if trace.len() != 2 + word_at(trace, 0) as usize * 20 {
-        return number::TRACE_CUT;
+        return Err(Refusal::TraceCut);
     }
-    0
+    Ok(())
 }
 
 // Checks a trace of a job that is read into the lent buffers. A refusal is the job's own or else the trace's, and leaves every buffer
@@ -187,22 +167,16 @@ pub fn check(
     image: &mut [u8],
     map: &mut [u8],
     lines: &mut [u16],
-) -> Checked
+) -> Result<Verdict, Refusal>
     ensures { left (Spec.checked_page result) (image.new, map.new, lines.new)
         ≡ Spec.check_of input.now trace.now image.old map.old lines.old }
 {
-    let why = job::refusal(image.len(), map.len(), lines.len(), input);
-    if why != 0 {
-        return Checked::Refused(why);
-    }
-    let cut = trace_refusal(trace);
-    if cut != 0 {
-        return Checked::Refused(cut);
-    }
+    job::refusal(image.len(), map.len(), lines.len(), input)?; // The job's own first.
+    trace_refusal(trace)?;
     let begun = begin(input, image, map, lines);
     let s = begun.state;
     let count = begun.count;
-    Checked::Done(judge_first(s, image, map, lines, count, trace))
+    Ok(judge_first(s, image, map, lines, count, trace))
 }
 
 // ---- the trace made
@@ -211,6 +185,7 @@ pub fn check(
 fn put_byte(out: &mut [u8], at: usize, byte: u8)
     ensures { out.new ≡ set out.old at byte }
 {
+    // The test by hand: over `get_mut` the proof didn't close, since its contract doesn't say what a slice is after a write through it.
     if at < out.len() {
         out[at] = byte;
     }
@@ -230,10 +205,8 @@ fn put_entry(out: &mut [u8], at: usize, entry: [u16; 10])
     requires { (at < 4294967296) × (length entry ≡ 10) }
     ensures { out.new ≡ sets out.old at (bytes_in entry) }
 {
-    let mut field: usize = 0;
-    while field < 10 {
-        put_word(out, at + field * 2, entry[field]);
-        field += 1;
+    for (field, &word) in entry.iter().enumerate() {
+        put_word(out, at + field * 2, word);
     }
 }
 
@@ -245,11 +218,9 @@ fn put_steps(s: State, image: &mut [u8], map: &[u8], lines: &[u16], out: &mut [u
 {
     let mut log = [0u16; 32];
     let mut state = s;
-    let mut i: usize = 0;
-    while i < lines.len() {
-        state = stepped(state, image, map, &mut log, lines[i]);
+    for (i, &line) in lines.iter().enumerate() {
+        state = stepped(state, image, map, &mut log, line);
         put_entry(out, 2 + i * 20, entry_of(state));
-        i += 1;
     }
 }
 
@@ -281,20 +252,17 @@ pub fn make(
     image: &mut [u8],
     map: &mut [u8],
     lines: &mut [u16],
-) -> Made
+) -> Result<usize, Refusal>
     ensures { left (Spec.made_page result) (out.new, image.new, map.new, lines.new)
         ≡ Spec.make_of input.now out.old image.old map.old lines.old }
 {
-    let why = job::refusal(image.len(), map.len(), lines.len(), input);
-    if why != 0 {
-        return Made::Refused(why);
-    }
+    job::refusal(image.len(), map.len(), lines.len(), input)?;
     if out.len() < LONGEST_TRACE {
-        return Made::Refused(number::OUTPUT_SHORT);
+        return Err(Refusal::OutputShort);
     }
     let begun = begin(input, image, map, lines);
     let s = begun.state;
     let count = begun.count;
     put_first(s, image, map, lines, count, out);
-    Made::Bytes(2 + count as usize * 20)
+    Ok(2 + count as usize * 20)
 }

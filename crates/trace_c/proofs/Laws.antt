@@ -6,9 +6,10 @@ use lib.ListN.{length}
 use Rattle.refusal.specs.Page.{answered, left, call, nothing, first, told}
 use Rattle.job.specs.Job.{why_job, why_read}
 use Rattle.trace.specs.declared.Verdict.{Verdict}
-use Rattle.trace.specs.declared.Checked.{Checked}
-use Rattle.trace.specs.declared.Checked.TheVariants as Checked
-use Rattle.trace.specs.Trace.{why_trace, verdict_of, verdict_page, buffers_after, checked_page, check_of}
+use Rattle.std.proofs.Common.{Ok, Err}
+use Rattle.refusal.specs.declared.Refusal.{Refusal}
+use Rattle.refusal.specs.Answer.{number}
+use Rattle.trace.specs.Trace.{Checked, why_trace, verdict_of, verdict_page, buffers_after, checked_page, check_of}
 use Rattle.answer.specs.Answer.{answer_why}
 use Rattle.answer.proofs.Laws.{bad, given}
 use Rattle.trace_c.specs.Calls.{verdict_words, verdict_in, check_left, check_call}
@@ -28,10 +29,10 @@ module _ (job t b : List ℕ) (n : ℕ) (h : n ≡ answer_why b) where
         split (suc why) = refl
 
     module _ (none : n ≡ 0) (r : Checked) (x : List ℕ × List ℕ × List ℕ) (met : left (checked_page r) x ≡ check_of job t image map lines) where
-      pub call-done : (b' : List ℕ) (v : Verdict) → r ≡ Checked.Done v → b' ≡ verdict_words (verdict_page v) → told 0 b' ≡ check_call job t b
+      pub call-done : (b' : List ℕ) (v : Verdict) → r ≡ Ok v → b' ≡ verdict_words (verdict_page v) → told 0 b' ≡ check_call job t b
       unfolding check_call
       call-done b' v d e = given verdict_in (λ place none. b) (λ none. b) (answer_why b) n (check_left job t) nothing h none _ (rw (← page-is, ← met, d, e))
 
-      pub call-refused : (why : ℕ) → r ≡ Checked.Refused why → told why b ≡ check_call job t b
+      pub call-refused : (why : Refusal) → r ≡ Err why → told (number why) b ≡ check_call job t b
       unfolding check_call
       call-refused why d = given verdict_in (λ place none. b) (λ none. b) (answer_why b) n (check_left job t) nothing h none _ (rw (← page-is, ← met, d))

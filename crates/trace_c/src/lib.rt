@@ -2,13 +2,14 @@
 #![tactic(auto)]
 
 ghost use Rattle.std.specs.Prelude.{◌≡◌};
+ghost use Rattle.refusal.specs.Answer.{why_of};
 ghost use Rattle.refusal.specs.Page.{told};
 ghost use Rattle.answer.specs.Answer.{SixBytes};
 ghost use Rattle.trace.specs.Trace.{verdict_page};
 ghost use Rattle.trace_c.specs.Calls as Spec;
 
-use refusal::MOST_LINE_WORDS;
-use trace::{Checked, Verdict};
+use refusal::{MOST_LINE_WORDS, Refusal};
+use trace::Verdict;
 
 // The kind, the step and the field.
 fn put_verdict(b: &mut [u8], found: Verdict)
@@ -28,18 +29,17 @@ fn put_verdict(b: &mut [u8], found: Verdict)
 pub extern "C" fn wd16_check_trace(job: &[u8], trace: &[u8], verdict: &mut [u8]) -> u8
     ensures { told result verdict.new ≡ Spec.check_call job.now trace.now verdict.old }
 {
-    let refused = answer::refusal(verdict);
-    if refused != 0 {
-        return refused;
-    }
+    refusal::told(check_into(job, trace, verdict))
+}
+
+fn check_into(job: &[u8], trace: &[u8], verdict: &mut [u8]) -> Result<(), Refusal>
+    ensures { told (why_of result) verdict.new ≡ Spec.check_call job.now trace.now verdict.old }
+{
+    answer::refusal(verdict)?;
     let mut image = [0u8; 65536];
     let mut map = [0u8; 256];
     let mut lines = [0u16; MOST_LINE_WORDS];
-    match trace::check(job, trace, &mut image, &mut map, &mut lines) {
-        Checked::Done(found) => {
-            put_verdict(verdict, found);
-            0
-        }
-        Checked::Refused(why) => why,
-    }
+    let found = trace::check(job, trace, &mut image, &mut map, &mut lines)?;
+    put_verdict(verdict, found);
+    Ok(())
 }

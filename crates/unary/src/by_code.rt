@@ -1,48 +1,41 @@
 // Format 7 by op code: 0A00 to 0CC0 on words, 8A00 to 8CC0 on bytes.
-ghost use Rattle.std.specs.Prelude.{◌≡◌};
+ghost use Rattle.std.specs.Prelude.{◌≡◌, cond, eqb};
+ghost use Rattle.unary.specs.Ops.{swab_of, swad_of};
 ghost use Rattle.unary.specs.Unary.{unary_of};
 
-use super::{on_bytes, on_words};
+use super::{on_bytes, on_words, ops};
 use opcodes::{Unary, Way};
-use shift::one_bit::{one_bit8, one_bit16};
-use wordmath::result::{mov8, mov16};
+use shift::one_bit::one_bit;
+use wordmath::result::mov;
+use wordmath::width::Width;
 use wordmath::{Done, Flags};
 
-pub fn unary16(op: Unary, in_register: bool, d: u16, f: Flags) -> Done
-    ensures { result ≡ unary_of 16 op in_register d f }
+// CLRB resets C in every mode.
+pub fn unary<W: Width>(op: Unary, in_register: bool, d: W, f: Flags) -> Done
+    ensures { result ≡ unary_of W.BITS op in_register (W.value d) f }
 {
     match op {
-        Unary::Ror => one_bit16(Way::RightRotate, d, f),
-        Unary::Rol => one_bit16(Way::LeftRotate, d, f),
-        Unary::Tst => mov16(d, f),
-        Unary::Asl => one_bit16(Way::LeftArith, d, f),
-        Unary::Set => mov16(0xffff, f),
-        Unary::Clr => on_words::clr(in_register & f.c),
-        Unary::Asr => one_bit16(Way::RightArith, d, f),
-        Unary::Swap => on_words::swab(d, f),
-        Unary::Com => on_words::com(d),
-        Unary::Neg => on_words::neg(d),
-        Unary::Inc => on_words::inc(d),
-        Unary::Dec => on_words::dec(d),
+        Unary::Ror => one_bit(Way::RightRotate, d, f),
+        Unary::Rol => one_bit(Way::LeftRotate, d, f),
+        Unary::Tst => mov(d, f),
+        Unary::Asl => one_bit(Way::LeftArith, d, f),
+        Unary::Set => ops::set::<W>(f),
+        Unary::Clr => ops::clr((W::BITS == 16) & in_register & f.c),
+        Unary::Asr => one_bit(Way::RightArith, d, f),
+        Unary::Swap => swap(d, f),
+        Unary::Com => ops::com(d),
+        Unary::Neg => ops::neg(d),
+        Unary::Inc => ops::inc(d),
+        Unary::Dec => ops::dec(d),
     }
 }
 
-// CLRB resets C in every mode.
-pub fn unary8(op: Unary, in_register: bool, d: u8, f: Flags) -> Done
-    ensures { result ≡ unary_of 8 op in_register d f }
+// SWAD and SWAB.
+fn swap<W: Width>(d: W, f: Flags) -> Done
+    ensures { result ≡ cond (eqb W.BITS 8) (swad_of (W.value d)) (swab_of (W.value d) f) }
 {
-    match op {
-        Unary::Ror => one_bit8(Way::RightRotate, d, f),
-        Unary::Rol => one_bit8(Way::LeftRotate, d, f),
-        Unary::Tst => mov8(d, f),
-        Unary::Asl => one_bit8(Way::LeftArith, d, f),
-        Unary::Set => mov8(0xff, f),
-        Unary::Clr => on_words::clr(false),
-        Unary::Asr => one_bit8(Way::RightArith, d, f),
-        Unary::Swap => on_bytes::swad(d),
-        Unary::Com => on_bytes::com(d),
-        Unary::Neg => on_bytes::neg(d),
-        Unary::Inc => on_bytes::inc(d),
-        Unary::Dec => on_bytes::dec(d),
+    if W::BITS == 8 {
+        return on_bytes::swad((d.word() % 256) as u8);
     }
+    on_words::swab(d.word(), f)
 }

@@ -4,3 +4,4 @@
 pub mod by_code;
 mod on_bytes;
 pub mod on_words;
+mod ops;

@@ -6,10 +6,10 @@
 // with '#' is no vector. The processor is stepped through the functions for C, whose layout of a state is in c/hitchbriar.h.
 #![tactic(auto)]
 
-use printing::{put, put_decimal, read_full};
+use printing::read_full;
+use std::io;
 use std::io::Print;
-use std::num::wrapping_add_u64;
-use text::find;
+use text::parted;
 use vector::tried;
 use wordbytes::byte_at;
 
@@ -18,55 +18,41 @@ mod text;
 mod vector;
 
 fn is_vector(line: &[u8]) -> bool {
-    let first = byte_at(line, 0);
-    (first != 0) & (first != b'#')
+    !matches!(byte_at(line, 0), 0 | b'#')
 }
 
-// Tries a vector and says what became of it; 1 where it is right, else 0.
-fn told(out: &impl Print, line: &[u8]) -> u64 {
+// Tries a vector and says what became of it; whether it is right.
+fn told(out: &impl Print, line: &[u8]) -> bool {
     let right = tried(out, line);
-    let end = find(line, 0, b':');
-    put(out, &line[0..end]);
-    if right {
-        put(out, b" ok\n");
-        return 1;
-    }
-    put(out, b" FAILED\n");
-    0
-}
-
-fn print(out: &impl Print, number: u64, behind: &[u8]) {
-    put_decimal(out, number);
-    put(out, behind);
+    let (name, _) = parted(line, b':');
+    let _ = out.write_all(name);
+    let verdict = if right { "ok" } else { "FAILED" };
+    let _ = println!(out; " {verdict}");
+    right
 }
 
 // The last line; FAILED stands before it unless all vectors of the whole table are right.
-fn print_totals(out: &impl Print, all: u64, right: u64, whole: bool) {
+fn print_totals(out: &impl Print, all: u64, right: u64, whole: bool) -> io::Result<()> {
     if !whole {
-        put(out, b"the table is too long\n");
+        println!(out; "the table is too long")?;
     }
     if !whole | (all == 0) | (right != all) {
-        put(out, b"FAILED: ");
+        print!(out; "FAILED: ")?;
     }
-    print(out, right, b" of ");
-    print(out, all, b" ok\n");
+    println!(out; "{right} of {all} ok")
 }
 
 // Tries all vectors of a table.
 fn run_table(out: &impl Print, table: &[u8], whole: bool) {
-    let mut all = 0;
-    let mut right = 0;
-    let mut from = 0;
-    while from < table.len() {
-        let end = find(table, from, b'\n');
-        let line = &table[from..end];
-        from = end + 1;
+    let mut all: u64 = 0;
+    let mut right: u64 = 0;
+    for line in table.split(|b| *b == b'\n') {
         if is_vector(line) {
-            all = wrapping_add_u64(all, 1);
-            right = wrapping_add_u64(right, told(out, line));
+            all = all.wrapping_add(1);
+            right = right.wrapping_add(u64::from(told(out, line)));
         }
     }
-    print_totals(out, all, right, whole);
+    let _ = print_totals(out, all, right, whole);
 }
 
 // A table that fills the input may go on behind it.

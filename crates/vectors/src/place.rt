@@ -1,5 +1,5 @@
 // What a vector sets and looks at: words of the image, and the bytes of a state as c/hitchbriar.h lays them out.
-use super::text::{NO_NUMBER, hex};
+use super::text::hex;
 use std::io::Print;
 use wordbytes::{byte_at, high, low};
 
@@ -13,39 +13,21 @@ pub enum Target {
     Indicator(u16),
     // Where a line word goes: the board is stepped.
     Line,
-    Nowhere,
-}
-
-// R0 to R5, SP, PC, I2.
-fn of_two_letters(first: u8, second: u8) -> Target {
-    if (first == b'R') & (b'0' <= second) & (second <= b'5') {
-        return Target::Register(second as u16 % 8 * 2);
-    }
-    if (first == b'S') & (second == b'P') {
-        return Target::Register(12);
-    }
-    if (first == b'P') & (second == b'C') {
-        return Target::Register(14);
-    }
-    if (first == b'I') & (second == b'2') {
-        return Target::Indicator(17);
-    }
-    Target::Nowhere
 }
 
 // The place of a name. An address is even, and has one digit, three or four.
-pub(crate) fn named(name: &[u8]) -> Target {
-    if name.len() == 2 {
-        return of_two_letters(byte_at(name, 0), byte_at(name, 1));
+pub(crate) fn named(name: &[u8]) -> Option<Target> {
+    match name {
+        [b'R', n @ b'0'..=b'5'] => Some(Target::Register(u16::from(*n - b'0') * 2)),
+        [b'S', b'P'] => Some(Target::Register(12)),
+        [b'P', b'C'] => Some(Target::Register(14)),
+        [b'I', b'2'] => Some(Target::Indicator(17)),
+        [_, _] => None,
+        [b'N', b'Z', b'V', b'C'] => Some(Target::Indicator(16)),
+        _ => hex(name)
+            .filter(|at| *at % 2 == 0)
+            .map(|at| Target::Memory(at)),
     }
-    if name == b"NZVC".as_slice() {
-        return Target::Indicator(16);
-    }
-    let at = hex(name);
-    if (at < NO_NUMBER) & (at % 2 == 0) {
-        return Target::Memory((at % 0x1_0000) as u16);
-    }
-    Target::Nowhere
 }
 
 // Says which byte stands where another is wanted.
@@ -62,16 +44,16 @@ fn byte(out: &impl Print, buffer: &mut [u8], at: usize, value: u8, wanted: bool)
     if wanted {
         return same(out, byte_at(buffer, at), value);
     }
-    if at < buffer.len() {
-        buffer[at] = value;
+    if let Some(place) = buffer.get_mut(at) {
+        *place = value;
     }
     true
 }
 
 // The same of the low byte of a value and of its high byte.
 pub(crate) fn word(out: &impl Print, buffer: &mut [u8], at: u16, value: u16, wanted: bool) -> bool {
-    let first = byte(out, buffer, at as usize, low(value), wanted);
-    let second = byte(out, buffer, at as usize + 1, high(value), wanted);
+    let first = byte(out, buffer, usize::from(at), low(value), wanted);
+    let second = byte(out, buffer, usize::from(at) + 1, high(value), wanted);
     first & second
 }
 
@@ -83,6 +65,6 @@ pub(crate) fn small(
     value: u16,
     wanted: bool,
 ) -> bool {
-    let right = byte(out, buffer, at as usize, low(value), wanted);
+    let right = byte(out, buffer, usize::from(at), low(value), wanted);
     right & (value < 256)
 }

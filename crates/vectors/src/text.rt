@@ -1,53 +1,25 @@
 // Parts of a text, and hex numbers.
-ghost use Rattle.std.specs.Prelude.{◌-◌, ◌≤◌, length};
 
-// What is no number of the table. It is even.
-pub const NO_NUMBER: u32 = 0x1_0000;
-
-// The place of the next mark, or the end of the text.
-pub(crate) fn find(text: &[u8], from: usize, mark: u8) -> usize
-    requires { from ≤ length text.now }
-    ensures { (from ≤ result) × (result ≤ length text.now) }
-{
-    let mut at = from;
-    while at < text.len() {
-        if text[at] == mark {
-            return at;
-        }
-        at += 1;
-    }
-    at
+// What stands before a mark, and behind it; or the whole text, where the mark isn't in it.
+pub(crate) fn parted(text: &[u8], mark: u8) -> (&[u8], Option<&[u8]>) {
+    let mut parts = text.splitn(2, |b| *b == mark);
+    (parts.next().unwrap_or_default(), parts.next())
 }
 
-// The number of an upper-case hex digit, or 16.
-fn digit(c: u8) -> u32 {
-    if (b'0' <= c) & (c <= b'9') {
-        return c as u32 % 16;
+// The number of an upper-case hex digit.
+fn digit(c: u8) -> Option<u16> {
+    match c {
+        b'0'..=b'9' => Some(u16::from(c - b'0')),
+        b'A'..=b'F' => Some(u16::from(c - b'A') + 10),
+        _ => None,
     }
-    if (b'A' <= c) & (c <= b'F') {
-        return c as u32 % 16 + 9;
-    }
-    16
-}
-
-// The number with a hex digit more, or none.
-fn longer(value: u32, digit: u32) -> u32 {
-    if (value < 4096) & (digit < 16) {
-        return value % 4096 * 16 + digit % 16;
-    }
-    NO_NUMBER
 }
 
 // Hex digits as a number of 16 bits.
-pub(crate) fn hex(word: &[u8]) -> u32 {
-    if word.len() == 0 {
-        return NO_NUMBER;
+pub(crate) fn hex(word: &[u8]) -> Option<u16> {
+    let mut value: u16 = 0;
+    for c in word {
+        value = value.checked_mul(16)?.checked_add(digit(*c)?)?;
     }
-    let mut value = 0;
-    let mut at = 0;
-    while at < word.len() {
-        value = longer(value, digit(word[at]));
-        at += 1;
-    }
-    value
+    if word.is_empty() { None } else { Some(value) }
 }

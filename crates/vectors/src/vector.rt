@@ -1,7 +1,6 @@
 // One vector: a board and a state are made as its line says, run, and looked at.
 use super::place::{Target, named, small, word};
-use super::text::{NO_NUMBER, find, hex};
-use printing::put;
+use super::text::{hex, parted};
 use std::io::Print;
 
 // How far a line is read: its column, the words there, and whether all is right so far.
@@ -19,35 +18,25 @@ struct Deed {
     value: u16,
 }
 
-// There is no place for what is no number.
-fn deed_at(place: Target, number: u32) -> Deed {
-    if number < NO_NUMBER {
-        return Deed {
-            place,
-            value: (number % 0x1_0000) as u16,
-        };
-    }
-    Deed {
-        place: Target::Nowhere,
-        value: 0,
-    }
-}
-
 // The place of a word that has no '=': an op code word, after so many others, or a line word.
-fn next_place(column: u16, words: u16) -> Target {
+fn next_place(column: u16, words: u16) -> Option<Target> {
     match column {
-        0 => Target::Memory(0x0100 + words % 256 * 2),
-        2 => Target::Line,
-        _ => Target::Nowhere,
+        0 => Some(Target::Memory(0x0100 + words % 256 * 2)),
+        2 => Some(Target::Line),
+        _ => None,
     }
 }
 
-fn read(p: Progress, text: &[u8]) -> Deed {
-    let mark = find(text, 0, b'=');
-    if mark < text.len() {
-        return deed_at(named(&text[0..mark]), hex(&text[mark + 1..]));
-    }
-    deed_at(next_place(p.column, p.words), hex(text))
+// What is no number has no deed, and neither has a value with no place.
+fn read(p: Progress, text: &[u8]) -> Option<Deed> {
+    let (place, value) = match parted(text, b'=') {
+        (name, Some(value)) => (named(name), hex(value)),
+        (value, None) => (next_place(p.column, p.words), hex(value)),
+    };
+    Some(Deed {
+        place: place?,
+        value: value?,
+    })
 }
 
 // One step on the board, all of whose pages are fitted, and the third microm; its jumpers are 11 and 11.
@@ -59,13 +48,11 @@ fn step(state: &mut [u8], image: &mut [u8], line: u16) -> bool {
 
 // Puts a value in its place, or compares it where it is wanted. Says whether that can be done and is right.
 fn done(out: &impl Print, state: &mut [u8], image: &mut [u8], deed: Deed, wanted: bool) -> bool {
-    let place = deed.place;
-    match place {
+    match deed.place {
         Target::Memory(at) => word(out, image, at, deed.value, wanted),
         Target::Register(at) => word(out, state, at, deed.value, wanted),
         Target::Indicator(at) => small(out, state, at, deed.value, wanted),
         Target::Line => step(state, image, deed.value),
-        Target::Nowhere => false,
     }
 }
 
@@ -81,8 +68,8 @@ fn next_column(p: Progress) -> Progress {
 // After a word. Says which is wrong.
 fn next_word(out: &impl Print, p: Progress, text: &[u8], right: bool) -> Progress {
     if !right {
-        put(out, text);
-        put(out, b" is wrong\n");
+        let _ = out.write_all(text);
+        let _ = out.write_all(b" is wrong\n");
     }
     Progress {
         column: p.column,
@@ -101,7 +88,10 @@ fn with_word(
     if text == b"|".as_slice() {
         return next_column(p);
     }
-    let right = done(out, state, image, read(p, text), p.column == 3);
+    let right = match read(p, text) {
+        Some(deed) => done(out, state, image, deed, p.column == 3),
+        None => false,
+    };
     next_word(out, p, text, right)
 }
 
@@ -112,11 +102,16 @@ fn with_words(out: &impl Print, state: &mut [u8], image: &mut [u8], line: &[u8])
         words: 0,
         right: true,
     };
-    let mut from = find(line, 0, b':') + 2;
-    while from < line.len() {
-        let end = find(line, from, b' ');
-        p = with_word(out, state, image, p, &line[from..end]);
-        from = end + 1;
+    let (_, behind) = parted(line, b':');
+    let words = behind.and_then(|rest| rest.get(1..)).unwrap_or_default();
+    for word in words.split_inclusive(|b| *b == b' ') {
+        p = with_word(
+            out,
+            state,
+            image,
+            p,
+            word.strip_suffix(b" ").unwrap_or(word),
+        );
     }
     p
 }

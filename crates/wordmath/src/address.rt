@@ -5,11 +5,11 @@ ghost use Rattle.wordmath.specs.Address as Spec;
 pub fn plus(a: u16, b: u16) -> u16
     ensures { result ≡ Spec.plus a b }
 {
-    std::num::wrapping_add_u16(a, b)
+    a.wrapping_add(b)
 }
 
 pub fn minus(a: u16, b: u16) -> u16
     ensures { result ≡ Spec.minus a b }
 {
-    std::num::wrapping_sub_u16(a, b)
+    a.wrapping_sub(b)
 }

@@ -1,13 +1,17 @@
-use mathlib.Core.Path.{sym, ◌∙◌}
+use mathlib.Core.Path.{sym}
+use Rattle.std.proofs.lemmas.Result.{err_from_is_err_and}
+use Rattle.refusal.proofs.Laws.Answer.{number-some}
 use lib.ListN.{length}
 use Rattle.assembler.proofs.Checked.{source_sound, source-refused, source-taken}
 use Rattle.assembler.proofs.assemble.Goals as goal
 
-pub returns-then-why-ne0 : goal.returns-then-why-ne0
-returns-then-why-ne0 c = source-refused c.args.source.now c.args.out.now _ c.source_refusal-why.ensures c.if-why-ne0.true
+pub returns-in_err-source_refusal : goal.returns-in_err-source_refusal
+returns-in_err-source_refusal c =
+    let p = err_from_is_err_and c.from_residual.result c.from_residual.ensures.1 in
+    rw (p.1, p.2) (source-refused c.args.source.now c.args.out.now _ c.in_err-source_refusal.ensures (number-some c.in_err-source_refusal.field-0.0))
 
 pub assemble_lines-requires : goal.assemble_lines-requires
-assemble_lines-requires c = source_sound _ c.args.source.now (length c.args.out.now) (sym c.source_refusal-why.ensures ∙ c.if-why-ne0.false)
+assemble_lines-requires c = source_sound _ c.args.source.now (length c.args.out.now) (sym c.in_ok-source_refusal.ensures)
 
 pub returns : goal.returns
-returns c = source-taken c.args.source.now c.args.out.now _ (sym c.source_refusal-why.ensures ∙ c.if-why-ne0.false) c.assemble_lines.ensures
+returns c = source-taken c.args.source.now c.args.out.now _ (sym c.in_ok-source_refusal.ensures) c.assemble_lines.ensures

@@ -1,21 +1,14 @@
+use Rattle.std.proofs.Common.{refl}
 use Rattle.answer.proofs.Laws.{room}
-use Rattle.assembler_c.proofs.Laws.{assemble-bad, done, stopped, stopped-at}
+use Rattle.refusal.proofs.Laws.Answer.{number-some}
+use Rattle.assembler_c.proofs.Laws.{assemble-bad, assemble-told}
 use Rattle.assembler_c.proofs.wd16_assemble.Goals as goal
 
-pub returns-then-refused-ne0 : goal.returns-then-refused-ne0
-returns-then-refused-ne0 c = assemble-bad _ _ _ _ c.refusal-refused.ensures c.if-refused-ne0.true
+pub returns-in-Err : goal.returns-in-Err
+returns-in-Err c = rw c.from.ensures (assemble-bad _ _ _ _ c.in-Err.ensures (number-some c.in-Err.why))
 
-pub put-requires : goal.put-requires
-put-requires c = room _ _ c.refusal-refused.ensures c.if-refused-ne0.false
+pub tell-requires : goal.tell-requires
+tell-requires c = room _ _ c.in_default.ensures refl
 
-pub put-requires-in-RefusedAt : goal.put-requires-in-RefusedAt
-put-requires-in-RefusedAt c = room _ _ c.refusal-refused.ensures c.if-refused-ne0.false
-
-pub returns-in-Section : goal.returns-in-Section
-returns-in-Section c = done _ _ _ _ c.refusal-refused.ensures c.if-refused-ne0.false _ _ c.assemble.ensures _ _ c.in-Section.is c.put.ensures
-
-pub returns-in-Refused : goal.returns-in-Refused
-returns-in-Refused c = stopped _ _ _ _ c.refusal-refused.ensures c.if-refused-ne0.false _ _ c.assemble.ensures _ c.in-Refused.is
-
-pub returns-in-RefusedAt : goal.returns-in-RefusedAt
-returns-in-RefusedAt c = stopped-at _ _ _ _ c.refusal-refused.ensures c.if-refused-ne0.false _ _ c.assemble.ensures _ _ _ c.in-RefusedAt.is c.put-in-RefusedAt.ensures
+pub returns : goal.returns
+returns c = assemble-told _ _ _ _ c.in_default.ensures refl _ _ c.assemble.ensures (c.tell.ensures _)

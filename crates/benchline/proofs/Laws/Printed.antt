@@ -6,9 +6,11 @@ use borrow.Author.Tests.{le-leb, lt-leb}
 use lib.ListN.{length}
 use Rattle.hexdigits.specs.Over.{in_front_of, Wrote}
 use Rattle.refusal.specs.Numbers.{text_short}
-use Rattle.refusal.specs.Page.{Page, refused, refused_at, answered, left}
-use Rattle.refusal.proofs.Laws.Page.{one, one-call}
-use Rattle.benchline.specs.declared.Printed.{Printed}
+use Rattle.refusal.specs.Page.{refused, answered, left}
+use Rattle.std.proofs.Common.{Result}
+use Rattle.refusal.specs.declared.Refusal.{Refusal}
+use Rattle.refusal.proofs.Laws.Page.{one-call}
+use Rattle.refusal.proofs.Laws.Answer.{page-one}
 use Rattle.benchline.specs.Line.{printed_page, print_of}
 
 pub printed-is : (s b e : List ℕ) (n : ℕ) → length s ≤ length b → Wrote s b e n → left (answered n) e ≡ print_of s b
@@ -26,17 +28,8 @@ printed-fits s b h = simp (le-leb (length s) (length b) h)
 
 -- ---- ONE OUTCOME
 
-abbrev printed_of : Page ℕ → Printed
-printed_of (answered n) = Printed.Line n
-printed_of (refused why) = Printed.Refused why
-printed_of (refused_at why at) = Printed.Refused why
+pub printed-one : (r q : Result ℕ Refusal) → printed_page r ≡ printed_page q → r ≡ q
+printed-one = page-one (λ x y e. e)
 
-printed-back : (r : Printed) → printed_of (printed_page r) ≡ r
-printed-back (Printed.Line n) = refl
-printed-back (Printed.Refused why) = refl
-
-printed-one : (r q : Printed) → printed_page r ≡ printed_page q → r ≡ q
-printed-one = one printed_of printed-back
-
-pub one-printed : (r q : Printed) (b c : List ℕ) → left (printed_page r) b ≡ left (printed_page q) c → (r ≡ q) × (b ≡ c)
+pub one-printed : (r q : Result ℕ Refusal) (b c : List ℕ) → left (printed_page r) b ≡ left (printed_page q) c → (r ≡ q) × (b ≡ c)
 one-printed = one-call printed_page printed-one

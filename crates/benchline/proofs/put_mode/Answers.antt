@@ -1,9 +1,8 @@
-use Rattle.hexdigits.proofs.Laws.Laid.{wrote-sets}
+use Rattle.std.proofs.Common.{arith}
+use Rattle.hexdigits.proofs.Laws.Laid.{wrote-fits}
 use Rattle.benchline.specs.Line.{mode_digit}
-use native.Mathlib.Omega.{arith}
 use Rattle.benchline.proofs.put_mode.Goals as goal
 
 pub returns : goal.returns
 unfolding mode_digit
-returns c = let a = c.args in
-    rw c.hex.ensures (wrote-sets (mode_digit a.mode) a.out.now (omega arith))
+returns c = rw (← c.hex.ensures) (wrote-fits _ _ _ _ (omega (arith, c.requires)) c.put_text.ensures)

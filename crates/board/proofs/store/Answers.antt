@@ -1,5 +1,4 @@
 use mathlib.Core.Path.{sym, ◌∙◌}
-use mathlib.Core.Path.{refl}
 use Rattle.board.specs.Work.{word, writable}
 use Rattle.board.proofs.Laws.{got-written, got-lost, did, and_right, room-few}
 use Rattle.board.proofs.store.Goals as goal
@@ -8,7 +7,7 @@ pub note-requires : goal.note-requires
 note-requires c = (c.requires.lent.size, room-few c.args.log.now (and_right (writable c.args.map.now c.args.a) _ (sym c.may_write.ensures ∙ c.if-may_write.true)))
 
 pub returns-then-may_write : goal.returns-then-may_write
-returns-then-may_write c = did refl c.requires (got-written word _ _ (sym c.may_write.ensures ∙ c.if-may_write.true) (rw (c.put_word.ensures, c.note.ensures)))
+returns-then-may_write c = did c.requires (got-written word _ _ (sym c.may_write.ensures ∙ c.if-may_write.true) (rw (c.put_word.ensures, c.note.ensures)))
 
 pub returns-else-may_write : goal.returns-else-may_write
-returns-else-may_write c = did refl c.requires (got-lost word _ (sym c.may_write.ensures ∙ c.if-may_write.false))
+returns-else-may_write c = did c.requires (got-lost word _ (sym c.may_write.ensures ∙ c.if-may_write.false))

@@ -1,5 +1,4 @@
 use mathlib.Core.Path.{sym, ◌∙◌}
-use mathlib.Core.Path.{refl}
 use Rattle.board.specs.Work.{byte}
 use Rattle.board.proofs.Laws.{got-written, got-lost, did, and_right, room-few}
 use Rattle.board.specs.Work.{with_byte, writable}
@@ -10,7 +9,7 @@ note-requires c = (c.requires.lent.size, room-few c.args.log.now (and_right (wri
 
 pub returns-then-may_write : goal.returns-then-may_write
 unfolding with_byte
-returns-then-may_write c = did refl c.requires (got-written byte _ _ (sym c.may_write.ensures ∙ c.if-may_write.true) (rw (c.low.ensures, c.note.ensures)))
+returns-then-may_write c = did c.requires (got-written byte _ _ (sym c.may_write.ensures ∙ c.if-may_write.true) (rw (c.low.ensures, c.note.ensures)))
 
 pub returns-else-may_write : goal.returns-else-may_write
-returns-else-may_write c = did refl c.requires (got-lost byte _ (sym c.may_write.ensures ∙ c.if-may_write.false))
+returns-else-may_write c = did c.requires (got-lost byte _ (sym c.may_write.ensures ∙ c.if-may_write.false))

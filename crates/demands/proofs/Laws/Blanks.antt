@@ -12,7 +12,6 @@ use Rattle.state.specs.declared.Outside.{Outside}
 use Rattle.state.specs.declared.Mode.TheVariants.{Locked}
 use Rattle.state.specs.State.{heard, with_mode}
 use Rattle.step.specs.declared.Cause.{Cause}
-use Rattle.step.specs.declared.Cause.TheVariants as Cause
 use Rattle.step.specs.declared.Cause.TheVariants.{LockedAt}
 use Rattle.step.specs.Step.{After, after, step_of, kind_of, cause_of, error_cause_of, cause_number, cause_address, is_blank}
 use Rattle.step.specs.Told.{work_answered, is_blank_step}

@@ -1,7 +1,5 @@
 -- The theorems that specs/Cause7.antt states.
-use Prim.Native.Nat.{ℕ}
-use mathlib.Core.List.{List}
-use mathlib.Core.Path.{◌≡◌, refl, sym, ap, ◌∙◌}
+use mathlib.Core.Path.{refl, sym, ap, ◌∙◌}
 use Rattle.state.specs.declared.Mode.TheVariants.{Locked}
 use Rattle.state.specs.State.{heard, with_mode}
 use Rattle.step.specs.declared.Cause.TheVariants.{LockedAt}

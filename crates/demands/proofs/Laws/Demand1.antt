@@ -10,11 +10,10 @@ use Rattle.state.specs.declared.State.{State}
 use Rattle.state.specs.declared.Settings.{Settings}
 use Rattle.state.specs.State.{heard}
 use Rattle.step.specs.declared.Cause.{Cause}
-use Rattle.step.specs.declared.Cause.TheVariants as Cause
 use Rattle.step.specs.Step.{step_of, power_up_of}
 use Rattle.refusal.specs.Numbers.{no_state}
 use Rattle.wordbytes.specs.Words.{word_at, bytes_in}
-use Rattle.refusal.specs.Page.{Page, refused, refused_at, answered, Left, left, call, nothing, first, Told, tells, reading_at, reading}
+use Rattle.refusal.specs.Page.{Page, refused, refused_at, answered, Left, left, call, nothing, first, tells, reading_at, reading}
 use Rattle.refusal.proofs.Laws.Page.{call-first}
 use Rattle.machine.specs.declared.Until.{Until}
 use Rattle.machine.specs.Run.{End, end, run_of, last_cause}

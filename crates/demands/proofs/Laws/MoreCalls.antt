@@ -10,7 +10,6 @@ use Rattle.state.specs.declared.State.{State}
 use Rattle.state.specs.declared.Settings.{Settings}
 use Rattle.state.specs.State.{heard}
 use Rattle.step.specs.declared.Cause.{Cause}
-use Rattle.step.specs.declared.Cause.TheVariants as Cause
 use Rattle.step.specs.Step.{after, step_of}
 use Rattle.refusal.specs.Numbers.{no_state}
 use Rattle.refusal.specs.Page.{answered, left, call, reading}

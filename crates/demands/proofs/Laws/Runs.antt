@@ -1,4 +1,5 @@
 -- Demand 3 for the runs that a board makes: over one line word, and until something happens.
+use Rattle.std.specs.Prelude.{Option}
 use Prim.Native.Nat.{ℕ, ◌+◌}
 use mathlib.Core.Bool.{cond}
 use mathlib.Core.List.{List, [], ◌∷◌}
@@ -9,20 +10,17 @@ use Rattle.state.specs.declared.State.{State}
 use Rattle.state.specs.declared.Settings.{Settings}
 use Rattle.state.specs.State.{heard}
 use Rattle.step.specs.declared.Cause.{Cause}
-use Rattle.step.specs.declared.Cause.TheVariants as Cause
 use Rattle.step.specs.Step.{step_of}
 use Rattle.step.proofs.Laws.Alike.{step-alike}
-use Rattle.refusal.proofs.Laws.Page.{apart, refused-one, answered-one}
-use Rattle.machine.specs.declared.First.{First}
+use Rattle.refusal.proofs.Laws.Answer.{page-one}
+use Rattle.machine.specs.declared.FirstBlank.{FirstBlank}
 use Rattle.machine.specs.declared.Stop.{Stop}
-use Rattle.machine.specs.declared.Stopped.{Stopped}
-use Rattle.machine.specs.declared.Stopped.TheVariants as Stopped
+use Rattle.machine.specs.Until.{Stopped, ends, steps_to, stop_page, stopped_page, stopped, run_for, until_of, run_until_page}
 use Rattle.machine.specs.declared.Until.{Until}
 use Rattle.machine.specs.Numbers.{first_page}
 use Rattle.machine.specs.Run.{End, end, run_of, no_blanks, last_cause}
 use Rattle.machine.specs.Entry.{step_why, run_why, run_end}
 use Rattle.machine.specs.Same.{same_of, run_same_page}
-use Rattle.machine.specs.Until.{ends, steps_to, stop_page, stopped_page, stopped, run_for, until_of, run_until_page}
 use Rattle.machine.proofs.Laws.Alike as Alike
 use Rattle.machine.proofs.Laws.Alike.{EndsAlike, run-alike, image_at_end, run-untouched}
 use Rattle.machine.proofs.Laws.Back.{first_back, first-back, turn_one}
@@ -94,7 +92,7 @@ module _ (settings : Settings) (map lines : List ℕ) (u : Until) (s : State) wh
 
 -- ---- one answer
 
-first_one : (f g : First) → first_page f ≡ first_page g → f ≡ g
+first_one : (f g : Option FirstBlank) → first_page f ≡ first_page g → f ≡ g
 first_one f g e = sym (first-back f) ∙ ap first_back e ∙ first-back g
 
 stop-one : (r q : Stop) → stop_page r ≡ stop_page q → r ≡ q
@@ -106,7 +104,4 @@ stop-one r q e =
     rw (turn, first, blanks, steps)
 
 pub stopped-one : (r q : Stopped) → stopped_page r ≡ stopped_page q → r ≡ q
-stopped-one (Stopped.Done r) (Stopped.Done q) e = ap Stopped.Done (stop-one r q (answered-one e))
-stopped-one (Stopped.Refused why) (Stopped.Refused y) e = ap Stopped.Refused (refused-one e)
-stopped-one (Stopped.Done r) (Stopped.Refused why) e = absurd (apart e)
-stopped-one (Stopped.Refused why) (Stopped.Done r) e = absurd (apart (sym e))
+stopped-one = page-one stop-one

@@ -20,8 +20,7 @@ use Rattle.machine.specs.Run.{End, end, run_of}
 use Rattle.machine.specs.Trail.{trail_of, last_after, tally_in}
 use Rattle.machine.proofs.Laws.Counted.{run-trail}
 use Rattle.machine_c.specs.Layout.{tally_bytes, state_from, settings_from}
-use Rattle.plugs.specs.declared.Channel.{Channel}
-use Rattle.plugs.specs.Plugs.{new_plug}
+use Rattle.plugs.specs.Plugs.{Channel, new_plug}
 use Rattle.recorder.specs.declared.Recorder.{Recorder}
 use Rattle.recorder.specs.Scan.{TallyPage, tally_page, plug_page, scan_why, scan_map, scan_image, advanced, scan_end, scan_run, scan_done, scan_of, report_why, report_page}
 use Rattle.recorder.proofs.Laws.Blind.{SameScan, scan-same, scan-kept}

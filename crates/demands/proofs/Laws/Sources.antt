@@ -1,7 +1,7 @@
 -- Demand 1 for the calls over a source: from how they end.
 use Prim.Native.Nat.{ℕ}
 use mathlib.Core.List.{List}
-use mathlib.Core.Path.{◌≡◌, sym}
+use mathlib.Core.Path.{◌≡◌}
 use Rattle.refusal.specs.Page.{Page, answered, Left}
 use Rattle.assembler.specs.Ends.{tells_line, FaultLine}
 use Rattle.assembler.proofs.Laws.Ends.{AssemblyEnds, done, alone, at_line, line-told}

@@ -1,4 +1,5 @@
 -- Demand 3 for a step's line: what it shows of memory stands at fitted addresses.
+use Rattle.std.specs.Prelude.{Result}
 use Prim.Native.Nat.{ℕ, zero, suc, ◌+◌, ◌*◌, ◌/◌}
 use native.Mathlib.Omega.{arith}
 use mathlib.Core.Bool.{Bool, true, false, not, cond, true≢false}
@@ -24,6 +25,7 @@ use Rattle.listing.specs.declared.CodeFound.TheVariants.{Nothing, Cut}
 use Rattle.listing.specs.Listing.{all_stand, words_at, found_at, listing_line, lines_from, listing_of}
 use Rattle.listing.specs.Listing as Listing
 use Rattle.listing.proofs.Laws.Alike.{listing-alike}
+use Rattle.refusal.specs.declared.Refusal.{Refusal}
 use Rattle.stepline.specs.declared.Shown.{Shown}
 use Rattle.stepline.specs.Shown.{writes_text, code_text, step_line, step_text, ShownPage, shown_page, shown_as, show_why, show_of}
 use Rattle.stepline.proofs.Once.{one-shown}
@@ -203,8 +205,8 @@ module _ (settings : Settings) (map m n : List ℕ) (l : length m ≡ length n) 
           }
       split (suc why) = record { same = record { page = refl; agree = g }; text = refl; stay = λ a e. refl; stay_too = λ a e. refl }
 
-pub line-blind : {map m n m' n' text₁ text₂ : List ℕ} (r q : Shown) {x y : Left ShownPage (List ℕ × List ℕ)} → left (shown_page r) (m', text₁) ≡ x → left (shown_page q) (n', text₂) ≡ y
-    → ShownAlike map m n x y → Blind {A = Shown × List ℕ} map m n (r, text₁) (q, text₂) m' n'
+pub line-blind : {map m n m' n' text₁ text₂ : List ℕ} (r q : Result Shown Refusal) {x y : Left ShownPage (List ℕ × List ℕ)} → left (shown_page r) (m', text₁) ≡ x → left (shown_page q) (n', text₂) ≡ y
+    → ShownAlike map m n x y → Blind {A = Result Shown Refusal × List ℕ} map m n (r, text₁) (q, text₂) m' n'
 line-blind {map} {m} {n} {m'} {n'} {text₁} {text₂} r q e d h =
     let once : shown_page r ≡ shown_page q → r ≡ q = λ p. (one-shown r q (m', text₁) (m', text₁) (ap (λ z. left z (m', text₁)) p)).0 in
     let b : Blind map m n r q m' n' = blind shown_page r q once (ap no_text e) (ap no_text d) h.same h.stay h.stay_too in

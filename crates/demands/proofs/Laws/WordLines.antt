@@ -1,4 +1,5 @@
 -- The theorems that specs/WordLines.antt states.
+use Rattle.std.specs.Prelude.{Result, Ok, Err}
 use Prim.Native.Nat.{ℕ, zero, suc, ◌/◌, ◌≤◌, ◌<◌}
 use Prim.Native.Char.{code}
 use native.Mathlib.Omega.{arith}
@@ -11,8 +12,8 @@ use lib.Dec.{T, eqb, ltb}
 use lib.ListN.{length, take, get_or, length-append, get_or-append}
 use lib.Seq.{get_or-take}
 use Rattle.hexdigits.specs.Digits.{letters, hex4}
-use Rattle.optext.specs.declared.ReadBack.{ReadBack}
-use Rattle.optext.specs.declared.ReadBack.TheVariants.{Words, WordsShort, EarlyEnd, AfterText, UnknownName, BadOperand}
+use Rattle.optext.specs.declared.ReadRefusal.{ReadRefusal}
+use Rattle.optext.specs.declared.ReadRefusal.TheVariants.{WordsShort, EarlyEnd, AfterText, UnknownName, BadOperand}
 use Rattle.optext.specs.Rows.{Row, word_row, rows, the_row, no_row, name_of, first_of, second_of}
 use Rattle.optext.specs.Line.{is_reserved, row_of, sep_text, op_text, taken, text_of, word_text}
 use Rattle.optext.specs.Answer.{read_page}
@@ -100,13 +101,13 @@ word-no-text w h r i =
 pub word-not-read : WordNotRead
 word-not-read w ws e r h k room p = by r p
   where
-    by : (r : ReadBack) → Reads (read_page r) (word_text w) ws e → (has_column r ≡ true) × (e ≡ ws)
-    by (Words n) p = absurd (word-no-text w h k (record { words = take n e; whole = p.whole; text = p.text }))
-    by WordsShort p = absurd (omega (arith, room, p.1.room))
-    by (EarlyEnd c) p = (refl, p.same)
-    by (AfterText c) p = (refl, p.same)
-    by (UnknownName c) p = (refl, p.same)
-    by (BadOperand c) p = (refl, p.same)
+    by : (r : Result ℕ ReadRefusal) → Reads (read_page r) (word_text w) ws e → (has_column r ≡ true) × (e ≡ ws)
+    by (Ok n) p = absurd (word-no-text w h k (record { words = take n e; whole = p.whole; text = p.text }))
+    by (Err WordsShort) p = absurd (omega (arith, room, p.1.room))
+    by (Err (EarlyEnd c)) p = (refl, p.same)
+    by (Err (AfterText c)) p = (refl, p.same)
+    by (Err (UnknownName c)) p = (refl, p.same)
+    by (Err (BadOperand c)) p = (refl, p.same)
 
 lent_none : (a b : List ℕ) → length a ≡ 6 → odd_length b ≡ false → lent_why a b ≡ 0
 unfolding lent_why answer_why

@@ -1,22 +1,15 @@
-use Rattle.board.proofs.Laws.{got-then, got-gone, means}
-use Rattle.state.proofs.Laws.Answer.{went_as}
+use Rattle.board.proofs.Laws.{saw-then, saw-fail}
 use Rattle.format1.specs.Format1.{pop_three}
 use Rattle.format1.proofs.pop_three.Goals as goal
 
-pub returns-in_default : goal.returns-in_default
+pub returns-in_err-t : goal.returns-in_err-t
 unfolding pop_three
-returns-in_default c = record { got = got-gone _ c.pop_reg-first.ensures.got (means went_as c.in_default.is) (means went_as c.in_default.is) }
+returns-in_err-t c = saw-fail _ c.pop_reg.ensures c.in_err-t.was c.from_residual.ensures.1
 
-pub returns-in_default-second : goal.returns-in_default-second
+pub returns-in_err-u : goal.returns-in_err-u
 unfolding pop_three
-returns-in_default-second c = record {
-  got = got-then _ c.pop_reg-first.ensures.got (means went_as c.in-Done.is)
-      (got-gone _ c.pop_reg-second.ensures.got (means went_as c.in_default-second.is) (means went_as c.in_default-second.is));
-}
+returns-in_err-u c = saw-then _ c.pop_reg.ensures c.in_ok-t.was (saw-fail _ c.pop_reg-2.ensures c.in_err-u.was c.from_residual-in_err-u.ensures.1)
 
 pub returns : goal.returns
 unfolding pop_three
-returns c = record {
-  got = got-then _ c.pop_reg-first.ensures.got (means went_as c.in-Done.is)
-      (got-then _ c.pop_reg-second.ensures.got (means went_as c.in-Done-second.is) c.pop_reg.ensures.got);
-}
+returns c = saw-then _ c.pop_reg.ensures c.in_ok-t.was (saw-then _ c.pop_reg-2.ensures c.in_ok-u.was c.pop_reg-3.ensures)

@@ -1,24 +1,15 @@
-use Rattle.board.proofs.Laws.{got-then, got-gone, did, means}
-use Rattle.state.proofs.Laws.Answer.{went_store, went_as}
+use Rattle.board.proofs.Laws.{did-then, did-fail}
 use Rattle.format1.specs.Format1.{push_three}
 use Rattle.format1.proofs.push_three.Goals as goal
 
-pub returns-in_default : goal.returns-in_default
+pub returns-in_err-t : goal.returns-in_err-t
 unfolding push_three
-returns-in_default c = did (went_store c.push_reg-first.result) c.requires
-    (got-gone _ c.push_reg-first.ensures.got (means went_as c.in_default.is) (means went_as c.in_default.is))
+returns-in_err-t c = did-fail _ c.push_reg.ensures c.in_err-t.was c.from_residual.ensures.1
 
-pub returns-in_default-second : goal.returns-in_default-second
+pub returns-in_err-u : goal.returns-in_err-u
 unfolding push_three
-returns-in_default-second c = did (went_store c.push_reg-second.result) c.requires
-    (got-then _ c.push_reg-first.ensures.got (means went_as c.in-Done.is)
-    (got-gone _ c.push_reg-second.ensures.got (means went_as c.in_default-second.is) (means went_as c.in_default-second.is)))
+returns-in_err-u c = did-then _ c.push_reg.ensures c.in_ok-t.was (did-fail _ c.push_reg-2.ensures c.in_err-u.was c.from_residual-in_err-u.ensures.1)
 
 pub returns : goal.returns
 unfolding push_three
-returns c = record {
-  got = got-then _ c.push_reg-first.ensures.got (means went_as c.in-Done.is)
-      (got-then _ c.push_reg-second.ensures.got (means went_as c.in-Done-second.is)
-      c.push_reg.ensures.got);
-  board = c.push_reg.ensures.board;
-}
+returns c = did-then _ c.push_reg.ensures c.in_ok-t.was (did-then _ c.push_reg-2.ensures c.in_ok-u.was c.push_reg-3.ensures)

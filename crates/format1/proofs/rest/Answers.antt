@@ -1,12 +1,11 @@
-use Rattle.board.proofs.Laws.{got-then, got-gone, means}
-use Rattle.state.proofs.Laws.Answer.{went_as}
+use Rattle.board.proofs.Laws.{saw-then, saw-fail}
 use Rattle.format1.specs.Format1.{rest}
 use Rattle.format1.proofs.rest.Goals as goal
 
-pub returns-in_default : goal.returns-in_default
+pub returns-in_err-t : goal.returns-in_err-t
 unfolding rest
-returns-in_default c = record { got = got-gone _ c.pop_three-went.ensures.got (means went_as c.in_default.is) (means went_as c.in_default.is) }
+returns-in_err-t c = saw-fail _ c.pop_three.ensures c.in_err-t.was c.from_residual.ensures.1
 
 pub returns : goal.returns
 unfolding rest
-returns c = record { got = got-then _ c.pop_three-went.ensures.got (means went_as c.in-Done.is) c.pop_three.ensures.got }
+returns c = saw-then _ c.pop_three.ensures c.in_ok-t.was c.pop_three-2.ensures

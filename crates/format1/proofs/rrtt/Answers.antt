@@ -1,15 +1,11 @@
-use Rattle.board.proofs.Laws.{got-then, got-gone, means}
-use Rattle.state.proofs.Laws.Answer.{went_as}
+use Rattle.board.proofs.Laws.{saw-then, saw-fail}
 use Rattle.format1.specs.Format1.{rrtt}
 use Rattle.format1.proofs.rrtt.Goals as goal
 
-pub returns-in_default : goal.returns-in_default
+pub returns-in_err-t : goal.returns-in_err-t
 unfolding rrtt
-returns-in_default c = record { got = got-gone _ c.rest-went.ensures.got (means went_as c.in_default.is) (means went_as c.in_default.is) }
+returns-in_err-t c = saw-fail _ c.rest.ensures c.in_err-t.was c.from_residual.ensures.1
 
 pub returns : goal.returns
 unfolding rrtt
-returns c = record {
-  got = got-then _ c.rest-went.ensures.got (means went_as c.in-Done.is)
-      c.rtt.ensures.got;
-}
+returns c = saw-then _ c.rest.ensures c.in_ok-t.was c.rtt.ensures

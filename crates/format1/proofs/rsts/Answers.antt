@@ -1,25 +1,17 @@
-use mathlib.Core.Path.{refl}
-use Rattle.board.proofs.Laws.{got-then, got-gone, did, unwritten_at, stored_as, means, passes}
-use Rattle.state.proofs.Laws.Answer.{went_store, went_as, took_as, untaken}
+use Rattle.board.proofs.Laws.{did-then, did-fail, did-saw}
 use Rattle.format1.specs.Format1.{rsts}
 use Rattle.format1.proofs.rsts.Goals as goal
 
-pub returns-in_default : goal.returns-in_default
+pub returns-in_err-t : goal.returns-in_err-t
 unfolding rsts
-returns-in_default c = did (went_store c.untaken.result) c.requires
-    (got-gone _ c.pop-took.ensures.got (means took_as c.in_default.is) (passes went_as untaken c.untaken.ensures c.in_default.is))
+returns-in_err-t c = did-fail _ (did-saw c.requires c.pop.ensures) c.in_err-t.was c.from_residual.ensures.1
 
-pub returns-in_default-store : goal.returns-in_default-store
+pub returns-in_err-store : goal.returns-in_err-store
 unfolding rsts
-returns-in_default-store c = did refl c.requires
-    (got-then _ c.pop-took.ensures.got (means took_as c.in-Word.is)
-    (got-gone _ c.store.ensures.got (unwritten_at c.store.ensures.got (means stored_as c.in_default-store.is)) refl))
+returns-in_err-store c = did-then _ (did-saw c.requires c.pop.ensures) c.in_ok-t.was
+    (did-fail _ c.store.ensures c.in_err-store.was c.from_residual-in_err-store.ensures.1)
 
 pub returns : goal.returns
 unfolding rsts
-returns c = record {
-  got = got-then _ c.pop-took.ensures.got (means took_as c.in-Word.is)
-      (got-then _ c.store.ensures.got (means stored_as c.in-Done.is)
-      c.rrtt.ensures.got);
-  board = c.store.ensures.board;
-}
+returns c = did-then _ (did-saw c.requires c.pop.ensures) c.in_ok-t.was
+    (did-then _ c.store.ensures c.in_ok-store.was (did-saw c.store.ensures.board c.rrtt.ensures))

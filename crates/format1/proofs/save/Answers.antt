@@ -1,16 +1,11 @@
-use Rattle.board.proofs.Laws.{got-then, got-gone, did, means}
-use Rattle.state.proofs.Laws.Answer.{went_store, went_as}
+use Rattle.board.proofs.Laws.{did-then, did-fail}
 use Rattle.format1.specs.Format1.{save}
 use Rattle.format1.proofs.save.Goals as goal
 
-pub returns-in_default : goal.returns-in_default
+pub returns-in_err-t : goal.returns-in_err-t
 unfolding save
-returns-in_default c = did (went_store c.push_three-went.result) c.requires
-    (got-gone _ c.push_three-went.ensures.got (means went_as c.in_default.is) (means went_as c.in_default.is))
+returns-in_err-t c = did-fail _ c.push_three.ensures c.in_err-t.was c.from_residual.ensures.1
 
 pub returns : goal.returns
 unfolding save
-returns c = record {
-  got = got-then _ c.push_three-went.ensures.got (means went_as c.in-Done.is) c.push_three.ensures.got;
-  board = c.push_three.ensures.board;
-}
+returns c = did-then _ c.push_three.ensures c.in_ok-t.was c.push_three-2.ensures

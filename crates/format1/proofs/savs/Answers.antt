@@ -1,50 +1,42 @@
-use mathlib.Core.Path.{refl}
-use Rattle.board.proofs.Laws.{got-then, got-gone, got-give, did, unread-at, unwritten_at, word_as, stored_as, means, passes}
-use Rattle.state.proofs.Laws.Answer.{went_store, went_as, took_as, untaken}
+use Rattle.board.proofs.Laws.{did-then, did-fail, did-saw, did-give}
 use Rattle.format1.specs.Format1.{savs}
 use Rattle.format1.proofs.savs.Goals as goal
 
-pub returns-in_default : goal.returns-in_default
+pub returns-in_err-fetched : goal.returns-in_err-fetched
 unfolding savs
-returns-in_default c = did (went_store c.untaken.result) c.requires
-    (got-gone _ c.fetch-took.ensures.got (means took_as c.in_default.is) (passes went_as untaken c.untaken.ensures c.in_default.is))
+returns-in_err-fetched c = did-fail _ (did-saw c.requires c.fetch.ensures) c.in_err-fetched.was c.from_residual.ensures.1
 
-pub returns-in_default-went : goal.returns-in_default-went
+pub returns-in_err-saved : goal.returns-in_err-saved
 unfolding savs
-returns-in_default-went c = did (went_store c.save-went.result) c.requires
-    (got-then _ c.fetch-took.ensures.got (means took_as c.in-Word.is)
-    (got-gone _ c.save-went.ensures.got (means went_as c.in_default-went.is) (means went_as c.in_default-went.is)))
+returns-in_err-saved c = did-then _ (did-saw c.requires c.fetch.ensures) c.in_ok-fetched.was
+    (did-fail _ c.save.ensures c.in_err-saved.was c.from_residual-in_err-saved.ensures.1)
 
-pub returns-in_default-load : goal.returns-in_default-load
+pub returns-in_err-old : goal.returns-in_err-old
 unfolding savs
-returns-in_default-load c = did refl c.requires
-    (got-then _ c.fetch-took.ensures.got (means took_as c.in-Word.is)
-    (got-then _ c.save-went.ensures.got (means went_as c.in-Done.is)
-    (got-gone _ c.load.ensures.got (unread-at c.load.ensures.got (means word_as c.in_default-load.is)) refl)))
+returns-in_err-old c = did-then _ (did-saw c.requires c.fetch.ensures) c.in_ok-fetched.was
+    (did-then _ c.save.ensures c.in_ok-saved.was
+    (did-fail _ (did-saw c.save.ensures.board c.load.ensures) c.in_err-old.was c.from_residual-in_err-old.ensures.1))
 
-pub returns-in_default-went-2 : goal.returns-in_default-went-2
+pub returns-in_err-pushed : goal.returns-in_err-pushed
 unfolding savs
-returns-in_default-went-2 c = did (went_store c.push-went.result) c.requires
-    (got-then _ c.fetch-took.ensures.got (means took_as c.in-Word.is)
-    (got-then _ c.save-went.ensures.got (means went_as c.in-Done.is)
-    (got-then _ c.load.ensures.got (means word_as c.in-Value.is)
-    (got-gone _ c.push-went.ensures.got (means went_as c.in_default-went-2.is) (means went_as c.in_default-went-2.is)))))
+returns-in_err-pushed c = did-then _ (did-saw c.requires c.fetch.ensures) c.in_ok-fetched.was
+    (did-then _ c.save.ensures c.in_ok-saved.was
+    (did-then _ (did-saw c.save.ensures.board c.load.ensures) c.in_ok-old.was
+    (did-fail _ c.push.ensures c.in_err-pushed.was c.from_residual-in_err-pushed.ensures.1)))
 
-pub returns-in_default-store : goal.returns-in_default-store
+pub returns-in_err-store : goal.returns-in_err-store
 unfolding savs
-returns-in_default-store c = did refl c.requires
-    (got-then _ c.fetch-took.ensures.got (means took_as c.in-Word.is)
-    (got-then _ c.save-went.ensures.got (means went_as c.in-Done.is)
-    (got-then _ c.load.ensures.got (means word_as c.in-Value.is)
-    (got-then _ c.push-went.ensures.got (means went_as c.in-Done-went.is)
-    (got-gone _ c.store.ensures.got (unwritten_at c.store.ensures.got (means stored_as c.in_default-store.is)) refl)))))
+returns-in_err-store c = did-then _ (did-saw c.requires c.fetch.ensures) c.in_ok-fetched.was
+    (did-then _ c.save.ensures c.in_ok-saved.was
+    (did-then _ (did-saw c.save.ensures.board c.load.ensures) c.in_ok-old.was
+    (did-then _ c.push.ensures c.in_ok-pushed.was
+    (did-fail _ c.store.ensures c.in_err-store.was c.from_residual-in_err-store.ensures.1))))
 
 pub returns : goal.returns
 unfolding savs
-returns c = did refl c.requires
-    (got-then _ c.fetch-took.ensures.got (means took_as c.in-Word.is)
-    (got-then _ c.save-went.ensures.got (means went_as c.in-Done.is)
-    (got-then _ c.load.ensures.got (means word_as c.in-Value.is)
-    (got-then _ c.push-went.ensures.got (means went_as c.in-Done-went.is)
-    (got-then _ c.store.ensures.got (means stored_as c.in-Done-store.is)
-    (got-give (rw c.ien.ensures)))))))
+returns c = did-then _ (did-saw c.requires c.fetch.ensures) c.in_ok-fetched.was
+    (did-then _ c.save.ensures c.in_ok-saved.was
+    (did-then _ (did-saw c.save.ensures.board c.load.ensures) c.in_ok-old.was
+    (did-then _ c.push.ensures c.in_ok-pushed.was
+    (did-then _ c.store.ensures c.in_ok-store.was
+    (rw c.ien.ensures (did-give c.store.ensures.board))))))

@@ -1,15 +1,11 @@
-use mathlib.Core.Path.{refl}
-use Rattle.board.proofs.Laws.{got-give, did}
+use Rattle.board.proofs.Laws.{did-give}
 use Rattle.format10.specs.Format10.{move_byte}
 use Rattle.format10.proofs.move_byte.Goals as goal
 
 pub returns-in-Reg : goal.returns-in-Reg
 unfolding move_byte
-returns-in-Reg c = rw c.in-Reg.is
-    (did refl c.requires
-    (got-give (rw (c.with_reg.ensures, c.extend.ensures, c.low.ensures))))
+returns-in-Reg c = rw (c.in-Reg.is, c.with_reg.ensures, c.extend.ensures, c.low.ensures) (did-give c.requires)
 
 pub returns-in-Mem : goal.returns-in-Mem
 unfolding move_byte
-returns-in-Mem c = rw c.in-Mem.is
-    (record { got = (rw c.in-Mem.is at c.write.ensures).got; board = c.write.ensures.board })
+returns-in-Mem c = rw c.in-Mem.is (rw c.in-Mem.is at c.write.ensures)

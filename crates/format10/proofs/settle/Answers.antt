@@ -1,5 +1,5 @@
-use mathlib.Core.Path.{refl, sym, ◌∙◌}
-use Rattle.board.proofs.Laws.{got-give, did}
+use mathlib.Core.Path.{sym, ◌∙◌}
+use Rattle.board.proofs.Laws.{did-give}
 use Rattle.format10.proofs.Laws.Format10.{settle-yes, settle-no}
 use Rattle.format10.proofs.settle.Goals as goal
 
@@ -9,4 +9,4 @@ returns-then-stores c = rw (settle-yes c.args.b c.args.s c.args.k c.args.place c
 
 pub returns : goal.returns
 returns c = rw (settle-no c.args.b c.args.s c.args.k c.args.place c.args.v (sym c.stores.ensures ∙ c.if-stores.false))
-    (did refl c.requires (got-give refl))
+    (did-give c.requires)

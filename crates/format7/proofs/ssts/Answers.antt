@@ -1,18 +1,11 @@
-use Rattle.board.proofs.Laws.{got-then, got-gone, did, means, passes}
-use Rattle.state.proofs.Laws.Answer.{went_store, went_as}
-use Rattle.operand.proofs.Laws.Destination.{held_as, unheld}
+use Rattle.board.proofs.Laws.{did-then, did-fail, did-saw}
 use Rattle.format7.specs.Format7.{ssts}
 use Rattle.format7.proofs.ssts.Goals as goal
 
-pub returns-in_default : goal.returns-in_default
+pub returns-in_err-t : goal.returns-in_err-t
 unfolding ssts
-returns-in_default c = did (went_store c.unheld.result) c.requires
-    (got-gone _ c.destination-held.ensures.got (means held_as c.in_default.is) (passes went_as unheld c.unheld.ensures c.in_default.is))
+returns-in_err-t c = did-fail _ (did-saw c.requires c.destination.ensures) c.in_err-t.was c.from_residual.ensures.1
 
 pub returns : goal.returns
 unfolding ssts
-returns c = record {
-  got = got-then _ c.destination-held.ensures.got (means held_as c.in-At.is)
-      (rw (c.ps.ensures, c.destination_register-k.ensures) at c.write.ensures).got;
-  board = c.write.ensures.board;
-}
+returns c = did-then _ (did-saw c.requires c.destination.ensures) c.in_ok-t.was (rw (c.ps.ensures, c.destination_register-k.ensures) at c.write.ensures)

@@ -1,16 +1,11 @@
-use mathlib.Core.Path.{refl}
-use Rattle.board.proofs.Laws.{got-then, got-gone, did, unread-at, word_as, means}
+use Rattle.board.proofs.Laws.{did-then, did-fail, did-saw}
 use Rattle.format8.specs.Format8.{transfer}
 use Rattle.format8.proofs.transfer.Goals as goal
 
-pub returns-in_default : goal.returns-in_default
+pub returns-in_err-v : goal.returns-in_err-v
 unfolding transfer
-returns-in_default c = did refl c.requires
-    (got-gone _ c.read.ensures.got (unread-at c.read.ensures.got (means word_as c.in_default.is)) refl)
+returns-in_err-v c = did-fail _ (did-saw c.requires c.read.ensures) c.in_err-v.was c.from_residual.ensures.1
 
 pub returns : goal.returns
 unfolding transfer
-returns c = record {
-  got = got-then _ c.read.ensures.got (means word_as c.in-Value.is) c.write.ensures.got;
-  board = c.write.ensures.board;
-}
+returns c = did-then _ (did-saw c.requires c.read.ensures) c.in_ok-v.was c.write.ensures

@@ -1,16 +1,11 @@
-use mathlib.Core.Path.{refl}
-use Rattle.board.proofs.Laws.{got-then, got-gone, got-give, did, means}
-use Rattle.state.proofs.Laws.Answer.{went_store, went_as}
+use Rattle.board.proofs.Laws.{did-then, did-fail, did-give}
 use Rattle.format9.specs.Format9.{jsr_at}
 use Rattle.format9.proofs.jsr_at.Goals as goal
 
-pub returns-in_default : goal.returns-in_default
+pub returns-in_err-t : goal.returns-in_err-t
 unfolding jsr_at
-returns-in_default c = did (went_store c.push_reg-went.result) c.requires
-    (got-gone _ c.push_reg-went.ensures.got (means went_as c.in_default.is) (means went_as c.in_default.is))
+returns-in_err-t c = did-fail _ c.push_reg.ensures c.in_err-t.was c.from_residual.ensures.1
 
 pub returns : goal.returns
 unfolding jsr_at
-returns c = did refl c.requires
-    (got-then _ c.push_reg-went.ensures.got (means went_as c.in-Done.is)
-    (got-give (rw (c.with_pc.ensures, c.with_reg.ensures))))
+returns c = did-then _ c.push_reg.ensures c.in_ok-t.was (rw (c.with_pc.ensures, c.with_reg.ensures) (did-give c.push_reg.ensures.board))

@@ -1,22 +1,16 @@
 use mathlib.Core.Path.{refl}
-use Rattle.board.proofs.Laws.{got-then, got-gone, did, passes}
-use Rattle.state.proofs.Laws.Answer.{went_store, went_as}
-use Rattle.operand.proofs.Laws.Operand.{decoded, undecoded, unfound}
 use Rattle.board.specs.Work.{word}
+use Rattle.board.proofs.Laws.{did-then, did-fail, did-saw}
+use Rattle.operand.proofs.Laws.Operand.{decoded, undecoded}
 use Rattle.format9.specs.Format9.{lea}
 use Rattle.format9.proofs.lea.Goals as goal
 
-pub returns-in_default : goal.returns-in_default
+pub returns-in_err-to : goal.returns-in_err-to
 unfolding lea
-returns-in_default c = rw (← c.destination_register-k.ensures, ← c.destination_mode-mode.ensures, ← c.register-r.ensures)
-    (did (went_store c.unfound.result) c.requires
-    (got-gone _ (undecoded word _ _ _ (rw c.reg.ensures at c.locate-found.ensures).got c.in_default.is) refl (passes went_as unfound c.unfound.ensures c.in_default.is)))
+returns-in_err-to c = rw (← c.destination_register-k.ensures, ← c.destination_mode-mode.ensures, ← c.register-r.ensures)
+    (did-fail _ (did-saw c.requires (undecoded word _ _ _ refl c.reg.ensures c.locate.ensures c.in_err-to.was)) refl c.from_residual.ensures.1)
 
 pub returns : goal.returns
 unfolding lea
 returns c = rw (← c.destination_register-k.ensures, ← c.destination_mode-mode.ensures, ← c.register-r.ensures)
-    (record {
-      got = got-then _ (decoded word _ _ _ (rw c.reg.ensures at c.locate-found.ensures).got c.in-At.is c.moved-t.ensures) refl
-          c.lea_to.ensures.got;
-      board = c.lea_to.ensures.board;
-    })
+    (did-then _ (did-saw c.requires (decoded word _ _ _ refl c.reg.ensures c.locate.ensures c.in_ok-to.was c.moved-t.ensures)) refl c.lea_to.ensures)

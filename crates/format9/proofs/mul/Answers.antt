@@ -1,18 +1,12 @@
-use Rattle.board.proofs.Laws.{got-then, got-gone, got-give, means, passes}
-use Rattle.operand.proofs.Laws.Destination.{held_as, unheld}
-use Rattle.state.proofs.Laws.Answer.{went_as}
+use Rattle.board.proofs.Laws.{saw-then, saw-fail, saw-give}
 use Rattle.format9.specs.Format9.{mul}
 use Rattle.format9.proofs.mul.Goals as goal
 
-pub returns-in_default : goal.returns-in_default
+pub returns-in_err-t : goal.returns-in_err-t
 unfolding mul
-returns-in_default c = rw (← c.register-k.ensures)
-    (record { got = got-gone _ c.destination-held.ensures.got (means held_as c.in_default.is) (passes went_as unheld c.unheld.ensures c.in_default.is) })
+returns-in_err-t c = rw (← c.register-k.ensures) (saw-fail _ c.destination.ensures c.in_err-t.was c.from_residual.ensures.1)
 
 pub returns : goal.returns
 unfolding mul
 returns c = rw (← c.register-k.ensures)
-    (record {
-      got = got-then _ c.destination-held.ensures.got (means held_as c.in-At.is)
-          (got-give (rw (c.with_pair.ensures, c.mul-pair.ensures, c.reg.ensures)));
-    })
+    (saw-then _ c.destination.ensures c.in_ok-t.was (rw (c.with_pair.ensures, c.mul-pair.ensures, c.reg.ensures) saw-give))

@@ -1,4 +1,5 @@
 use mathlib.Core.Path.{sym, ◌∙◌}
+use Rattle.board.proofs.Laws.{did-saw}
 use borrow.Author.Tests.{lt-ltb, le-ltb}
 use Rattle.formats2to4.specs.Low.{low_codes}
 use Rattle.formats2to4.proofs.Laws.Low.{low-rtn}
@@ -6,14 +7,11 @@ use Rattle.formats2to4.proofs.low_codes.Goals as goal
 
 pub returns-then-op-lt16 : goal.returns-then-op-lt16
 unfolding low_codes
-returns-then-op-lt16 c = rw (lt-ltb _ _ c.if-op-lt16.true)
-    (record { got = c.format1.ensures.got; board = c.format1.ensures.board })
+returns-then-op-lt16 c = rw (lt-ltb _ _ c.if-op-lt16.true) c.format1.ensures
 
 pub returns-then-format2_code-eq3 : goal.returns-then-format2_code-eq3
-returns-then-format2_code-eq3 c = rw (low-rtn _ _ c.args.op (sym c.format2_code.ensures ∙ c.if-format2_code-eq3.true), ← c.only_register.ensures)
-    (record { got = c.rtn.ensures.got; board = c.requires })
+returns-then-format2_code-eq3 c = rw (low-rtn _ _ c.args.op (sym c.format2_code.ensures ∙ c.if-format2_code-eq3.true), ← c.only_register.ensures) (did-saw c.requires c.rtn.ensures)
 
 pub returns : goal.returns
 unfolding low_codes
-returns c = rw (le-ltb _ _ c.if-op-lt16.false)
-    (record { got = c.seldom.ensures.got; board = c.seldom.ensures.board })
+returns c = rw (le-ltb _ _ c.if-op-lt16.false) c.seldom.ensures

@@ -15,8 +15,8 @@ returns c = let input = c.args.input.now in
     let on = lines-at input (2 + pages) c.word_at-words.result at c.word_at-words.ensures in
     let last = read-only-at input _ c.word_at-count.result on c.word_at-count.ensures in
     record {
-      image-is = image-filled input c.args.image.now _ _ (2 + pages) _ c.requires.bytes c.clear-2.ensures at c.word_at-words.ensures c.store_words.ensures;
-      map_is = map-filled input c.args.map.now _ _ _ _ _ _ c.requires.pages c.clear.ensures c.word_at-pages.ensures c.mark_pages.ensures.0 last c.word_at-read_only.ensures c.mark_pages-2.ensures.0;
-      lines-is = lines-filled input c.args.lines.now _ _ _ _ c.requires.words c.clear_lines.ensures on c.word_at-count.ensures c.list_lines.ensures;
+      image-is = image-filled input c.args.image.now _ _ (2 + pages) _ c.requires.bytes (c.fill-2.ensures.after (λ y e. e)) at c.word_at-words.ensures c.store_words.ensures;
+      map_is = map-filled input c.args.map.now _ _ _ _ _ _ c.requires.pages (c.fill.ensures.after (λ y e. e)) c.word_at-pages.ensures c.mark_pages.ensures.0 last c.word_at-read_only.ensures c.mark_pages-2.ensures.0;
+      lines-is = lines-filled input c.args.lines.now _ _ _ _ c.requires.words (c.fill-3.ensures.after (λ y e. e)) on c.word_at-count.ensures c.list_lines.ensures;
       count-is = c.word_at-count.ensures ∙ ap (λ (x : ℕ). word_at input x) on;
     }

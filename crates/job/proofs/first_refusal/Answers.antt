@@ -1,42 +1,30 @@
-use Rattle.job.proofs.Laws.{count_room, entry-room, sections-end, section-absent, count-refused, count-taken, entry-refused, entry-taken, entries-end}
-use Rattle.job.specs.Job.{why_job}
-use borrow.Author.Rules.{rules}
-use native.Mathlib.Omega.{arith}
-use mathlib.Core.Path.{refl, sym, ◌∙◌}
+use Rattle.std.proofs.Common.{refl, sym, ◌∙◌, arith}
+use Rattle.std.proofs.lemmas.Result.{err_from_is_err_and}
+use Rattle.refusal.proofs.Laws.Answer.{number-some}
+use Rattle.job.specs.Job.{sections, why_job}
+use Rattle.job.proofs.Laws.{sections-end, section-absent, section-refused, section-taken}
 use Rattle.job.proofs.first_refusal.Goals as goal
 
-pub sections-init : goal.sections-init
+pub loop-s-init : goal.loop-s-init
 unfolding why_job
-sections-init c = (search rules, search rules, refl)
-
-pub loop-left-init : goal.loop-left-init
-loop-left-init c = (
-  omega (arith, c.if-section-ge4.false),
-  count_room _ _ _ (sym c.count_refusal-refused.ensures ∙ c.if-refused-ne0.false),
-  count-taken _ _ _ _ _ _ _ _ c.if-section-ge4.false c.nth-s.ensures (sym c.absent.ensures ∙ c.if-absent.false) c.count_refusal-refused.ensures c.if-refused-ne0.false c.word_at-left.ensures c.sections.invariant.2,
-)
-
-pub overflow_add-at-in-loop-left : goal.overflow_add-at-in-loop-left
-overflow_add-at-in-loop-left c = omega (arith, c.entry_size-at.ensures, entry-room _ _ _ _ _ (sym c.entry_refusal-refused.ensures ∙ c.if-refused-ne0-2.false), c.well_formed)
-
-pub loop-left-preserved : goal.loop-left-preserved
-loop-left-preserved c = (
-  c.loop-left.invariant.0,
-  omega (arith, c.entry_size-at.ensures, entry-room _ _ _ _ _ (sym c.entry_refusal-refused.ensures ∙ c.if-refused-ne0-2.false)),
-  entry-taken _ _ _ _ _ _ _ _ _ _ _ _ c.loop-left-test.true c.entry_refusal-refused.ensures c.if-refused-ne0-2.false c.key_at.ensures c.entry_size-at.ensures c.note_page.ensures c.loop-left.invariant.2,
-)
-
-pub sections-preserved : goal.sections-preserved
-sections-preserved c = (omega (arith, c.loop-left.invariant.0), c.loop-left.invariant.1, entries-end _ _ _ _ _ _ _ _ (omega (arith, c.loop-left-test.false)) c.loop-left.invariant.2)
-
-pub returns-then-section-ge4 : goal.returns-then-section-ge4
-returns-then-section-ge4 c = sections-end _ _ c.sections.section _ _ _ (omega (arith, c.if-section-ge4.true, c.sections.invariant.0)) c.rest_refusal-why.ensures c.sections.invariant.2
+loop-s-init c = (omega arith, refl)
 
 pub returns-then-absent : goal.returns-then-absent
-returns-then-absent c = section-absent _ _ _ _ _ _ c.if-section-ge4.false c.nth-s.ensures (sym c.absent.ensures ∙ c.if-absent.true) c.sections.invariant.2
+unfolding sections
+returns-then-absent c = section-absent _ _ c.loop-s.s-index _ _ c.loop-s.invariant.1 _ c.loop-s-test.true refl (sym c.absent.ensures ∙ c.if-absent.true)
 
-pub returns-then-refused-ne0 : goal.returns-then-refused-ne0
-returns-then-refused-ne0 c = count-refused _ _ _ _ _ _ _ c.if-section-ge4.false c.nth-s.ensures (sym c.absent.ensures ∙ c.if-absent.false) c.count_refusal-refused.ensures c.if-refused-ne0.true c.sections.invariant.2
+pub returns-in_err-at : goal.returns-in_err-at
+unfolding sections
+returns-in_err-at c =
+    let p = err_from_is_err_and c.from_residual.result c.from_residual.ensures.1 in
+    rw (p.1, p.2) (section-refused _ _ c.loop-s.s-index _ _ c.loop-s.invariant.1 _ c.loop-s-test.true refl (sym c.absent.ensures ∙ c.if-absent.false) _ c.in_err-at.ensures.refused (number-some c.in_err-at.field-0.0))
 
-pub returns-then-refused-ne0-2 : goal.returns-then-refused-ne0-2
-returns-then-refused-ne0-2 c = entry-refused _ _ _ _ _ _ _ _ _ c.loop-left-test.true c.entry_refusal-refused.ensures c.if-refused-ne0-2.true c.loop-left.invariant.2
+pub loop-s-preserved : goal.loop-s-preserved
+unfolding sections
+loop-s-preserved c = (
+  c.in_ok-at.ensures.place.1,
+  section-taken _ _ c.loop-s.s-index _ _ c.loop-s.invariant.1 _ c.loop-s-test.true refl (sym c.absent.ensures ∙ c.if-absent.false) c.in_ok-at.ensures.refused c.in_ok-at.ensures.place.0 c.in_ok-at.ensures.noted,
+)
+
+pub returns : goal.returns
+returns c = sections-end _ _ c.loop-s.s-index _ _ c.loop-s.invariant.1 _ (omega (arith, c.loop-s-test.false, c.loop-s.auto.s-index-end)) c.rest_refusal.ensures

@@ -1,12 +1,16 @@
+use Rattle.std.proofs.Common.{sym}
+use Rattle.std.proofs.lemmas.Result.{err_from_is_err_and}
+use Rattle.refusal.proofs.Laws.Answer.{number-some}
 use Rattle.job.proofs.Laws.{read-lengths, read-refused, read-filled}
-use mathlib.Core.Path.{sym, ◌∙◌}
 use Rattle.job.proofs.read_job.Goals as goal
 
-pub returns-then-why-ne0 : goal.returns-then-why-ne0
-returns-then-why-ne0 c = read-refused _ _ _ _ _ c.refusal-why.ensures c.if-why-ne0.true
+pub returns-in_err-refusal : goal.returns-in_err-refusal
+returns-in_err-refusal c =
+    let p = err_from_is_err_and c.from_residual.result c.from_residual.ensures.1 in
+    rw (p.1, p.2) (read-refused _ _ _ _ _ c.in_err-refusal.ensures (number-some c.in_err-refusal.field-0.0))
 
 pub fill-requires : goal.fill-requires
-fill-requires c = read-lengths _ _ _ _ (sym c.refusal-why.ensures ∙ c.if-why-ne0.false)
+fill-requires c = read-lengths _ _ _ _ (sym c.in_ok-refusal.ensures)
 
 pub returns : goal.returns
-returns c = read-filled _ _ _ _ (sym c.refusal-why.ensures ∙ c.if-why-ne0.false) c.fill.ensures
+returns c = read-filled _ _ _ _ (sym c.in_ok-refusal.ensures) c.fill.ensures

@@ -1,4 +1,5 @@
 -- The theorems that specs/Boards.antt states.
+use Rattle.std.proofs.Common.{Ok, Err}
 use Prim.Native.Nat.{ℕ, zero, suc, ◌+◌, ◌<◌, ◌≤◌}
 use native.Mathlib.Omega.{arith}
 use mathlib.Core.Bool.{Bool, true, false, not, ◌||◌, cond}
@@ -18,17 +19,13 @@ use Rattle.refusal.specs.Refusal.{all_of, plain, power_refusal, step_refusal}
 use Rattle.refusal.proofs.Laws.Page.{first-both, apart, answered-one}
 use Rattle.refusal.proofs.Laws.Refusal.{neither, cond-none, all_take}
 use Rattle.machine.specs.declared.Ran.{Ran}
-use Rattle.machine.specs.declared.Finished.{Finished}
-use Rattle.machine.specs.declared.Finished.TheVariants as Finished
-use Rattle.machine.specs.declared.Stopped.{Stopped}
-use Rattle.machine.specs.declared.Stopped.TheVariants as Stopped
+use Rattle.machine.specs.Entry.{Finished, power_why, step_why, run_why, finished_page, run_end, run_page}
+use Rattle.machine.specs.Until.{Stopped, ends, steps_to, StopPage, stop_page, stopped_page, stopped, until_of, run_until_page}
 use Rattle.machine.specs.declared.Until.{Until}
 use Rattle.machine.specs.Numbers.{state_page, nowhere, told_of, FirstPage, RanPage, ran_page, turn_page, first_page}
 use Rattle.machine.specs.Run.{End, end, run_of, ran_of, last_cause}
 use Rattle.machine.specs.Trail.{trail_of}
-use Rattle.machine.specs.Entry.{power_why, step_why, run_why, finished_page, run_end, run_page}
 use Rattle.machine.specs.Same.{same_of, run_same_page}
-use Rattle.machine.specs.Until.{ends, steps_to, StopPage, stop_page, stopped_page, stopped, until_of, run_until_page}
 use Rattle.machine.proofs.Laws.Back.{ran-one}
 use Rattle.wordbytes.specs.Words.{word_at}
 use Rattle.wordbytes.proofs.Laws.{word-again}
@@ -69,16 +66,16 @@ same-run settings map line n s m h l =
 
 -- an answer that isn't refused is the definition's
 same-answer-of : (settings : Settings) (m map : List ℕ) (line n : ℕ) (s : State) (r : Finished) (m' : List ℕ) → step_why settings m map line ≡ 0
-    → left (finished_page r) m' ≡ run_same_page settings m map line n s → (a : Ran) × (r ≡ Finished.Done a) × (ran_of a m' ≡ run_of settings map (replicate n line) s m)
+    → left (finished_page r) m' ≡ run_same_page settings m map line n s → (a : Ran) × (r ≡ Ok a) × (ran_of a m' ≡ run_of settings map (replicate n line) s m)
 unfolding run_same_page
 same-answer-of settings m map line n s r m' h e = of r (run_of settings map (replicate n line) s m) (rw h at e)
   where
-    of : (r : Finished) (x : End) → left (finished_page r) m' ≡ run_end x → (a : Ran) × (r ≡ Finished.Done a) × (ran_of a m' ≡ x)
-    of (Finished.Done a) (end t k y) e =
+    of : (r : Finished) (x : End) → left (finished_page r) m' ≡ run_end x → (a : Ran) × (r ≡ Ok a) × (ran_of a m' ≡ x)
+    of (Ok a) (end t k y) e =
         let same : a ≡ record { state = t; tally = y } = ran-one a (record { state = t; tally = y }) (answered-one (ap (λ z. z.page) e)) in
         let image : m' ≡ k = ap (λ z. z.lent) e in
         (a, refl, rw (same, image))
-    of (Finished.Refused why) (end t k y) e = absurd (apart (sym (ap (λ z. z.page) e)))
+    of (Err why) (end t k y) e = absurd (apart (sym (ap (λ z. z.page) e)))
 
 replicate-append : (n k j x : ℕ) → j ≡ n + k → replicate j x ≡ replicate n x ++ replicate k x
 replicate-append zero k j x e = let z : j ≡ k = omega arith in rw z
@@ -180,8 +177,8 @@ told-run p m₁ (end t k y) c n e =
     (ap (λ z. z.steps) q, ap (λ z. z.turn.cause) q, rw (q, i))
 
 page-of : (r : Stopped) (m₁ : List ℕ) (x : End) (c : Cause) (n : ℕ) → left (stopped_page r) m₁ ≡ stopped x c n → (p : StopPage) × (stopped_page r ≡ answered p) × (left (answered p) m₁ ≡ stopped x c n)
-page-of (Stopped.Done a) m₁ x c n e = (stop_page a, refl, e)
-page-of (Stopped.Refused why) m₁ (end t k y) c n e = absurd (apart (sym (ap (λ z. z.page) e)))
+page-of (Ok a) m₁ x c n e = (stop_page a, refl, e)
+page-of (Err why) m₁ (end t k y) c n e = absurd (apart (sym (ap (λ z. z.page) e)))
 
 module _ (settings : Settings) (map lines : List ℕ) (u : Until) (s : State) (m : List ℕ) (p : StopPage) (m₁ : List ℕ) where
   early-of : p.steps ≡ steps_to settings map u lines s m
@@ -270,7 +267,7 @@ until-not-refused b t m map w lines asked b' t' m' e =
 -- its bytes
 record UntilDone (b m map w lines : List ℕ) (asked : ℕ) (b' t' m' : List ℕ) : Type 0 where
   stop : Stop
-  answer : left (stopped_page (Stopped.Done stop)) m' ≡ run_until_page (settings_from w) m map lines (until_from asked) (state_from b)
+  answer : left (stopped_page (Ok stop)) m' ≡ run_until_page (settings_from w) m map lines (until_from asked) (state_from b)
   state : b' ≡ state_bytes (state_page stop.turn.state) (cause_number stop.turn.cause) (told_of (cause_address stop.turn.cause))
   tally : t' ≡ stop_bytes stop.tally.blanks (first_page stop.tally.first) stop.steps
 
@@ -288,7 +285,7 @@ until-answered b t m map w lines asked b' t' m' free why e =
         let stop : Stop = record { turn = record { state = s; cause = c }; tally = y; steps = n } in
         record {
           stop = stop;
-          answer = ap (λ z. left (stopped_page (Stopped.Done stop)) z) image ∙ sym q;
+          answer = ap (λ z. left (stopped_page (Ok stop)) z) image ∙ sym q;
           state = ap (λ z. z.lent.0) e;
           tally = ap (λ z. z.lent.1) e;
         }
@@ -312,7 +309,7 @@ wd16-run-early b t m map w lines asked b' t' m' e =
     let free = until-not-refused b t m map w lines asked b' t' m' e in
     let d = until-answered b t m map w lines asked b' t' m' free.0 free.1 e in
     let stop = d.stop in
-    let is = run-early settings map lines (until_from asked) s m (Stopped.Done stop) m' free.1 d.answer in
+    let is = run-early settings map lines (until_from asked) s m (Ok stop) m' free.1 d.answer in
     let early : Early settings map lines (until_from asked) s m (stop_page stop) m' = subst (λ (p : StopPage). Early settings map lines (until_from asked) s m p m') (sym (answered-one is.1)) is.2 in
     let tally = stop-tally stop.tally.blanks stop.steps (first_page stop.tally.first) in
     let steps : word_at t' 6 ≡ stop.steps = ap (λ (z : List ℕ). word_at z 6) d.tally ∙ tally.1 in
@@ -327,7 +324,7 @@ wd16-run-early b t m map w lines asked b' t' m' e =
           let g = f ∙ ap (λ (k : ℕ). run_call b t₀ m map w (take k lines)) steps in
           let one = call-answered b t₀ m map w (take stop.steps lines) number b₁ t₁ m₁ (until-run b t t₀ w asked free.0 l) (take-taken settings m map lines stop.steps free.1) g in
           let ran = one.1.ran in
-          let same = early.run (Finished.Done ran) m₁ one.1.page in
+          let same = early.run (Ok ran) m₁ one.1.page in
           let page : ran_page ran ≡ ran_in (stop_page stop) = answered-one same.0 in (
             one.0,
             one.1.state ∙ ap (λ (z : RanPage). state_bytes z.state 0 nowhere) page ∙ sym plain_state,

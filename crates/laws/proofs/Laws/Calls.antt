@@ -1,4 +1,5 @@
 -- The run for C: from its bytes to the run's answer.
+use Rattle.std.specs.Prelude.{Option, Some, None, Ok}
 use Prim.Native.Nat.{ℕ, ◌<◌, ◌≤◌}
 use native.Mathlib.Omega.{arith}
 use mathlib.Core.Bool.{Bool, true, false, cond}
@@ -18,19 +19,15 @@ use Rattle.refusal.proofs.Laws.Page.{first-both}
 use Rattle.wordbytes.specs.Words.{byte_at, word_at}
 use Rattle.wordbytes.proofs.Laws.{word-again}
 use Rattle.machine.specs.declared.Ran.{Ran}
-use Rattle.machine.specs.declared.First.{First}
-use Rattle.machine.specs.declared.First.TheVariants.{At, Never}
-use Rattle.machine.specs.declared.Finished.TheVariants as Finished
+use Rattle.machine.specs.declared.FirstBlank.{FirstBlank}
 use Rattle.machine.specs.Numbers.{state_page, Address, nowhere, first_page, FirstPage, turn_page}
 use Rattle.machine.specs.Run.{End, end, run_of, ran_of}
 use Rattle.machine.specs.Trail.{trail_of, place_moved, first_blank_in, Least, least}
 use Rattle.machine.specs.Counted.{or_first}
 use Rattle.machine.proofs.Laws.Counted.{run-trail, first-least, trail-length}
-use Rattle.machine.specs.declared.Stepped.TheVariants as Stepped
 use Rattle.step.specs.declared.Turn.{Turn}
 use Rattle.machine_c.proofs.Laws.Again.{state-again}
 use Rattle.machine.specs.Entry.{run_why, finished_page, run_page, step_why, stepped_page, step_page, power_why, powered_page, power_up_page}
-use Rattle.machine.specs.declared.Powered.TheVariants as Powered
 use Rattle.machine.proofs.Laws.Entry.{run-answered}
 use Rattle.machine.specs.Entry as Entry
 use Rattle.machine_c.specs.Layout.{state_bytes, tally_bytes, place_number, place_told, state_from, settings_from, refused_state, refused_settings, refused_up, refused_step, refused_run, not_tally}
@@ -47,7 +44,7 @@ bytes_for a = tally_bytes a.tally.blanks (first_page a.tally.first)
 
 pub record CallDone (b m map w lines b' t' m' : List ℕ) : Type 0 where
   pub ran : Ran
-  pub page : left (finished_page (Finished.Done ran)) m' ≡ run_page (settings_from w) m map lines (state_from b)
+  pub page : left (finished_page (Ok ran)) m' ≡ run_page (settings_from w) m map lines (state_from b)
   pub state : b' ≡ state_bytes (state_page ran.state) 0 nowhere
   pub tally : t' ≡ bytes_for ran
 
@@ -103,18 +100,18 @@ told-word n p = word-again (place_told p)
 -- ---- the first blank of two calls, by the words of their tallies
 
 -- a place is below FFFF, so that FFFF is none
-abbrev pub Within : First → Type 0
-Within f = (p a : ℕ) → f ≡ At p a → p < 65535
+abbrev pub Within : Option FirstBlank → Type 0
+Within f = (b : FirstBlank) → f ≡ Some b → b.place < 65535
 
-pub place_after : (n : ℕ) (f g : First) → Within f → Within g → place_number (first_page (or_first f (place_moved n g))) ≡ first_place n (place_number (first_page f)) (place_number (first_page g))
-place_after n (At p a) g h k = let low = h p a refl in rw (ne_eqb p 65535 (λ z. omega arith))
-place_after n Never (At q b) h k = let low = k q b refl in rw (ne_eqb q 65535 (λ z. omega arith))
-place_after n Never Never h k = refl
+pub place_after : (n : ℕ) (f g : Option FirstBlank) → Within f → Within g → place_number (first_page (or_first f (place_moved n g))) ≡ first_place n (place_number (first_page f)) (place_number (first_page g))
+place_after n (Some b) g h k = let low = h b refl in rw (ne_eqb b.place 65535 (λ z. omega arith))
+place_after n None (Some b) h k = let low = k b refl in rw (ne_eqb b.place 65535 (λ z. omega arith))
+place_after n None None h k = refl
 
-pub told-after : (n : ℕ) (f g : First) → Within f → place_told (first_page (or_first f (place_moved n g))) ≡ first_told (place_number (first_page f)) (place_told (first_page f)) (place_told (first_page g))
-told-after n (At p a) g h = let low = h p a refl in rw (ne_eqb p 65535 (λ z. omega arith))
-told-after n Never (At q b) h = refl
-told-after n Never Never h = refl
+pub told-after : (n : ℕ) (f g : Option FirstBlank) → Within f → place_told (first_page (or_first f (place_moved n g))) ≡ first_told (place_number (first_page f)) (place_told (first_page f)) (place_told (first_page g))
+told-after n (Some b) g h = let low = h b refl in rw (ne_eqb b.place 65535 (λ z. omega arith))
+told-after n None (Some b) h = refl
+told-after n None None h = refl
 
 -- a run's first place is one of its steps'
 pub run-low : (settings : Settings) (map lines : List ℕ) (s : State) (m : List ℕ) (a : Ran) (n : List ℕ) → ran_of a n ≡ run_of settings map lines s m → length lines ≤ 65535 → Within a.tally.first
@@ -122,12 +119,16 @@ run-low settings map lines s m a n e l =
     let same : a.tally.first ≡ first_blank_in (trail_of settings map lines s m) = ap first_of (e ∙ run-trail settings map lines s m Cause.Nothing) in
     rw same (low (first_blank_in (trail_of settings map lines s m)) (trail_of settings map lines s m) (trail-length settings map lines s m) (first-least (trail_of settings map lines s m)))
   where
-    first_of : End → First
+    first_of : End → Option FirstBlank
     first_of (end t k y) = y.first
 
-    low : (f : First) (rs : List After) → length rs ≡ length lines → Least rs (first_page f) → Within f
-    low (At q x) rs k (least i h g) p a d = let z : q ≡ p = cc in omega arith
-    low Never rs k h p a d = let z : ◌≡◌ {A = ℕ} 0 1 = cc in absurd (omega arith)
+    place_of : Option FirstBlank → ℕ
+    place_of (Some b) = b.place
+    place_of None = 0
+
+    low : (f : Option FirstBlank) (rs : List After) → length rs ≡ length lines → Least rs (first_page f) → Within f
+    low (Some f) rs k (least i h g) b d = let z : f.place ≡ b.place = ap place_of d in omega arith
+    low None rs k h b d = let z : ◌≡◌ {A = ℕ} 0 1 = cc in absurd (omega arith)
 
 -- ---- a call that answers 0 wasn't refused
 
@@ -181,7 +182,7 @@ number-no-blank Cause.Locked f s n = refl
 
 pub record StepDone (w b m map : List ℕ) (line : ℕ) (b' m' : List ℕ) : Type 0 where
   pub turn : Turn
-  pub page : left (stepped_page (Stepped.Done turn)) m' ≡ step_page (settings_from w) m map line (state_from b)
+  pub page : left (stepped_page (Ok turn)) m' ≡ step_page (settings_from w) m map line (state_from b)
   pub state : state_from b' ≡ turn.state
   pub cause : byte_at b' 19 ≡ cause_number turn.cause
 
@@ -228,7 +229,7 @@ cause-5 Cause.Locked e = absurd (omega (arith, e))
 
 pub record PowerDone (w b m map b' m' : List ℕ) : Type 0 where
   pub up : State
-  pub page : left (powered_page (Powered.Up up)) m' ≡ power_up_page (settings_from w) m map
+  pub page : left (powered_page (Ok up)) m' ≡ power_up_page (settings_from w) m map
   pub state : state_from b' ≡ up
 
 pub power-done : (w b m map b' m' : List ℕ) → told 0 (b', m') ≡ power_up_call b m map w → PowerDone w b m map b' m'

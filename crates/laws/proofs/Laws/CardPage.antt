@@ -1,4 +1,5 @@
 -- The theorems that specs/CardPage.antt states.
+use Rattle.std.proofs.Common.{Some, None}
 use Prim.Native.Nat.{ℕ, zero, suc, ◌+◌, ◌*◌, ◌/◌, ◌%◌, ◌≤◌, ◌<◌}
 use native.Mathlib.Omega.{arith}
 use mathlib.Core.Bool.{Bool, true, false, cond}
@@ -13,9 +14,7 @@ use Rattle.refusal.specs.Numbers.{no_state}
 use Rattle.refusal.specs.Page.{Page, refused, refused_at, answered, Left, left, call, told, tells, reading}
 use Rattle.refusal.proofs.Laws.Page.{first-both, call-right}
 use Rattle.machine_c.specs.Layout.{state_from, settings_from}
-use Rattle.plugs.specs.declared.Channel.{Channel}
-use Rattle.plugs.specs.declared.Channel.TheVariants.{NoCard, Reading}
-use Rattle.plugs.specs.Plugs.{in_range, present}
+use Rattle.plugs.specs.Plugs.{Channel, in_range, present}
 use Rattle.refusal.specs.Refusal.{all_of}
 use Rattle.plugs.proofs.Laws.Sum.{range-word}
 use Rattle.recorder.specs.declared.Recorder.{Recorder}
@@ -33,12 +32,12 @@ use Rattle.laws.specs.CardPage.{Carded, ScanCarded, Wd16ScanCarded, Wd16Readings
 -- ---- where the readings stand
 
 channel-long : (a : ℕ) (c : Channel) (m : List ℕ) → length (with_channel a c m) ≡ length m
-channel-long a NoCard m = refl
-channel-long a (Reading w) m = simp length-set
+channel-long a None m = refl
+channel-long a (Some w) m = simp length-set
 
 channel-below : (b : ℕ) (c : Channel) (m : List ℕ) (a : ℕ) → a < b → get_or (with_channel b c m) a 0 ≡ get_or m a 0
-channel-below b NoCard m a h = refl
-channel-below b (Reading w) m a h = get_or-set_other (set m b (w % 256)) (b + 1) a (w / 256 % 256) 0 (λ e. omega (arith, e, h)) ∙ get_or-set_other m b a (w % 256) 0 (λ e. omega (arith, e, h))
+channel-below b None m a h = refl
+channel-below b (Some w) m a h = get_or-set_other (set m b (w % 256)) (b + 1) a (w / 256 % 256) 0 (λ e. omega (arith, e, h)) ∙ get_or-set_other m b a (w % 256) 0 (λ e. omega (arith, e, h))
 
 -- the channels from a place on leave what stands before it
 placed_below : (cs : List Channel) (b : ℕ) (m : List ℕ) (a : ℕ) → a < b → get_or (channels_placed b cs m) a 0 ≡ get_or m a 0
@@ -46,7 +45,7 @@ unfolding channels_placed
 placed_below [] b m a h = refl
 placed_below (c ∷ cs) b m a h = placed_below cs (b + 2) (with_channel b c m) a (omega (arith, h)) ∙ channel-below b c m a h
 
-reading-at : (m : List ℕ) (a w : ℕ) → a + 2 ≤ length m → w < 65536 → Words.word_at (with_channel a (Reading w) m) a ≡ w
+reading-at : (m : List ℕ) (a w : ℕ) → a + 2 ≤ length m → w < 65536 → Words.word_at (with_channel a (Some w) m) a ≡ w
 reading-at m a w l h =
     let low : get_or (set (set m a (w % 256)) (a + 1) (w / 256 % 256)) a 0 ≡ w % 256 =
     get_or-set_other (set m a (w % 256)) (a + 1) a (w / 256 % 256) 0 (λ e. omega (arith, e)) ∙ get_or-set_same m a (w % 256) 0 (omega (arith, l)) in
@@ -54,7 +53,7 @@ reading-at m a w l h =
     let high : get_or (set (set m a (w % 256)) (a + 1) (w / 256 % 256)) (a + 1) 0 ≡ w / 256 % 256 = get_or-set_same (set m a (w % 256)) (a + 1) (w / 256 % 256) 0 (omega (arith, l, long)) in
     rw (low, high) (omega (arith, h))
 
-placed_at : (cs : List Channel) (a : ℕ) (m : List ℕ) (k w : ℕ) → k < length cs → a + length cs * 2 ≤ length m → get_or cs k NoCard ≡ Reading w → w < 65536
+placed_at : (cs : List Channel) (a : ℕ) (m : List ℕ) (k w : ℕ) → k < length cs → a + length cs * 2 ≤ length m → get_or cs k None ≡ Some w → w < 65536
     → Words.word_at (channels_placed a cs m) (a + 2 * k) ≡ w
 unfolding channels_placed
 placed_at [] a m k w i l e h = absurd (omega (arith, i))
@@ -136,7 +135,7 @@ wd16-scan-carded b t m map w lines cards readings d b' t' m' d' e =
     carded cs m map (sixteen b t w cards readings d free.0) known.bytes known.pages known.range
 
 -- the lent channels, one by one
-channel-at : (cs ws : List ℕ) (k : ℕ) → length cs ≡ length ws → k < length cs → byte_at cs k ≡ 1 → get_or (channels_from cs ws) k NoCard ≡ Reading (get_or ws k 0)
+channel-at : (cs ws : List ℕ) (k : ℕ) → length cs ≡ length ws → k < length cs → byte_at cs k ≡ 1 → get_or (channels_from cs ws) k None ≡ Some (get_or ws k 0)
 unfolding channels_from
 channel-at [] ws k l h e = absurd (omega (arith, h))
 channel-at (c ∷ cs) [] k l h e = absurd (omega (arith, l))

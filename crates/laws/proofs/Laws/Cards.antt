@@ -1,4 +1,5 @@
 -- The theorems that specs/Cards.antt states.
+use Rattle.std.proofs.Common.{Ok, Err}
 use Prim.Native.Nat.{ℕ}
 use native.Mathlib.Omega.{arith}
 use mathlib.Core.Bool.{true, false}
@@ -19,17 +20,13 @@ use Rattle.refusal.specs.Refusal.{all_of, plain, board_refusal, power_refusal}
 use Rattle.wordbytes.specs.Words.{byte_at}
 use Rattle.wordbytes.specs.Words as Words
 use Rattle.machine.specs.declared.Ran.{Ran}
-use Rattle.machine.specs.declared.Stepped.{Stepped}
-use Rattle.machine.specs.declared.Stepped.TheVariants as Stepped
-use Rattle.machine.specs.declared.Finished.{Finished}
-use Rattle.machine.specs.declared.Finished.TheVariants as Finished
+use Rattle.machine.specs.Entry.{Stepped, Finished, power_why, turned, finished_page, run_page}
 use Rattle.machine.specs.Numbers.{state_page, nowhere, told_of, first_page}
 use Rattle.machine.specs.Run.{End, end, rest_of_run, blank_noted, run_of, ran_of}
 use Rattle.machine.specs.Trail.{trail_of, last_after, blanks_in, tally_in}
 use Rattle.machine.proofs.Laws.Counted.{run-trail}
 use Rattle.machine.proofs.Laws.Back.{turn_one, one-step}
 use Rattle.refusal.specs.Page.{left, told}
-use Rattle.machine.specs.Entry.{power_why, turned, finished_page, run_page}
 use Rattle.machine.proofs.Laws.Entry.{run-answered}
 use Rattle.machine.proofs.Laws.Answered.{step-answer, run-done}
 use Rattle.machine_c.specs.Layout.{state_bytes, state_from, settings_from}
@@ -55,7 +52,7 @@ run-plugged settings map big lines s m m₁ m₂ a q p h sound f g =
     let more = plugged-more map big p in
     let same = ran-is (two.2 ∙ run_more settings map big more lines s m Cause.Nothing blanks unlocked ∙ sym one.1) in
     record {
-      answer = two.1 ∙ ap Finished.Done same.0;
+      answer = two.1 ∙ ap Ok same.0;
       no_place = ap (λ z. z.tally.first) last ∙ none_first rs blanks;
       image = same.1;
       steps = trail_more settings map big more lines s m Cause.Nothing blanks unlocked;
@@ -72,7 +69,7 @@ step-plugged settings map big line s m m₁ m₂ t q p h e u f g =
     let a = step_of map (heard settings line) s m in
     let same : t ≡ record { state = a.state; cause = a.cause } = turn_one t (record { state = a.state; cause = a.cause }) (answered-one (ap (λ z. z.page) one.1)) in
     let sound : SoundStep a = sound-turn t a same e u in
-    one-step q (Stepped.Done t) m₂ m₁
+    one-step q (Ok t) m₂ m₁
     (g ∙ step-page-is settings m big line s (step-taken settings m map big line h one.0) ∙ ap turned (step-more map (heard settings line) s m big (plugged-more map big p) sound) ∙ sym one.1)
 
 -- ---- THE SAME FOR C, on the bytes that the calls leave: w are the settings' bytes
@@ -94,7 +91,7 @@ wd16-step-plugged b m map big w line k b₁ m₁ b₂ m₂ p h e five six nine f
     f ∙ step-call-is b m big w line free.0 (step-taken settings m map big line h free.1) ∙ ap stepped_in (step-more map (heard settings line) (state_from b) m big (plugged-more map big p) sound) ∙ sym left₁ in
     (ap (λ z. z.number) left₂, ap (λ z. z.lent.0) left₂, ap (λ z. z.lent.1) left₂)
 
-pub done-one : {a b : Ran} → Finished.Done a ≡ Finished.Done b → a ≡ b
+pub done-one : {a b : Ran} → ◌≡◌ {A = Finished} (Ok a) (Ok b) → a ≡ b
 done-one {a} {b} e = cc
 
 same_bytes : (a c : Ran) {b₁ b₂ t₁ t₂ : List ℕ} → c ≡ a → b₁ ≡ state_bytes (state_page a.state) 0 nowhere → b₂ ≡ state_bytes (state_page c.state) 0 nowhere → t₁ ≡ bytes_for a → t₂ ≡ bytes_for c → (b₂ ≡ b₁) × (t₂ ≡ t₁)
@@ -111,7 +108,7 @@ wd16-run-plugged b t t' m map big w lines k b₁ t₁ m₁ b₂ t₂ m₂ p h l 
     let mode : byte_at b₁ 18 ≡ mode_number a.state.mode = ap (λ z. byte_at z 18) one.state ∙ mode-byte a.state 0 nowhere in
     let blanks : Words.word_at t₁ 0 ≡ a.tally.blanks = ap (λ z. Words.word_at z 0) one.tally ∙ blanks-word a.tally.blanks (first_page a.tally.first) in
     let sound : Sound a = record { no_blank = sym blanks ∙ none; unlocked = λ l. four (mode ∙ ap mode_number l) } in
-    let same = run-plugged settings map big lines (state_from b) m m₁ m₂ a (Finished.Done two.1.ran) p h sound one.page two.1.page in
+    let same = run-plugged settings map big lines (state_from b) m m₁ m₂ a (Ok two.1.ran) p h sound one.page two.1.page in
     let bytes = same_bytes a two.1.ran (done-one same.answer) one.state two.1.state one.tally two.1.tally in
     (two.0, bytes.0, bytes.1, same.image)
 
@@ -153,7 +150,7 @@ card-taken m l = rw l
 
 -- what a run over one line word that isn't refused answers and leaves
 met : (map : List ℕ) (line : ℕ) (s : State) (m : List ℕ) → power_why bench_board m map ≡ 0 → plain line ≡ true
-    → (let x = run_of bench_board map (line ∷ []) s m in left (finished_page (Finished.Done (ran_in x))) (image_at_end x) ≡ run_page bench_board m map (line ∷ []) s)
+    → (let x = run_of bench_board map (line ∷ []) s m in left (finished_page (Ok (ran_in x))) (image_at_end x) ≡ run_page bench_board m map (line ∷ []) s)
 unfolding all_of
 met map line s m e h =
     let x = run_of bench_board map (line ∷ []) s m in
@@ -172,16 +169,16 @@ no-blanks : (ran_in (spares bare_rack)).tally.blanks ≡ 0
 no-blanks = ap (λ z. get_or z 3 9) locked-row
 
 abbrev seen_in : Finished → List ℕ
-seen_in (Finished.Done a) = end_seen a
-seen_in (Finished.Refused why) = []
+seen_in (Ok a) = end_seen a
+seen_in (Err why) = []
 
 apart : (a b c d e f g h : ℕ) (x y : List ℕ) → x ≡ a ∷ b ∷ c ∷ d ∷ [] → y ≡ e ∷ f ∷ g ∷ h ∷ [] → y ≡ x → a ≡ e
 apart a b c d e f g h x y p q r = cc
 
 pub blank-needed : BlankNeeded
 blank-needed law =
-    let same : Finished.Done (ran_in (heals card)) ≡ Finished.Done (ran_in (heals bare_rack)) =
-    law bench_board bare_rack card (1 ∷ []) (before 0x200) image (image_at_end (heals bare_rack)) (image_at_end (heals card)) (ran_in (heals bare_rack)) (Finished.Done (ran_in (heals card)))
+    let same : Ok (ran_in (heals card)) ≡ Ok (ran_in (heals bare_rack)) =
+    law bench_board bare_rack card (1 ∷ []) (before 0x200) image (image_at_end (heals bare_rack)) (image_at_end (heals card)) (ran_in (heals bare_rack)) (Ok (ran_in (heals card)))
     plugged (card-taken image image-size) not-locked
     (met bare_rack 1 (before 0x200) image (bare-taken image image-size) refl) (met card 1 (before 0x200) image (card-taken image image-size) refl) in
     let pc : ◌≡◌ {A = ℕ} 0x200 0x400 = apart _ _ _ _ _ _ _ _ _ _ blank-row healed-row (ap seen_in same) in
@@ -189,8 +186,8 @@ blank-needed law =
 
 pub lock-needed : LockNeeded
 lock-needed law =
-    let same : Finished.Done (ran_in (spares card)) ≡ Finished.Done (ran_in (spares bare_rack)) =
-    law bench_board bare_rack card (2 ∷ []) (before 0x500) image (image_at_end (spares bare_rack)) (image_at_end (spares card)) (ran_in (spares bare_rack)) (Finished.Done (ran_in (spares card)))
+    let same : Ok (ran_in (spares card)) ≡ Ok (ran_in (spares bare_rack)) =
+    law bench_board bare_rack card (2 ∷ []) (before 0x500) image (image_at_end (spares bare_rack)) (image_at_end (spares card)) (ran_in (spares bare_rack)) (Ok (ran_in (spares card)))
     plugged (card-taken image image-size) no-blanks
     (met bare_rack 2 (before 0x500) image (bare-taken image image-size) refl) (met card 2 (before 0x500) image (card-taken image image-size) refl) in
     let pc : ◌≡◌ {A = ℕ} 0x100 0x300 = apart _ _ _ _ _ _ _ _ _ _ locked-row spared-row (ap seen_in same) in

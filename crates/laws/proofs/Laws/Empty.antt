@@ -1,4 +1,5 @@
 -- What an empty run leaves of a state's bytes: all but the cause and the address of the step before, which become 0.
+use Rattle.std.proofs.Common.{Ok}
 use Prim.Native.Nat.{ℕ, ◌<◌}
 use native.Mathlib.Omega.{arith}
 use mathlib.Core.Bool.{false}
@@ -19,7 +20,6 @@ use Rattle.refusal.proofs.Laws.Refusal.{neither}
 use Rattle.machine.specs.Numbers.{indicators, state_page, nowhere}
 use Rattle.machine.specs.Back.{mode_of, from_registers, state_of}
 use Rattle.machine.specs.declared.Ran.{Ran}
-use Rattle.machine.specs.declared.Finished.TheVariants as Finished
 use Rattle.machine_c.specs.Layout.{state_bytes, page_from, state_from, settings_from, refused_state, not_state, state_refused}
 use Rattle.opcodes.proofs.Laws.Past.{Below, below}
 use Rattle.laws.proofs.Laws.Calls.{bytes_for, settings-taken, step-taken, buffers-taken, call-answered}
@@ -128,7 +128,7 @@ wd16-run-none b t m map w k b₁ t₁ m₁ good l board bytes e =
     let state = step-taken b w good in
     let free = buffers-taken b t w state (settings-taken b w good) l in
     let call = call-answered b t m map w [] k b₁ t₁ m₁ free (taken-run settings m map [] (record { board = board; few = omega arith; unused = refl })) e in
-    let none = run_none settings map (state_from b) m m₁ (Finished.Done call.1.ran) board call.1.page in
+    let none = run_none settings map (state_from b) m m₁ (Ok call.1.ran) board call.1.page in
     let still-is : call.1.ran ≡ still (state_from b) = done-one none.0 in (
       call.0,
       call.1.state ∙ ap (λ a. state_bytes (state_page a.state) 0 nowhere) still-is ∙ bytes-kept b state bytes,

@@ -1,4 +1,5 @@
 -- The theorems that specs/Halves.antt states.
+use Rattle.std.proofs.Common.{Ok}
 use Prim.Native.Nat.{ℕ, ◌+◌, ◌≤◌}
 use native.Mathlib.Omega.{arith}
 use mathlib.Core.Bool.{true, false}
@@ -10,15 +11,13 @@ use Rattle.state.specs.declared.Settings.{Settings}
 use Rattle.refusal.specs.Refusal.{all_of, plain, power_refusal}
 use Rattle.wordbytes.specs.Words.{word_at}
 use Rattle.machine.specs.declared.Ran.{Ran}
-use Rattle.machine.specs.declared.Finished.{Finished}
-use Rattle.machine.specs.declared.Finished.TheVariants as Finished
+use Rattle.machine.specs.Entry.{Finished, power_why, finished_page, run_page}
 use Rattle.machine.specs.Numbers.{state_page, nowhere, first_page}
 use Rattle.machine.specs.Run.{rest_of_run, ran_of, run_of}
 use Rattle.machine.specs.Counted.{tally_joined}
 use Rattle.machine.proofs.Laws.Counted.{joined-left, joined-right}
 use Rattle.machine.proofs.Laws.Back.{one-run}
 use Rattle.refusal.specs.Page.{left}
-use Rattle.machine.specs.Entry.{power_why, finished_page, run_page}
 use Rattle.machine.proofs.Laws.Answered.{run-done}
 use Rattle.machine_c.specs.Layout.{state_bytes, place_number, place_told, state_from, settings_from, refused_state, refused_step}
 use Rattle.machine_c.proofs.Laws.Again.{state-again, state-taken}
@@ -63,7 +62,7 @@ unfolding all_of rest_of_run
 run_none settings map s m n r h e =
     let one = run-answer-of settings m map [] s r n (taken-run settings m map [] (record { board = h; few = omega arith; unused = refl })) e in
     let same = ran-is one.2 in
-    (one.1 ∙ ap Finished.Done same.0, same.1)
+    (one.1 ∙ ap Ok same.0, same.1)
 
 pub none_before : NoneBefore
 none_before s a = halves_of 0 (still s) a a (ap (λ z. record { state = a.state; tally = z }) (sym (joined-left a.tally)))

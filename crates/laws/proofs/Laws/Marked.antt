@@ -1,4 +1,5 @@
 -- The mark of a late IEN, over the definitions: what every op code, every trap, every step and every power-up leaves of it, and what a marked state hears.
+use Rattle.std.specs.Prelude.{Some, None}
 use Prim.Native.Nat.{ℕ, zero, suc, ◌/◌, ◌<◌}
 use native.Mathlib.Omega.{arith}
 use Rattle.opcodes.proofs.Laws.Past.{Below, below}
@@ -28,7 +29,8 @@ use Rattle.state.specs.Stack.{push, push_reg, pop, pop_reg, pop_status, fetch, f
 use Rattle.operand.specs.declared.Place.{Place}
 use Rattle.operand.specs.declared.Place.TheVariants.{Reg, Mem}
 use Rattle.operand.specs.Operand.{Decoded, moved, decode, write_to}
-use Rattle.operand.specs.Destination.{Holding, operand_of, destination}
+use Rattle.operand.specs.declared.Held.{Held}
+use Rattle.operand.specs.Destination.{operand_of, destination}
 use Rattle.format1.specs.Format1.{xct_error, bpt, push_three, pop_three, save, savs, rest, rtt, rrtn, rrtt, rsts, rsvc, format1}
 use Rattle.formats2to4.specs.Low.{formats2to4, low_codes}
 use Rattle.formats2to4.specs.Format2.{rtn, msko, prtn, codes2, lcc, format2}
@@ -45,7 +47,8 @@ use Rattle.shift.specs.Shifted.{preset}
 use Rattle.format10.specs.Format10.{stores, settle, move_byte, settle_byte, on_operands, on_words, on_bytes, binary_code, byte_code, format10}
 use Rattle.arith.specs.Binary.{binary_of, byte_binary_of}
 use Rattle.step.specs.Execute.{moves, execute, by_format}
-use Rattle.step.specs.Xct.{code, abort, forbidden, traps_alone, chosen, begin_xct, begun, trace, traced, carry, op_work}
+use Rattle.step.specs.Xct.{forbidden, traps_alone, chosen, begin_xct, begun, trace, traced, carry, op_work}
+use Rattle.step.specs.declared.Begun.TheVariants.{Code, Abort}
 use Rattle.laws.proofs.Laws.Always.{Always, AlwaysEach, run-give, always-value, always-then, always-after, always-less, always-cond, always-pick}
 use Rattle.laws.specs.Mark.{enables, executed, is_running, mark_after, from_interrupt, from_switch, runs_or_waits}
 use Rattle.state.specs.declared.Mode.{Mode}
@@ -61,7 +64,6 @@ use Rattle.state.specs.declared.Settings.{Settings}
 use Rattle.step.proofs.Laws.Ends.{step-well, option-no-code}
 use Rattle.step.proofs.Laws.Causes.{blank-error, blank-counted}
 use Rattle.step.proofs.Laws.Told.{tells}
-use Rattle.step.specs.declared.Reached.TheVariants.{Nowhere, At}
 
 abbrev Unmarked : State → Type 0
 Unmarked s = s.mark ≡ false
@@ -138,7 +140,7 @@ unfolding Always stored_at
 stored-unmarked z op row s p v e = always-cond Unmarked (eqb row 2) (give s) _ e (write-unmarked z s (destination_register op) p v e)
 
 -- an operand is decoded and read, and then
-with-operand : (z : Size) (s : State) (op : ℕ) (f : Holding → Work State) → Unmarked s → ((o : Holding) → Unmarked o.state → Always Unmarked (f o)) → Always Unmarked (destination z s op >>= f)
+with-operand : (z : Size) (s : State) (op : ℕ) (f : Held → Work State) → Unmarked s → ((o : Held) → Unmarked o.state → Always Unmarked (f o)) → Always Unmarked (destination z s op >>= f)
 with-operand z s op f e g = always-then (λ o. Unmarked o.state) Unmarked (destination z s op) f (operand-unmarked z s (destination_mode op) (destination_register op) e) g
 
 modify-unmarked : (z : Size) (s : State) (op row : ℕ) → Unmarked s → Always Unmarked (modify_at z s op row)
@@ -342,7 +344,7 @@ unfolding Always traced trace push_both push from_loc ◌>>=◌ with_reg
 traced-keeps out true s = λ _. (refl, refl, refl)
 traced-keeps out false s = (refl, refl, refl)
 
-carry-marks : (out : Outside) (s : State) (op : ℕ) (b : Bool) → Always (MarkOf op s) (carry out (code s op b))
+carry-marks : (out : Outside) (s : State) (op : ℕ) (b : Bool) → Always (MarkOf op s) (carry out (Code s op b))
 unfolding carry with_mark
 carry-marks out s op b =
     always-then (MarkOf op s) (MarkOf op s) (execute out (with_mark s false) op) (traced out b) (execute-marks out (with_mark s false) op refl)
@@ -356,7 +358,7 @@ chosen-marks : (out : Outside) (s : State) (op : ℕ) → Always (MarkOf op s) (
 unfolding carry
 chosen-marks out s op = by (forbidden op) refl
   where
-    by : (b : Bool) → forbidden op ≡ b → Always (MarkOf op s) (carry out (cond b (abort s) (code s op (not (traps_alone out (format_of (high_byte op)) op)))))
+    by : (b : Bool) → forbidden op ≡ b → Always (MarkOf op s) (carry out (cond b (Abort s) (Code s op (not (traps_alone out (format_of (high_byte op)) op)))))
     by true h = always-less Unmarked (MarkOf op s) (xct_error out s) (unmarked-is op s (forbidden-not op h)) (trap-unmarked s (ps_of out false s) 0x1e)
     by false h = carry-marks out s op (not (traps_alone out (format_of (high_byte op)) op))
 
@@ -365,7 +367,7 @@ chosen-value : (map : List ℕ) (out : Outside) (s : State) (m : List ℕ) (op :
 chosen-value map out s m op h = always-value (MarkOf op s) map (carry out (chosen out s op)) m (chosen-marks out s op) h
 
 begun-marks : (b : Bool) (map : List ℕ) (out : Outside) (s : State) (m : List ℕ) (w : ℕ) {t : State} {n : List ℕ}
-    → (let past = with_pc s (plus s.regs.pc 2) in run map (cond b (begin_xct out past) (give (code past w false)) >>= (λ next. carry out next)) m ≡ value t n)
+    → (let past = with_pc s (plus s.regs.pc 2) in run map (cond b (begin_xct out past) (give (Code past w false)) >>= (λ next. carry out next)) m ≡ value t n)
     → MarkOf (cond b (image_word m (image_word m s.regs.sp)) w) s t
 unfolding run begin_xct pop_reg pop fetch ◌>>=◌ with_reg set_reg with_flags
 begun-marks false map out s m w h = always-value (MarkOf w s) map _ m (carry-marks out (with_pc s (plus s.regs.pc 2)) w false) h
@@ -686,7 +688,7 @@ code-work map out s m runs c = came (run map (work_of (kind_of s out) out s) m) 
         code-kind (kind_of s out) (subst (λ (b : Bool). fits b (kind_of s out) ≡ true) (ap is_running runs) (fits-kind s.mode (hears s) out)) (ap (λ a. a.cause) well ∙ c) in
         (rw code at r) ∙ ap (λ a. value a.state a.image) well
     came (blank a) r =
-        let z : Nowhere ≡ At a = sym (ap cause_address c) ∙ tells map out s m r in
+        let z : None ≡ Some a = sym (ap cause_address c) ∙ tells map out s m r in
         let w : ◌≡◌ {A = ℕ} 0 1 = cc in
         absurd (omega arith)
 

@@ -1,5 +1,6 @@
 -- Plugging in a card, over the definitions: what work comes to on a map, it comes to on every map that fits more; so do a step that was
 -- sound, and a trail of such steps.
+use Rattle.std.specs.Prelude.{Option, Some, None}
 use Prim.Native.Nat.{ℕ, ◌+◌, ◌/◌}
 use native.Mathlib.Omega.{arith}
 use mathlib.Core.Bool.{Bool, true, false, cond}
@@ -15,12 +16,9 @@ use Rattle.state.specs.declared.Settings.{Settings}
 use Rattle.state.specs.declared.Mode.TheVariants.{Locked}
 use Rattle.state.specs.State.{heard, with_mode}
 use Rattle.step.specs.declared.Cause.{Cause}
-use Rattle.step.specs.declared.Reached.{Reached}
-use Rattle.step.specs.declared.Reached.TheVariants as Reached
 use Rattle.step.specs.Step.{After, after, step_of, blank_at, is_told, is_blank, kind_of, work_of, bus_error}
 use Rattle.step.proofs.Laws.Ends.{step-well}
 use Rattle.step.proofs.Laws.Causes.{locked-still, blank-counted}
-use Rattle.machine.specs.declared.First.TheVariants.{Never}
 use Rattle.machine.specs.Run.{end, run_of}
 use Rattle.machine.specs.Trail.{trail_of, last_after, blanks_in, first_blank_in, here, place_moved, tally_in}
 use Rattle.machine.proofs.Laws.Counted.{run-trail}
@@ -125,11 +123,11 @@ run_more settings map big g lines s m c e u =
     ∙ sym (run-trail settings map lines s m c)
 
 -- where no step is a blank, there is no first one
-pub none_first : (rs : List After) → blanks_in rs ≡ 0 → first_blank_in rs ≡ Never
+pub none_first : (rs : List After) → blanks_in rs ≡ 0 → first_blank_in rs ≡ None
 unfolding blanks_in first_blank_in
 none_first [] e = refl
 none_first (a ∷ rs) e = split (blank_at a.cause) (none_first rs) e
   where
-    split : (b : Reached) → (blanks_in rs ≡ 0 → first_blank_in rs ≡ Never) → cond (is_told b) 1 0 + blanks_in rs ≡ 0 → here b (first_blank_in rs) ≡ Never
-    split (Reached.At x) h e = absurd (omega arith)
-    split Reached.Nowhere h e = ap (place_moved 1) (h (omega arith))
+    split : (b : Option ℕ) → (blanks_in rs ≡ 0 → first_blank_in rs ≡ None) → cond (is_told b) 1 0 + blanks_in rs ≡ 0 → here b (first_blank_in rs) ≡ None
+    split (Some x) h e = absurd (omega arith)
+    split None h e = ap (place_moved 1) (h (omega arith))

@@ -28,7 +28,8 @@ use Rattle.step.specs.declared.Kind.TheVariants.{OpCode, HaltEnd, Boots, Saves, 
 use Rattle.step.specs.declared.Cause.{Cause}
 use Rattle.step.specs.declared.Cause.TheVariants as Cause
 use Rattle.step.specs.Execute.{execute, by_format}
-use Rattle.step.specs.Xct.{code, traps_alone, chosen, begin_xct, begun, trace, traced, carry, op_work}
+use Rattle.step.specs.Xct.{traps_alone, chosen, begin_xct, begun, trace, traced, carry, op_work}
+use Rattle.step.specs.declared.Begun.TheVariants.{Code}
 use Rattle.step.specs.Step.{kind_in, after, or_at, cause_number, is_blank, kind_of, work_of, past, bus_error, error_cause_of, error_of, step_of}
 use Rattle.step.specs.Block.{Unheard}
 use Rattle.step.proofs.Laws.Causes.{value-no-blank, blank-error, blank-counted, blank-image}
@@ -225,7 +226,7 @@ eight_is op h = elim (ℕ_discrete (op / 256) 14) [ yes e ↦ at (op / 256) 14 e
     at : (a b : ℕ) → a ≡ b → format_of b ≡ 8 → format_of a ≡ 8
     at a b e q = rw e q
 
-chosen-eight : (out : Outside) (s : State) (op : ℕ) → out.settings.blocks ≡ true → op / 512 ≡ 7 → chosen out s op ≡ code s op true
+chosen-eight : (out : Outside) (s : State) (op : ℕ) → out.settings.blocks ≡ true → op / 512 ≡ 7 → chosen out s op ≡ Code s op true
 unfolding traps_alone
 chosen-eight out s op e h = rw (ne_eqb (op / 4) 1 (λ z. omega arith), eight_is op h, e)
 
@@ -248,7 +249,7 @@ xct-run map out s m t n five h =
     (found-value (fitted map pc) pc _ t n two.1).1
 
 one-element : (settings : Settings) (map : List ℕ) (line op : ℕ) (s : State) (m : List ℕ) (t : State) (n : List ℕ) → settings.blocks ≡ true → op / 512 ≡ 7
-    → run map (carry (heard settings line) (code (fetched s m) op true)) m ≡ value t n → OneElement settings map line op s m t n
+    → run map (carry (heard settings line) (Code (fetched s m) op true)) m ≡ value t n → OneElement settings map line op s m t n
 unfolding carry traced
 one-element settings map line op s m t n fit eight h =
     let out = heard settings line in

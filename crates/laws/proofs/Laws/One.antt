@@ -1,4 +1,5 @@
 -- A run of one line word and a step: from the definitions to the pages, and from the pages to the bytes for C.
+use Rattle.std.proofs.Common.{Ok, Err}
 use Prim.Native.Nat.{ℕ, zero, suc}
 use native.Mathlib.Omega.{arith}
 use mathlib.Core.Bool.{Bool, true, false, ◌||◌, cond}
@@ -14,16 +15,15 @@ use Rattle.step.specs.declared.Cause.TheVariants as Cause
 use Rattle.step.specs.Step.{After, step_of, cause_number, blank_at, cause_address}
 use Rattle.refusal.specs.Numbers.{line_bit, no_state}
 use Rattle.refusal.specs.Page.{first, left, call, told, reading}
+use Rattle.refusal.specs.Answer.{number}
 use Rattle.refusal.proofs.Laws.Page.{apart, answered-one, refused-one}
 use Rattle.refusal.specs.Refusal.{all_of, plain, lines_refusal, step_refusal, run_refusal}
-use Rattle.machine.specs.declared.Stepped.{Stepped}
-use Rattle.machine.specs.declared.Stepped.TheVariants as Stepped
+use Rattle.machine.specs.Entry.{Stepped, step_why, power_why, run_why, turned, stepped_page, finished_page, step_page, run_page}
 use Rattle.wordbytes.specs.Words.{word_at}
 use Rattle.wordbytes.proofs.Laws.{word-again}
 use Rattle.machine.specs.Numbers.{state_page, nowhere, told_of, first_page}
 use Rattle.machine.specs.Run.{end, rest_of_run, blank_noted, no_blanks}
 use Rattle.machine.proofs.Laws.Back.{turn_one}
-use Rattle.machine.specs.Entry.{step_why, power_why, run_why, turned, stepped_page, finished_page, step_page, run_page}
 use Rattle.machine.specs.Entry as Entry
 use Rattle.machine_c.specs.Layout.{word_told, state_bytes, tally_bytes, state_from, settings_from, refused_step, refused_run}
 use Rattle.machine_c.specs.Calls.{step_in, step_call, run_laid, run_call}
@@ -42,14 +42,14 @@ one-refusal settings m map line = ap (first (power_why settings m map)) (split (
 -- a is the step, why its refusal
 page-one : (why : ℕ) (a : After) (m n : List ℕ) (q : Stepped) → left (stepped_page q) n ≡ call why (turned a) m
     → left (finished_page (as_run q)) n ≡ call why (Entry.run_end (end a.state a.image (blank_noted no_blanks 0 (blank_at a.cause)))) m
-page-one zero a m n (Stepped.Done t) e =
+page-one zero a m n (Ok t) e =
     let same : t ≡ record { state = a.state; cause = a.cause } = turn_one t (record { state = a.state; cause = a.cause }) (answered-one (ap (λ z. z.page) e)) in
     let image : n ≡ a.image = ap (λ z. z.lent) e in
     rw (same, image)
-page-one zero a m n (Stepped.Refused why) e = absurd (apart (sym (ap (λ z. z.page) e)))
-page-one (suc why) a m n (Stepped.Done t) e = absurd (apart (ap (λ z. z.page) e))
-page-one (suc why) a m n (Stepped.Refused k) e =
-    let same : k ≡ suc why = refused-one (ap (λ z. z.page) e) in
+page-one zero a m n (Err why) e = absurd (apart (sym (ap (λ z. z.page) e)))
+page-one (suc why) a m n (Ok t) e = absurd (apart (ap (λ z. z.page) e))
+page-one (suc why) a m n (Err k) e =
+    let same : number k ≡ suc why = refused-one (ap (λ z. z.page) e) in
     let image : n ≡ m = ap (λ z. z.lent) e in
     rw (same, image)
 

@@ -1,4 +1,5 @@
 -- The theorems that specs/Recorded.antt states.
+use Rattle.std.proofs.Common.{Ok, Err}
 use Prim.Native.Nat.{ℕ, zero, suc, ◌+◌, ◌*◌, ◌<◌, ◌≤◌}
 use native.Mathlib.Omega.{arith}
 use mathlib.Core.Bool.{Bool, true, false, cond}
@@ -10,23 +11,21 @@ use borrow.Author.Tests.{ltb-true}
 use Rattle.wordbytes.specs.Words.{word_at}
 use Rattle.state.specs.declared.State.{State}
 use Rattle.state.specs.declared.Settings.{Settings}
+use Rattle.refusal.specs.Answer.{number}
 use Rattle.refusal.specs.Page.{refused, answered, left, call, nothing, told, reading}
 use Rattle.refusal.specs.Page as Page
 use Rattle.refusal.proofs.Laws.Page.{apart, answered-one, call-right}
 use Rattle.machine.specs.declared.Tally.{Tally}
 use Rattle.machine.specs.Run.{End, end}
-use Rattle.plugs.specs.declared.Channel.{Channel}
 use Rattle.plugs.specs.declared.Plug.{Plug}
-use Rattle.plugs.specs.Plugs.{in_range, new_plug, new_plugs, note_all}
+use Rattle.plugs.specs.Plugs.{Channel, in_range, new_plug, new_plugs, note_all}
 use Rattle.refusal.specs.Refusal.{all_of}
 use Rattle.plugs.specs.Report.{readings_of, seen_of, report_of, column_of, reading_count}
 use Rattle.plugs.specs.Sum.{AllIn, nil, cons}
 use Rattle.plugs.proofs.Laws.Report.{note_scans, Sixteen, none, more, scans-length, scans-report, column-length, both-counted, report-spans}
 use Rattle.plugs.proofs.Laws.Sum.{report-sum}
 use Rattle.recorder.specs.declared.Recorder.{Recorder}
-use Rattle.recorder.specs.declared.Reported.{Reported}
-use Rattle.recorder.specs.declared.Reported.TheVariants as Reported
-use Rattle.recorder.specs.Scan.{tally_page, plug_page, scan_end, scan_why, scan_run, scan_done, scan_of, reported_page, report_page}
+use Rattle.recorder.specs.Scan.{Reported, tally_page, plug_page, scan_end, scan_why, scan_run, scan_done, scan_of, reported_page, report_page}
 use Rattle.recorder.proofs.Laws.Blind.{plug-one}
 use Rattle.recorder.proofs.Laws.Record.{at-range}
 use Rattle.recorder.proofs.Laws.Sound.{scan-sound}
@@ -142,7 +141,7 @@ held-recorded r ss (Spec.Recorded.done {r = q} {scans = qs} w s channels m map s
     let is = scan-done (in_state s q) channels m map settings lines r t m' e in
     held-is is.scans is.plugs (held_more channels (held-recorded q qs w) is.room is.range l)
 held-recorded r ss (Spec.Recorded.turned_away {r = q} w s channels m map settings lines why r' m' e) =
-    let same : r ≡ in_state s q = scan-refused (in_state s q) channels m map settings lines r why m' e in
+    let same : r ≡ in_state s q = scan-refused (in_state s q) channels m map settings lines r (number why) m' e in
     subst (λ (x : Recorder). Held x.scans x.plugs ss) (sym same) (held-recorded q ss w)
 
 pub scans-counted : ScansCounted
@@ -164,10 +163,10 @@ scans-reported r ss k q w l e =
     channel q (ap (λ z. z.page) page) (held_reads h k)
   where
     channel : (q : Reported) → reported_page q ≡ answered (plug_page (report_of (column_of k ss))) → ReadsColumn (report_of (column_of k ss)) (column_of k ss) → Reports q (column_of k ss)
-    channel (Reported.Channel p) e w =
+    channel (Ok p) e w =
         let same : p ≡ report_of (column_of k ss) = plug-one p (report_of (column_of k ss)) (answered-one e) in
         record { plug = p; answer = refl; is = same; reads = subst (λ (x : Plug). ReadsColumn x (column_of k ss)) (sym same) w }
-    channel (Reported.Refused why) e w = absurd (apart (sym e))
+    channel (Err why) e w = absurd (apart (sym e))
 
 -- ---- a call of `wd16_scan`
 

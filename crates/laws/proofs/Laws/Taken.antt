@@ -1,4 +1,5 @@
 -- What a run doesn't refuse, and that an answer which meets its contract is then the definition's.
+use Rattle.std.proofs.Common.{Ok, Err}
 use Prim.Native.Nat.{ℕ, ◌≤◌}
 use native.Mathlib.Omega.{arith}
 use mathlib.Core.Bool.{Bool, true, false, cond}
@@ -13,17 +14,16 @@ use Rattle.state.specs.State.{heard}
 use Rattle.step.specs.declared.Cause.TheVariants as Cause
 use Rattle.step.specs.Step.{step_of}
 use Rattle.refusal.specs.Numbers.{lines_length, line_bit}
+use Rattle.refusal.specs.Answer.{number}
 use Rattle.refusal.specs.Page.{refused, left}
 use Rattle.refusal.proofs.Laws.Page.{first-both, apart}
 use Rattle.refusal.specs.Refusal.{all_of, plain, lines_refusal, run_refusal, step_refusal}
 use Rattle.refusal.proofs.Laws.Refusal.{short, cond-none}
 use Rattle.machine.specs.declared.Ran.{Ran}
 use Rattle.machine.specs.declared.Tally.{Tally}
-use Rattle.machine.specs.declared.Finished.{Finished}
-use Rattle.machine.specs.declared.Finished.TheVariants as Finished
+use Rattle.machine.specs.Entry.{Finished, power_why, run_why, finished_page, run_end, run_page, step_why, turned, step_page}
 use Rattle.machine.specs.Run.{End, end, run_of, ran_of}
 use Rattle.machine.proofs.Laws.Counted.{run-trail}
-use Rattle.machine.specs.Entry.{power_why, run_why, finished_page, run_end, run_page, step_why, turned, step_page}
 use Rattle.machine.proofs.Laws.Answered.{run-done}
 use Rattle.laws.proofs.Laws.Sizes.{trail-size}
 use Rattle.machine.proofs.Laws.Alike.{image_at_end}
@@ -61,10 +61,10 @@ module _ (settings : Settings) (m map lines : List ℕ) (s : State) where
   refused-not : (why : ℕ) (n : List ℕ) (x : End) → left (refused why) n ≡ run_end x → ⊥
   refused-not why n (end t k y) e = apart (sym (ap (λ z. z.page) e))
 
-  pub run-answer-of : (r : Finished) (n : List ℕ) → run_why settings m map lines ≡ 0 → left (finished_page r) n ≡ run_page settings m map lines s → (a : Ran) × (r ≡ Finished.Done a) × (ran_of a n ≡ run_of settings map lines s m)
+  pub run-answer-of : (r : Finished) (n : List ℕ) → run_why settings m map lines ≡ 0 → left (finished_page r) n ≡ run_page settings m map lines s → (a : Ran) × (r ≡ Ok a) × (ran_of a n ≡ run_of settings map lines s m)
   unfolding run_page
-  run-answer-of (Finished.Done a) n h e = (a, refl, (run-done settings m map lines s a n e).1)
-  run-answer-of (Finished.Refused why) n h e = absurd (refused-not why n (run_of settings map lines s m) (rw h at e))
+  run-answer-of (Ok a) n h e = (a, refl, (run-done settings m map lines s a n e).1)
+  run-answer-of (Err why) n h e = absurd (refused-not (number why) n (run_of settings map lines s m) (rw h at e))
 
   -- and leaves an image of the same length
   pub run-size : (a : Ran) (n : List ℕ) → ran_of a n ≡ run_of settings map lines s m → length n ≡ length m

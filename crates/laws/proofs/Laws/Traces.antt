@@ -14,9 +14,8 @@ use Rattle.refusal.proofs.Laws.Page.{first-both, call-right}
 use Rattle.job.specs.Job.{why_job}
 use Rattle.trace.specs.declared.Verdict.{Verdict}
 use Rattle.trace.specs.declared.Verdict.TheVariants.{Accepted, Wrong, Missing, Extra}
-use Rattle.trace.specs.declared.Checked.{Checked}
-use Rattle.trace.specs.declared.Checked.TheVariants as Checked
-use Rattle.trace.specs.Trace.{steps_of, right_trace, trace_bytes, told_in, why_trace, compared, verdict_of, verdict_page, why_check, buffers_after, check_of}
+use Rattle.std.specs.Prelude.{Ok, Err}
+use Rattle.trace.specs.Trace.{Checked, steps_of, right_trace, trace_bytes, told_in, why_trace, compared, verdict_of, verdict_page, why_check, buffers_after, check_of}
 use Rattle.trace.specs.First.{AtStep, EndsAt, Says}
 use Rattle.trace.proofs.Laws.Bytes.{told-again, taken-again, bytes_back}
 use Rattle.trace.proofs.Laws.Right.{compared-self, checked-one}
@@ -94,12 +93,12 @@ wd16-accepts job t b number b' e taken l bytes = (only, when)
 
 -- its verdict; accepted where there is none
 abbrev verdict_or : Checked → Verdict
-verdict_or (Checked.Done v) = v
-verdict_or (Checked.Refused why) = Accepted
+verdict_or (Ok v) = v
+verdict_or (Err why) = Accepted
 
 pub check-tells : CheckTells
 unfolding check_of
 check-tells job t image map lines v image' map' lines' e =
     let h = (call-right (why_check job t (length image) (length map) (length lines)) (left (answered (verdict_page (verdict_of job t))) (buffers_after job)) (image, map, lines) e).1 in
-    let same : v ≡ verdict_of job t = ap verdict_or (checked-one (Checked.Done v) (Checked.Done (verdict_of job t)) (ap (λ z. z.page) h)) in
+    let same : v ≡ verdict_of job t = ap verdict_or (checked-one (Ok v) (Ok (verdict_of job t)) (ap (λ z. z.page) h)) in
     subst (λ (x : Verdict). Says 0 (right_trace job) (told_in t) x) (sym same) (verdict-says job t)

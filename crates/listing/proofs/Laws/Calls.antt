@@ -1,33 +1,35 @@
 -- One outcome of a call that lists a line: its page is one to one.
 use Prim.Native.Nat.{ℕ}
 use mathlib.Core.List.{List}
-use mathlib.Core.Path.{◌≡◌, refl, sym, ◌∙◌}
-use Rattle.refusal.specs.Page.{Page, refused, refused_at, answered, left}
-use Rattle.refusal.proofs.Laws.Page.{one, one-call}
+use mathlib.Core.Path.{◌≡◌, refl, ap, sym, ◌∙◌}
+use Rattle.std.proofs.Common.{Option, Some, None, Result}
+use Rattle.refusal.specs.declared.Refusal.{Refusal}
+use Rattle.refusal.specs.Page.{left}
+use Rattle.refusal.proofs.Laws.Page.{one-call}
+use Rattle.refusal.proofs.Laws.Answer.{page-one}
 use Rattle.listing.specs.declared.Listed.{Listed}
-use Rattle.listing.specs.declared.Listed.TheVariants.{Line, Last, Refused}
-use Rattle.listing.specs.Calls.{Next, goes_on, ends, Lined, listed_page, line_call}
+use Rattle.listing.specs.Calls.{Next, goes_on, ends, Lined, lined_of, listed_page, line_call}
 
 -- ---- no two outcomes
 
-abbrev from : ℕ → Next → Listed
-from n (goes_on a) = Line n a
-from n ends = Last n
+abbrev next_of : Next → Option ℕ
+next_of (goes_on a) = Some a
+next_of ends = None
 
-abbrev listed_of : Page Lined → Listed
-listed_of (answered t) = from t.count t.next
-listed_of (refused why) = Refused why
-listed_of (refused_at why at) = Refused why
+abbrev from : Lined → Listed
+from l = record { length = l.count; next = next_of l.next }
 
-listed_back : (r : Listed) → listed_of (listed_page r) ≡ r
-listed_back (Line n a) = refl
-listed_back (Last n) = refl
-listed_back (Refused why) = refl
+back : (l : Listed) → from (lined_of l) ≡ l
+back l = again l.length l.next
+  where
+    again : (n : ℕ) (x : Option ℕ) → from (lined_of (record { length = n; next = x })) ≡ record { length = n; next = x }
+    again n (Some a) = refl
+    again n None = refl
 
-listed-one : (r q : Listed) → listed_page r ≡ listed_page q → r ≡ q
-listed-one = one listed_of listed_back
+listed-one : (r q : Result Listed Refusal) → listed_page r ≡ listed_page q → r ≡ q
+listed-one = page-one (λ x y e. sym (back x) ∙ ap from e ∙ back y)
 
 -- ONE ANSWER, AND ONE TEXT
-pub one-listed : (image map : List ℕ) (a last : ℕ) (b e e' : List ℕ) (r r' : Listed) → left (listed_page r) e ≡ line_call image map a last b → left (listed_page r') e' ≡ line_call image map a last b
+pub one-listed : (image map : List ℕ) (a last : ℕ) (b e e' : List ℕ) (r r' : Result Listed Refusal) → left (listed_page r) e ≡ line_call image map a last b → left (listed_page r') e' ≡ line_call image map a last b
     → (r ≡ r') × (e ≡ e')
 one-listed image map a last b e e' r r' p q = one-call listed_page listed-one r r' e e' (p ∙ sym q)

@@ -1,28 +1,17 @@
-use native.Mathlib.Omega.{arith}
+use Rattle.std.proofs.Common.{refl}
 use Rattle.answer.proofs.Laws.{room}
-use Rattle.listing_c.proofs.Laws.{line-told, last-told, list-bad, goes_on, ended, stopped}
+use Rattle.refusal.proofs.Laws.Answer.{number-some}
+use Rattle.listing_c.proofs.Laws.{line-told, list-bad, goes_on, stopped}
 use Rattle.listing_c.proofs.wd16_list_line.Goals as goal
 
-pub returns-then-refused-ne0 : goal.returns-then-refused-ne0
-returns-then-refused-ne0 c = list-bad _ _ _ _ _ _ _ c.refusal-refused.ensures c.if-refused-ne0.true
+pub returns-in-Err : goal.returns-in-Err
+returns-in-Err c = rw c.from.ensures (list-bad _ _ _ _ _ _ _ c.in-Err.ensures (number-some c.in-Err.why))
 
-pub overflow_cast-size : goal.overflow_cast-size
-overflow_cast-size c = let short = line-told _ _ _ _ _ _ _ _ _ c.in-Line.is c.list_line.ensures in omega (arith, short)
+pub put_line-requires : goal.put_line-requires
+put_line-requires c = (room _ _ c.in_default.ensures refl, line-told _ _ _ _ _ _ _ _ c.in-Ok.is c.list_line.ensures)
 
-pub put-requires : goal.put-requires
-put-requires c = room _ _ c.refusal-refused.ensures c.if-refused-ne0.false
+pub returns-in-Ok : goal.returns-in-Ok
+returns-in-Ok c = goes_on _ _ _ _ _ _ _ c.in_default.ensures refl _ _ c.list_line.ensures _ _ c.in-Ok.is c.put_line.ensures
 
-pub overflow_cast-size-in-Last : goal.overflow_cast-size-in-Last
-overflow_cast-size-in-Last c = let short = last-told _ _ _ _ _ _ _ _ c.in-Last.is c.list_line.ensures in omega (arith, short)
-
-pub put-requires-in-Last : goal.put-requires-in-Last
-put-requires-in-Last c = room _ _ c.refusal-refused.ensures c.if-refused-ne0.false
-
-pub returns-in-Line : goal.returns-in-Line
-returns-in-Line c = goes_on _ _ _ _ _ _ _ c.refusal-refused.ensures c.if-refused-ne0.false _ _ c.list_line.ensures _ _ _ c.in-Line.is c.put.ensures
-
-pub returns-in-Last : goal.returns-in-Last
-returns-in-Last c = ended _ _ _ _ _ _ _ c.refusal-refused.ensures c.if-refused-ne0.false _ _ c.list_line.ensures _ _ c.in-Last.is c.put-in-Last.ensures
-
-pub returns-in-Refused : goal.returns-in-Refused
-returns-in-Refused c = stopped _ _ _ _ _ _ _ c.refusal-refused.ensures c.if-refused-ne0.false _ _ c.list_line.ensures _ c.in-Refused.is
+pub returns-in-Err-list_line : goal.returns-in-Err-list_line
+returns-in-Err-list_line c = stopped _ _ _ _ _ _ _ c.in_default.ensures refl _ _ c.list_line.ensures _ _ c.in-Err-list_line.is c.from-in-Err-list_line.ensures

@@ -1,4 +1,5 @@
 -- An answer that meets its contract and is no refusal is the definition's, in 01's numbers.
+use Rattle.std.proofs.Common.{Ok}
 use Prim.Native.Nat.{ℕ}
 use mathlib.Core.List.{List}
 use mathlib.Core.Path.{◌≡◌, ap, ◌∙◌}
@@ -10,7 +11,6 @@ use Rattle.step.specs.Step.{step_of, power_up_of}
 use Rattle.refusal.specs.Page.{answered, left}
 use Rattle.refusal.proofs.Laws.Page.{answered-one, call-right}
 use Rattle.machine.specs.declared.Ran.{Ran}
-use Rattle.machine.specs.declared.Finished.TheVariants as Finished
 use Rattle.machine.specs.Numbers.{StatePage, TurnPage, RanPage, ran_page}
 use Rattle.machine.specs.Run.{End, end, run_of, ran_of}
 use Rattle.machine.proofs.Laws.Counted.{run-trail}
@@ -36,7 +36,7 @@ module _ (settings : Settings) (m map lines : List ℕ) (s : State) {p : RanPage
       (h.0, h.1 ∙ ap run_end (run-trail settings map lines s m Cause.Nothing))
 
 -- the same in the program's own terms
-pub run-done : (settings : Settings) (m map lines : List ℕ) (s : State) (a : Ran) (m' : List ℕ) → left (finished_page (Finished.Done a)) m' ≡ run_page settings m map lines s
+pub run-done : (settings : Settings) (m map lines : List ℕ) (s : State) (a : Ran) (m' : List ℕ) → left (finished_page (Ok a)) m' ≡ run_page settings m map lines s
     → (run_why settings m map lines ≡ 0) × (ran_of a m' ≡ run_of settings map lines s m)
 unfolding run_page
 run-done settings m map lines s a m' e =

@@ -1,8 +1,9 @@
 -- ONE OUTCOME: a page keeps all of its answer, so two outcomes of a call that meet its contract are the same.
+use Rattle.std.specs.Prelude.{Option, Some, None}
 use Prim.Native.Nat.{ℕ, ◌+◌, ◌*◌}
 use mathlib.Core.Bool.{Bool, true, false}
 use mathlib.Core.List.{List, [], ◌∷◌}
-use mathlib.Core.Path.{◌≡◌, refl, ap}
+use mathlib.Core.Path.{◌≡◌, refl}
 use lib.Dec.{eqb}
 use lib.ListN.{get_or}
 use Rattle.wordmath.specs.declared.Flags.{Flags}
@@ -15,21 +16,14 @@ use Rattle.state.specs.State.{mode_number, cleared, with_reg, with_flags, with_i
 use Rattle.state.specs.Registers.{set_reg}
 use Rattle.step.specs.declared.Turn.{Turn}
 use Rattle.step.specs.declared.Cause.{Cause}
-use Rattle.step.specs.declared.Cause.TheVariants as Cause
 use Rattle.step.specs.Step.{cause_number, cause_address}
 use Rattle.machine.specs.declared.Ran.{Ran}
-use Rattle.machine.specs.declared.First.{First}
-use Rattle.machine.specs.declared.First.TheVariants.{At, Never}
-use Rattle.machine.specs.declared.Powered.{Powered}
-use Rattle.machine.specs.declared.Powered.TheVariants as Powered
-use Rattle.machine.specs.declared.Stepped.{Stepped}
-use Rattle.machine.specs.declared.Stepped.TheVariants as Stepped
-use Rattle.machine.specs.declared.Finished.{Finished}
-use Rattle.machine.specs.declared.Finished.TheVariants as Finished
-use Rattle.refusal.specs.Page.{Page, refused, refused_at, answered, left}
+use Rattle.machine.specs.declared.FirstBlank.{FirstBlank}
+use Rattle.machine.specs.Entry.{Powered, Stepped, Finished, powered_page, stepped_page, finished_page}
+use Rattle.refusal.specs.Page.{left}
+use Rattle.refusal.proofs.Laws.Answer.{page-one}
 use Rattle.refusal.proofs.Laws.Page.{one, one-call}
-use Rattle.machine.specs.Numbers.{indicators, StatePage, state_page, Address, address, nowhere, told_of, TurnPage, turn_page, FirstPage, place, none, first_page, RanPage, ran_page}
-use Rattle.machine.specs.Entry.{powered_page, stepped_page, finished_page}
+use Rattle.machine.specs.Numbers.{first_at, indicators, state_page, Address, address, nowhere, told_of, TurnPage, turn_page, FirstPage, place, none, first_page, RanPage, ran_page}
 use Rattle.machine.specs.Back.{mode_of, from_registers, state_of}
 
 -- ---- a state, from its page
@@ -101,13 +95,13 @@ turn_of p = record { state = state_of p.state; cause = cause_of p.cause p.told }
 turn-back : (t : Turn) → turn_of (turn_page t) ≡ t
 turn-back t = rw (state-back t.state, cause-back t.cause)
 
-abbrev pub first_back : FirstPage → First
-first_back (place p a) = At p a
-first_back none = Never
+abbrev pub first_back : FirstPage → Option FirstBlank
+first_back (place p a) = Some (first_at p a)
+first_back none = None
 
-pub first-back : (f : First) → first_back (first_page f) ≡ f
-first-back (At p a) = refl
-first-back Never = refl
+pub first-back : (f : Option FirstBlank) → first_back (first_page f) ≡ f
+first-back (Some b) = refl
+first-back None = refl
 
 abbrev ran_of : RanPage → Ran
 ran_of p = record { state = state_of p.state; tally = record { blanks = p.blanks; first = first_back p.first } }
@@ -121,43 +115,16 @@ turn_one = one turn_of turn-back
 pub ran-one : (r q : Ran) → ran_page r ≡ ran_page q → r ≡ q
 ran-one = one ran_of ran-back
 
-abbrev powered_of : Page StatePage → Powered
-powered_of (answered p) = Powered.Up (state_of p)
-powered_of (refused why) = Powered.Refused why
-powered_of (refused_at why at) = Powered.Refused why
-
-powered-back : (r : Powered) → powered_of (powered_page r) ≡ r
-powered-back (Powered.Up s) = ap Powered.Up (state-back s)
-powered-back (Powered.Refused why) = refl
-
-abbrev stepped_of : Page TurnPage → Stepped
-stepped_of (answered p) = Stepped.Done (turn_of p)
-stepped_of (refused why) = Stepped.Refused why
-stepped_of (refused_at why at) = Stepped.Refused why
-
-stepped-back : (r : Stepped) → stepped_of (stepped_page r) ≡ r
-stepped-back (Stepped.Done t) = ap Stepped.Done (turn-back t)
-stepped-back (Stepped.Refused why) = refl
-
-abbrev finished_of : Page RanPage → Finished
-finished_of (answered p) = Finished.Done (ran_of p)
-finished_of (refused why) = Finished.Refused why
-finished_of (refused_at why at) = Finished.Refused why
-
-finished-back : (r : Finished) → finished_of (finished_page r) ≡ r
-finished-back (Finished.Done q) = ap Finished.Done (ran-back q)
-finished-back (Finished.Refused why) = refl
-
 -- ---- one outcome
 
 pub powered-one : (r q : Powered) → powered_page r ≡ powered_page q → r ≡ q
-powered-one = one powered_of powered-back
+powered-one = page-one state-one
 
 pub stepped-one : (r q : Stepped) → stepped_page r ≡ stepped_page q → r ≡ q
-stepped-one = one stepped_of stepped-back
+stepped-one = page-one turn_one
 
 pub finished-one : (r q : Finished) → finished_page r ≡ finished_page q → r ≡ q
-finished-one = one finished_of finished-back
+finished-one = page-one ran-one
 
 pub one_power : (r q : Powered) (m n : List ℕ) → left (powered_page r) m ≡ left (powered_page q) n → (r ≡ q) × (m ≡ n)
 one_power = one-call powered_page powered-one

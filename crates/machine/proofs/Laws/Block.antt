@@ -12,7 +12,6 @@ use Rattle.format8.specs.Format8.{move_row}
 use Rattle.opcodes.specs.Fields.{block_source, block_destination}
 use Rattle.format8.specs.Page.{Plain, element_count, state_moved}
 use Rattle.step.specs.declared.Cause.{Cause}
-use Rattle.step.specs.declared.Cause.TheVariants as Cause
 use Rattle.step.specs.Step.{After, after, hears, step_of}
 use Rattle.step.specs.Block.{Ready}
 use Rattle.step.proofs.Laws.Block.{after_one, element_in, ElementsLeft, all_left, unheard-marked, ready_marked, step-once, step-last, ready_on, left-on, image-on, state-on, unmarked-on, hearing-on, image-last}

@@ -1,4 +1,5 @@
 -- A run's end is its trail's, its count of blanks the number of blanks on the trail, its first place the least of theirs, with the address told there.
+use Rattle.std.specs.Prelude.{Option, Some, None}
 use Prim.Native.Nat.{ℕ, zero, suc, ◌+◌, ◌<◌}
 use native.Mathlib.Omega.{arith}
 use mathlib.Core.Bool.{false, cond}
@@ -9,13 +10,11 @@ use Rattle.state.specs.declared.State.{State}
 use Rattle.state.specs.declared.Settings.{Settings}
 use Rattle.state.specs.State.{heard}
 use Rattle.step.specs.declared.Cause.{Cause}
-use Rattle.step.specs.declared.Reached.{Reached}
-use Rattle.step.specs.declared.Reached.TheVariants as Reached
 use Rattle.step.specs.Step.{After, after, step_of, blank_at, is_told, is_blank}
 use Rattle.machine.specs.declared.Tally.{Tally}
-use Rattle.machine.specs.declared.First.{First}
-use Rattle.machine.specs.declared.First.TheVariants.{At, Never}
+use Rattle.machine.specs.declared.FirstBlank.{FirstBlank}
 use Rattle.machine.specs.Numbers.{first_page}
+use Rattle.machine.specs.Numbers.{first_at}
 use Rattle.machine.specs.Run.{end, rest_of_run, run_of, blank_noted, no_blanks, first_kept, End}
 use Rattle.machine.specs.Trail.{trail_of, last_after, blanks_in, place_moved, here, first_blank_in, tally_in, cause_at, Least, least, nowhere}
 use Rattle.machine.specs.Counted.{or_first, tally_joined}
@@ -28,28 +27,28 @@ end_of b n t rs = end (last_after b rs).state (last_after b rs).image (tally_joi
 
 -- ---- tallies add up
 
-tally-is : {a b : ℕ} {f g : First} → a ≡ b → f ≡ g → ◌≡◌ {A = Tally} (record { blanks = a; first = f }) (record { blanks = b; first = g })
+tally-is : {a b : ℕ} {f g : Option FirstBlank} → a ≡ b → f ≡ g → ◌≡◌ {A = Tally} (record { blanks = a; first = f }) (record { blanks = b; first = g })
 tally-is e h = cc
 
-or-never : (f : First) → or_first f Never ≡ f
-or-never (At p a) = refl
-or-never Never = refl
+or-never : (f : Option FirstBlank) → or_first f None ≡ f
+or-never (Some b) = refl
+or-never None = refl
 
-or-or : (f g h : First) → or_first (or_first f g) h ≡ or_first f (or_first g h)
-or-or (At p a) g h = refl
-or-or Never g h = refl
+or-or : (f g h : Option FirstBlank) → or_first (or_first f g) h ≡ or_first f (or_first g h)
+or-or (Some b) g h = refl
+or-or None g h = refl
 
-moved-or : (n : ℕ) (f g : First) → place_moved n (or_first f g) ≡ or_first (place_moved n f) (place_moved n g)
-moved-or n (At p a) g = refl
-moved-or n Never g = refl
+moved-or : (n : ℕ) (f g : Option FirstBlank) → place_moved n (or_first f g) ≡ or_first (place_moved n f) (place_moved n g)
+moved-or n (Some b) g = refl
+moved-or n None g = refl
 
-moved-moved : (n k : ℕ) (f : First) → place_moved n (place_moved k f) ≡ place_moved (n + k) f
-moved-moved n k (At p a) = ap (λ z. At z a) (omega arith)
-moved-moved n k Never = refl
+moved-moved : (n k : ℕ) (f : Option FirstBlank) → place_moved n (place_moved k f) ≡ place_moved (n + k) f
+moved-moved n k (Some b) = ap (λ z. Some (first_at z b.address)) (omega arith)
+moved-moved n k None = refl
 
-moved_none : (f : First) → place_moved 0 f ≡ f
-moved_none (At p a) = ap (λ z. At z a) (omega arith)
-moved_none Never = refl
+moved_none : (f : Option FirstBlank) → place_moved 0 f ≡ f
+moved_none (Some b) = ap (λ z. Some (first_at z b.address)) (omega arith)
+moved_none None = refl
 
 pub joined-left : (t : Tally) → tally_joined 0 no_blanks t ≡ t
 unfolding tally_joined
@@ -72,20 +71,20 @@ tally-cons : (a : After) (rs : List After) → tally_in (a ∷ rs) ≡ tally_joi
 unfolding blanks_in first_blank_in tally_joined blank_noted
 tally-cons a rs = split (blank_at a.cause)
   where
-    split : (b : Reached) → ◌≡◌ {A = Tally} (record { blanks = cond (is_told b) 1 0 + blanks_in rs; first = here b (first_blank_in rs) })
+    split : (b : Option ℕ) → ◌≡◌ {A = Tally} (record { blanks = cond (is_told b) 1 0 + blanks_in rs; first = here b (first_blank_in rs) })
         (record { blanks = (blank_noted no_blanks 0 b).blanks + blanks_in rs; first = or_first (blank_noted no_blanks 0 b).first (place_moved 1 (first_blank_in rs)) })
-    split (Reached.At x) = refl
-    split Reached.Nowhere = refl
+    split (Some x) = refl
+    split None = refl
 
 -- the loop's tally
-noted-joined : (t : Tally) (n : ℕ) (b : Reached) → blank_noted t n b ≡ tally_joined n t (blank_noted no_blanks 0 b)
+noted-joined : (t : Tally) (n : ℕ) (b : Option ℕ) → blank_noted t n b ≡ tally_joined n t (blank_noted no_blanks 0 b)
 unfolding tally_joined blank_noted
-noted-joined t n (Reached.At a) = tally-is refl (first t.first)
+noted-joined t n (Some a) = tally-is refl (first t.first)
   where
-    first : (f : First) → first_kept f n a ≡ or_first f (At (n + 0) a)
-    first (At p x) = refl
-    first Never = ap (λ z. At z a) (omega arith)
-noted-joined t n Reached.Nowhere = tally-is (omega arith) (sym (or-never t.first))
+    first : (f : Option FirstBlank) → first_kept f n a ≡ or_first f (Some (first_at (n + 0) a))
+    first (Some b) = refl
+    first None = ap (λ z. Some (first_at z a)) (omega arith)
+noted-joined t n None = tally-is (omega arith) (sym (or-never t.first))
 
 -- ---- A RUN'S END AND TALLY ARE ITS TRAIL'S
 
@@ -114,24 +113,24 @@ unfolding first_blank_in
 first-least [] = nowhere (λ k h. absurd (omega arith))
 first-least (a ∷ rs) = split (blank_at a.cause) refl (first_blank_in rs) (first-least rs)
   where
-    later : (f : First) → is_blank a.cause ≡ false → Least rs (first_page f) → Least (a ∷ rs) (first_page (place_moved 1 f))
-    later (At p x) e (least l h g) = rw (one_more p) (least {p = suc p} (omega arith) h before)
+    later : (f : Option FirstBlank) → is_blank a.cause ≡ false → Least rs (first_page f) → Least (a ∷ rs) (first_page (place_moved 1 f))
+    later (Some f) e (least l h g) = rw (one_more f.place) (least {p = suc f.place} (omega arith) h before)
       where
         one_more : (p : ℕ) → 1 + p ≡ suc p
         one_more p = omega arith
 
-        before : (k : ℕ) → k < suc p → is_blank (cause_at (a ∷ rs) k) ≡ false
+        before : (k : ℕ) → k < suc f.place → is_blank (cause_at (a ∷ rs) k) ≡ false
         before zero i = e
         before (suc k) i = g k (omega arith)
-    later Never e (nowhere g) = nowhere every
+    later None e (nowhere g) = nowhere every
       where
         every : (k : ℕ) → k < length (a ∷ rs) → is_blank (cause_at (a ∷ rs) k) ≡ false
         every zero i = e
         every (suc k) i = g k (omega arith)
 
-    split : (b : Reached) → blank_at a.cause ≡ b → (f : First) → Least rs (first_page f) → Least (a ∷ rs) (first_page (here b f))
-    split (Reached.At x) e f h = least {p = 0} (omega arith) e (λ k i. absurd (omega arith))
-    split Reached.Nowhere e f h = later f (ap is_told e) h
+    split : (b : Option ℕ) → blank_at a.cause ≡ b → (f : Option FirstBlank) → Least rs (first_page f) → Least (a ∷ rs) (first_page (here b f))
+    split (Some x) e f h = least {p = 0} (omega arith) e (λ k i. absurd (omega arith))
+    split None e f h = later f (ap is_told e) h
 
 -- ---- the trail, place by place
 

@@ -12,7 +12,6 @@ use Rattle.state.specs.declared.Outside.{Outside}
 use Rattle.state.specs.State.{heard}
 use Rattle.machine.specs.declared.Tally.{Tally}
 use Rattle.step.specs.declared.Cause.{Cause}
-use Rattle.step.specs.declared.Cause.TheVariants as Cause
 use Rattle.step.specs.Step.{step_of, After, after, blank_at}
 use Rattle.step.specs.Inner.{calm}
 use Rattle.machine.specs.Run.{blank_noted, End, end, rest_of_run, run_of, last_cause}

@@ -1,5 +1,6 @@
 -- Laws of specs/Same.antt.
-use Prim.Native.Nat.{ℕ, zero, suc, ◌+◌, ◌-◌, ◌<◌, ◌≤◌}
+use Rattle.std.specs.Prelude.{Option, Some, None}
+use Prim.Native.Nat.{ℕ, zero, suc, ◌+◌, ◌≤◌}
 use native.Mathlib.Omega.{arith}
 use mathlib.Core.Bool.{Bool, true, false, cond}
 use mathlib.Core.List.{List, [], ◌∷◌}
@@ -12,13 +13,12 @@ use Rattle.step.specs.declared.Cause.TheVariants as Cause
 use Rattle.step.specs.Step.{After, step_of, blank_at, is_blank}
 use Rattle.machine.specs.declared.Ran.{Ran}
 use Rattle.machine.specs.declared.Tally.{Tally}
-use Rattle.machine.specs.declared.First.{First}
-use Rattle.machine.specs.declared.First.TheVariants.{At, Never}
+use Rattle.machine.specs.declared.FirstBlank.{FirstBlank}
 use Rattle.refusal.specs.Page.{refused, answered, left}
 use Rattle.refusal.proofs.Laws.Page.{call-refused, call-answered}
 use Rattle.machine.specs.Numbers.{first_page, ran_page}
-use Rattle.machine.specs.Run.{End, end, rest_of_run, run_of, ran_of, blank_noted, no_blanks}
-use Rattle.machine.specs.Trail.{trail_of, blanks_in, first_blank_in, tally_in, place_moved, Least, least, nowhere}
+use Rattle.machine.specs.Run.{End, end, rest_of_run, run_of, ran_of, blank_noted}
+use Rattle.machine.specs.Trail.{trail_of, blanks_in, first_blank_in, place_moved, Least, least}
 use Rattle.machine.specs.Counted.{or_first, tally_joined}
 use Rattle.machine.specs.Entry.{run_end, step_why}
 use Rattle.board.specs.Exec.{Lent}
@@ -39,9 +39,9 @@ blanks-few (a ∷ rs) = one (is_blank a.cause) (blanks-few rs)
 first-among : (rs : List After) → BlankAmong (length rs) (first_blank_in rs)
 first-among rs = from (first_blank_in rs) (first-least rs)
   where
-    from : (f : First) → Least rs (first_page f) → BlankAmong (length rs) f
-    from (At p a) (least l h g) = l
-    from Never h = tt
+    from : (f : Option FirstBlank) → Least rs (first_page f) → BlankAmong (length rs) f
+    from (Some b) (least l h g) = l
+    from None h = tt
 
 abbrev tally_of : End → Tally
 tally_of (end s m t) = t
@@ -51,18 +51,18 @@ run-tallied settings map lines s m n r e =
     let rs = trail_of settings map lines s m in
     rw (ap tally_of (e ∙ run-trail settings map lines s m Cause.Nothing), ← trail-length settings map lines s m) (record { few = blanks-few rs; among = first-among rs })
 
-pub among_below : (n k : ℕ) (f : First) → n ≤ k → BlankAmong n f → BlankAmong k f
-among_below n k (At p a) l h = omega arith
-among_below n k Never l h = tt
+pub among_below : (n k : ℕ) (f : Option FirstBlank) → n ≤ k → BlankAmong n f → BlankAmong k f
+among_below n k (Some b) l h = omega arith
+among_below n k None l h = tt
 
 joined-tallied : {n k : ℕ} {t u : Tally} → Tallied n t → Tallied k u → Tallied (n + k) (tally_joined n t u)
 unfolding tally_joined
 joined-tallied {n = n} {k = k} {t = t} {u = u} h g = record { few = omega (arith, h.few, g.few); among = first t.first u.first h.among g.among }
   where
-    first : (f g : First) → BlankAmong n f → BlankAmong k g → BlankAmong (n + k) (or_first f (place_moved n g))
-    first (At p a) g h i = omega arith
-    first Never (At p a) h i = omega arith
-    first Never Never h i = tt
+    first : (f g : Option FirstBlank) → BlankAmong n f → BlankAmong k g → BlankAmong (n + k) (or_first f (place_moved n g))
+    first (Some b) g h i = omega arith
+    first None (Some b) h i = omega arith
+    first None None h i = tt
 
 -- ---- a part, behind n steps
 

@@ -1,16 +1,20 @@
-use mathlib.Core.Path.{sym, ◌∙◌}
+use Rattle.std.proofs.lemmas.Result.{err_from_is_err_and}
+use mathlib.Core.Path.{sym}
 use native.Mathlib.Omega.{arith}
 use lib.ListN.{length}
+use Rattle.refusal.proofs.Laws.Answer.{number-some}
 use Rattle.refusal.proofs.Laws.Refusal.{step-sound}
 use Rattle.machine.proofs.Laws.Same.{same-refused, same-answered}
 use Rattle.machine.proofs.run_same.Goals as goal
 
-pub returns-then-why-ne0 : goal.returns-then-why-ne0
-returns-then-why-ne0 c = same-refused _ _ _ _ _ _ _ c.step_refusal-why.ensures c.if-why-ne0.true
+pub returns-in_err-step_refusal : goal.returns-in_err-step_refusal
+returns-in_err-step_refusal c =
+    let p = err_from_is_err_and c.from_residual.result c.from_residual.ensures.1 in
+    rw (p.1, p.2) (same-refused _ _ _ _ _ _ _ c.in_err-step_refusal.ensures (number-some c.in_err-step_refusal.field-0.0))
 
 pub run_same_on-after-requires : goal.run_same_on-after-requires
-run_same_on-after-requires c = let k = step-sound (length c.args.image.now) c.args.map.now _ _ _ c.args.line (sym c.step_refusal-why.ensures ∙ c.if-why-ne0.false) in
+run_same_on-after-requires c = let k = step-sound (length c.args.image.now) c.args.map.now _ _ _ c.args.line (sym c.in_ok-step_refusal.ensures) in
     record { pages = k.pages; size = k.bytes; bytes = λ i. omega (arith, c.slice_known-1.given i) }
 
 pub returns : goal.returns
-returns c = same-answered _ _ _ _ _ _ _ _ (sym c.step_refusal-why.ensures ∙ c.if-why-ne0.false) c.run_same_on-after.ensures.same
+returns c = same-answered _ _ _ _ _ _ _ _ (sym c.in_ok-step_refusal.ensures) c.run_same_on-after.ensures.same

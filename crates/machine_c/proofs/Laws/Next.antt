@@ -7,7 +7,6 @@ use native.Mathlib.Omega.{arith}
 use lib.ListN.{take, replicate}
 use Rattle.state.specs.State.{heard}
 use Rattle.step.specs.declared.Cause.{Cause}
-use Rattle.step.specs.declared.Cause.TheVariants as Cause
 use Rattle.step.proofs.Laws.Causes.{cause-le}
 use Rattle.step.specs.Step.{cause_number, cause_address, step_of, power_up_of}
 use Rattle.machine.specs.Run.{End, end, run_of, last_cause}

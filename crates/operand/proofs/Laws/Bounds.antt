@@ -9,7 +9,8 @@ use Rattle.board.proofs.Laws.Bounded.{Bounded, gives, bounded-then, bounded-writ
 use Rattle.state.specs.declared.State.{State}
 use Rattle.operand.specs.declared.Place.{Place}
 use Rattle.operand.specs.declared.Place.TheVariants.{Reg, Mem}
-use Rattle.operand.specs.Destination.{Holding, operand_of}
+use Rattle.operand.specs.declared.Held.{Held}
+use Rattle.operand.specs.Destination.{operand_of}
 use Rattle.operand.specs.Operand.{locate, increment_deferred, decrement_deferred, indexed, indexed_deferred, deferred, Decoded, decode, read_of, write_to}
 
 located : (step k r pc mode : ℕ) → Bounded 0 (locate step k r pc mode)
@@ -30,7 +31,7 @@ module _ {A : Type 0} {n : ℕ} (z : Size) (s : State) (mode k : ℕ) where
   pub bounded-decode : {f : Decoded → Work A} → ((to : Decoded) → Bounded n (f to)) → Bounded n (decode z s mode k >>= f)
   bounded-decode h = bounded-then {k = n} (omega arith) (decoded z s mode k) h
 
-  pub bounded-operand : {f : Holding → Work A} → ((o : Holding) → Bounded n (f o)) → Bounded n (operand_of z s mode k >>= f)
+  pub bounded-operand : {f : Held → Work A} → ((o : Held) → Bounded n (f o)) → Bounded n (operand_of z s mode k >>= f)
   unfolding operand_of
   bounded-operand h =
       bounded-then {n = 0} {k = n} (omega arith)

@@ -2,43 +2,36 @@
 use Prim.Native.Nat.{ℕ}
 use mathlib.Core.List.{List}
 use mathlib.Core.Path.{◌≡◌, refl}
+use Rattle.std.specs.Prelude.{Result, Ok, Err}
 use Rattle.board.specs.Work.{Size}
-use Rattle.board.specs.Exec.{Store, beside, Now, good, gone, Got, Saw}
-use Rattle.board.proofs.Laws.{got-then, got-gone, got-give}
+use Rattle.board.specs.Exec.{Saw}
+use Rattle.board.specs.declared.Blank.{Blank}
+use Rattle.board.proofs.Laws.{saw-then, saw-fail, saw-give}
 use Rattle.state.specs.declared.State.{State}
-use Rattle.operand.specs.declared.Place.{Place}
-use Rattle.operand.specs.declared.Found.{Found}
 use Rattle.state.specs.State.{reg}
-use Rattle.operand.specs.Operand.{increment_of, locate, moved, read_of, address_of, found_as}
-use Rattle.operand.proofs.Laws.Operand.{located, decoded, undecoded, unread-operand}
+use Rattle.operand.specs.declared.Place.{Place}
+use Rattle.operand.specs.Operand.{increment_of, locate, moved, read_of}
+use Rattle.operand.proofs.Laws.Operand.{decoded, undecoded}
 use Rattle.operand.specs.Destination.{holding, operand_of}
-pub use Rattle.operand.specs.Destination.{held_as, unheld, unlocated}
 
 -- ---- how code comes to it, of words and of bytes alike
 
-module _ {map m l : List ℕ} (z : Size) (s : State) (mode k : ℕ) {step r : ℕ} {f : Found} where
+module _ {map m : List ℕ} (z : Size) (s : State) (mode k : ℕ) {step r : ℕ} {q : Result Place Blank} where
   -- no place was found
-  pub never-found : {a : ℕ} → step ≡ increment_of z k → r ≡ reg s k → Saw map (locate step k r s.regs.pc mode) m (found_as f) → f ≡ Found.Blank a
-      → Got map (operand_of z s mode k) (beside m l) (gone a (beside m l))
+  pub never-found : {b : Blank} → step ≡ increment_of z k → r ≡ reg s k → Saw map (locate step k r s.regs.pc mode) m q → q ≡ Err b
+      → Saw map (operand_of z s mode k) m (Err b)
   unfolding operand_of
-  never-found d e g h = got-gone _ (undecoded z s mode k (located z s mode k f d e g) h) refl refl
+  never-found d e g h = saw-fail _ (undecoded z s mode k d e g h) refl refl
 
-  -- a place was found, and reading there, where t is the state and x what the register then holds, gave nothing
-  pub never-read : {t : State} {p : Place} {x b : ℕ} {read : Store → Now ℕ}
-      → step ≡ increment_of z k → r ≡ reg s k → Saw map (locate step k r s.regs.pc mode) m (found_as f) → f ≡ Found.At p → t ≡ moved s p
-      → x ≡ reg t k → Saw map (read_of z x p) m read → read (beside m l) ≡ gone b (beside m l)
-      → Got map (operand_of z s mode k) (beside m l) (gone (address_of p) (beside m l))
-  unfolding operand_of
-  never-read {p = p} {x = x} d e g h i j u v =
-      got-then _ (decoded z s mode k (located z s mode k f d e g) h i) refl
-      (got-gone _ (rw j at u).got (unread-operand z _ p (rw j at u).got v) refl)
+  module _ {t : State} {p : Place} {x : ℕ} {u : Result ℕ Blank} where
+    -- a place was found, and reading there, where t is the state and x what the register then holds, gave nothing
+    pub never-read : {b : Blank} → step ≡ increment_of z k → r ≡ reg s k → Saw map (locate step k r s.regs.pc mode) m q → q ≡ Ok p → t ≡ moved s p
+        → x ≡ reg t k → Saw map (read_of z x p) m u → u ≡ Err b → Saw map (operand_of z s mode k) m (Err b)
+    unfolding operand_of
+    never-read d e g h i j w v = saw-then _ (decoded z s mode k d e g h i) refl (saw-fail _ (rw j at w) v refl)
 
-  -- a place was found, and the value there
-  pub held : {t : State} {p : Place} {x v : ℕ} {read : Store → Now ℕ}
-      → step ≡ increment_of z k → r ≡ reg s k → Saw map (locate step k r s.regs.pc mode) m (found_as f) → f ≡ Found.At p → t ≡ moved s p
-      → x ≡ reg t k → Saw map (read_of z x p) m read → read (beside m l) ≡ good v (beside m l)
-      → Got map (operand_of z s mode k) (beside m l) (good (holding t p v) (beside m l))
-  unfolding operand_of
-  held d e g h i j u v =
-      got-then _ (decoded z s mode k (located z s mode k f d e g) h i) refl
-      (got-then _ (rw j at u).got v (got-give refl))
+    -- a place was found, and the value there
+    pub held : {v : ℕ} → step ≡ increment_of z k → r ≡ reg s k → Saw map (locate step k r s.regs.pc mode) m q → q ≡ Ok p → t ≡ moved s p
+        → x ≡ reg t k → Saw map (read_of z x p) m u → u ≡ Ok v → Saw map (operand_of z s mode k) m (Ok (holding t p v))
+    unfolding operand_of
+    held d e g h i j w v = saw-then _ (decoded z s mode k d e g h i) refl (saw-then _ (rw j at w) v saw-give)

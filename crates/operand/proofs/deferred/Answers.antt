@@ -1,12 +1,11 @@
-use mathlib.Core.Path.{refl}
-use Rattle.board.proofs.Laws.{got-then, got-gone, got-give, unread-at, word_as, means}
+use Rattle.board.proofs.Laws.{saw-then, saw-fail, saw-give}
 use Rattle.operand.specs.Operand.{deferred}
 use Rattle.operand.proofs.deferred.Goals as goal
 
-pub returns-in_default : goal.returns-in_default
+pub returns-in_err-a : goal.returns-in_err-a
 unfolding deferred
-returns-in_default c = record { got = got-gone _ c.load.ensures.got (unread-at c.load.ensures.got (means word_as c.in_default.is)) refl }
+returns-in_err-a c = saw-fail _ c.load.ensures c.in_err-a.was c.from_residual.ensures.1
 
 pub returns : goal.returns
 unfolding deferred
-returns c = record { got = got-then _ c.load.ensures.got (means word_as c.in-Value.is) (got-give refl) }
+returns c = saw-then _ c.load.ensures c.in_ok-a.was saw-give

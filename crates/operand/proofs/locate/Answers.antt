@@ -1,7 +1,6 @@
-use mathlib.Core.Path.{refl}
 use native.Mathlib.Omega.{arith}
 use borrow.Author.Tests.{lt-ltb, le-ltb}
-use Rattle.board.proofs.Laws.{got-then, got-gone, got-give, unread-at, word_as, means}
+use Rattle.board.proofs.Laws.{saw-then, saw-fail, saw-give}
 use Rattle.operand.specs.Operand.{locate}
 use Rattle.operand.proofs.Laws.Modes.{indexed_by}
 use Rattle.operand.proofs.Laws.Modes.{locate-pointed, locate-offset}
@@ -9,23 +8,22 @@ use Rattle.operand.proofs.locate.Goals as goal
 
 pub returns-then-mode-eq0 : goal.returns-then-mode-eq0
 unfolding locate indexed_by
-returns-then-mode-eq0 c = rw c.if-mode-eq0.true (record { got = got-give refl })
+returns-then-mode-eq0 c = rw c.if-mode-eq0.true saw-give
 
 pub returns-then-mode-lt6 : goal.returns-then-mode-lt6
 unfolding locate indexed_by
 returns-then-mode-lt6 c = rw (locate-pointed _ _ _ _ c.args.mode (omega (arith, c.if-mode-eq0.false)) c.if-mode-lt6.true) c.pointed.ensures
 
-pub returns-in_default : goal.returns-in_default
+pub returns-in_err-x : goal.returns-in_err-x
 unfolding locate indexed_by
-returns-in_default c = rw (locate-offset _ _ _ _ c.args.mode c.if-mode-lt6.false)
-    (record { got = got-gone _ c.load.ensures.got (unread-at c.load.ensures.got (means word_as c.in_default.is)) refl })
+returns-in_err-x c = rw (locate-offset _ _ _ _ c.args.mode c.if-mode-lt6.false) (saw-fail _ c.load.ensures c.in_err-x.was c.from_residual.ensures.1)
 
 pub returns-then-mode-gt6 : goal.returns-then-mode-gt6
 unfolding locate indexed_by
 returns-then-mode-gt6 c = rw (locate-offset _ _ _ _ c.args.mode c.if-mode-lt6.false, lt-ltb _ _ c.if-mode-gt6.true)
-    (record { got = got-then _ c.load.ensures.got (means word_as c.in-Value.is) (rw (c.plus-next.ensures, c.plus-at.ensures, c.base.ensures) at c.deferred.ensures).got })
+    (saw-then _ c.load.ensures c.in_ok-x.was (rw (c.plus-next.ensures, c.plus-at.ensures, c.base.ensures) at c.deferred.ensures))
 
 pub returns : goal.returns
 unfolding locate indexed_by
 returns c = rw (locate-offset _ _ _ _ c.args.mode c.if-mode-lt6.false, le-ltb _ _ c.if-mode-gt6.false)
-    (record { got = got-then _ c.load.ensures.got (means word_as c.in-Value.is) (got-give (rw (c.plus-next.ensures, c.plus-at.ensures, c.base.ensures))) })
+    (saw-then _ c.load.ensures c.in_ok-x.was (rw (c.plus-next.ensures, c.plus-at.ensures, c.base.ensures) saw-give))

@@ -1,5 +1,5 @@
-use mathlib.Core.Path.{refl, sym, ◌∙◌}
-use Rattle.board.proofs.Laws.{got-give}
+use mathlib.Core.Path.{sym, ◌∙◌}
+use Rattle.board.proofs.Laws.{saw-give}
 use Rattle.operand.proofs.Laws.Modes.{pointed-is}
 use Rattle.operand.proofs.pointed.Goals as goal
 
@@ -8,5 +8,4 @@ returns-then-defers c = rw (pointed-is _ _ _ _ c.stride-by.ensures c.pointer-at.
     c.deferred.ensures
 
 pub returns : goal.returns
-returns c = rw (pointed-is _ _ _ _ c.stride-by.ensures c.pointer-at.ensures c.beyond-next.ensures (sym c.defers.ensures ∙ c.if-defers.false))
-    (record { got = got-give refl })
+returns c = rw (pointed-is _ _ _ _ c.stride-by.ensures c.pointer-at.ensures c.beyond-next.ensures (sym c.defers.ensures ∙ c.if-defers.false)) saw-give

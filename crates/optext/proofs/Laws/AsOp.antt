@@ -1,5 +1,5 @@
 -- Words by value: what is stored in three zeros, read back one by one.
-use Rattle.std.proofs.Common.{◌≡◌, ℕ, ◌<◌, ◌≤◌, Bool, true, false, cond, ◌&&◌, eqb, List, [], ◌∷◌, length, get_or, sym, refl, ap, ◌∙◌, subst, append-nil, arith, length-append, eq-eqb, eqb-true}
+use Rattle.std.proofs.Common.{◌≡◌, ℕ, ◌<◌, ◌≤◌, Bool, true, false, cond, ◌&&◌, eqb, List, [], ◌∷◌, Some, None, length, get_or, sym, refl, ap, ◌∙◌, subst, append-nil, arith, length-append, eq-eqb, eqb-true}
 use Rattle.hexdigits.specs.Over.{in_front_of, Wrote}
 use Rattle.optext.specs.declared.reading.Guess.{Guess}
 use Rattle.optext.specs.First.{agree}
@@ -8,7 +8,7 @@ use Rattle.optext.specs.Line.{row_of, takes, op_text}
 use Rattle.optext.specs.Guess.{guess_of}
 use Rattle.optext.specs.Words.{own, words_of}
 use Rattle.optext.specs.Column.{IsText}
-use Rattle.optext.specs.Read.{same_text, words_of_text, op_of}
+use Rattle.optext.specs.Read.{same_text, words_of_text, op_of, op_or_none}
 use Rattle.optext.proofs.Laws.Read.{same_refl, same-eq, same-is}
 use Rattle.optext.proofs.Laws.Choose.{no}
 use Rattle.optext.proofs.Laws.Near.{agree-self}
@@ -65,15 +65,16 @@ words-le w x y =
 
 module _ (t : List ℕ) (g : Guess) (p : g ≡ guess_of t) (b : Bool) (q : b ≡ same_text (op_text g.w g.x g.y) t) where
   pub op-taken : (e : List ℕ) (n : ℕ) → b ≡ true → Wrote (words_of g.w g.x g.y) zeros e n
-      → record { count = n; a = get_or e 0 0; b = get_or e 1 0; c = get_or e 2 0 } ≡ op_of (words_of_text t)
+      → Some (record { count = n; a = get_or e 0 0; b = get_or e 1 0; c = get_or e 2 0 }) ≡ op_or_none (words_of_text t)
+  unfolding words_of
   op-taken e n h v =
       let s : op_text g.w g.x g.y ≡ t = same-eq _ t (sym q ∙ h) in
       let lw : g.w < 65536 = rw p (lt-w t) in
       let r : words_of_text t ≡ words_of g.w g.x g.y =
       ap words_of_text (sym (text-words g.w g.x g.y lw ∙ s)) ∙ read-of-text (words_of g.w g.x g.y) (whole_words g.w g.x g.y lw (rw p (lt-x t)) (rw p (lt-y t))) in
-      rw (r, v.bytes, v.count) (sym (op-over (words_of g.w g.x g.y)))
+      rw (r, v.bytes, v.count) (sym (ap Some (op-over (words_of g.w g.x g.y))))
 
-  pub op-refused : b ≡ false → record { count = 0; a = 0; b = 0; c = 0 } ≡ op_of (words_of_text t)
+  pub op-refused : b ≡ false → None ≡ op_or_none (words_of_text t)
   unfolding guess_line
   op-refused h = rw (read-refuses t none) refl
     where

@@ -4,11 +4,11 @@ use Rattle.optext.specs.declared.rows.OperandKind.{OperandKind}
 use Rattle.optext.specs.declared.rows.OperandKind.TheVariants.{None, Mask, Disp, Reg, Arg4, Arg6, Count, High, Mid, Dst, Addr, Src, Word}
 use Rattle.hexdigits.specs.Digits.{digits, hex_of, hex4, hex2}
 use Rattle.optext.specs.Digits.{un_hex, un_hex4, un_hex2}
-use Rattle.optext.specs.Rows.{row_count, row_width, rows, table_bytes, the_row, base_of}
+use Rattle.optext.specs.Rows.{row_count, row_width, rows, the_row, base_of}
 use Rattle.optext.specs.Line.{registers, reg_a, reg_b, reg_text, up_text, literal_text, down_text, offset_text, plain_text, mode_text, mode_takes, is_reserved, operand_text, takes, field_of}
 use Rattle.optext.specs.Guess.{un_count, un_reg, not_pc, operand_read, at_bit6, un_plain, un_mode, addressed, un_word, un_op}
 use Rattle.optext.proofs.Laws.Choose.{eq-cases, at}
-use Rattle.optext.proofs.Laws.Table.{row-count, flat-drop, base-lt}
+use Rattle.optext.proofs.Laws.Table.{row-count, table_bytes, flat-drop, base-lt}
 use Rattle.optext.proofs.Laws.Forms.{plain-elim, mode-plain, mode-at}
 use Rattle.optext.proofs.Laws.Reserved.{reserved-elim}
 use Rattle.optext.proofs.Laws.Inside.{Allowed}

@@ -1,20 +1,19 @@
 -- The round trip over two calls: what a call of the writer left, given to a call of the reader, and the other way round.
-use Rattle.std.proofs.Common.{◌≡◌, ℕ, zero, suc, ◌+◌, ◌<◌, ◌≤◌, Bool, true, false, cond, ltb, List, length, get_or, take, drop, sym, refl, ap, ◌∙◌, subst, arith, length-take, length-take-le, get_or-take, ltb-false, le-ltb}
+use Rattle.std.proofs.Common.{◌≡◌, ℕ, zero, suc, ◌+◌, ◌<◌, ◌≤◌, Bool, true, false, cond, ltb, List, Result, Ok, length, get_or, take, drop, sym, refl, ap, ◌∙◌, subst, arith, length-take, length-take-le, get_or-take, ltb-false, le-ltb}
 use native.Mathlib.Decide.{dec_lt}
 use lib.ListN.{get_or-eq_default}
 use lib.Seq.{take-append_seam}
 use Rattle.hexdigits.specs.Over.{in_front_of}
 use Rattle.optext.specs.declared.rows.OperandKind.{OperandKind}
 use Rattle.optext.specs.declared.Written.{Written}
-use Rattle.optext.specs.declared.Written.TheVariants.{Line}
-use Rattle.optext.specs.declared.ReadBack.{ReadBack}
-use Rattle.optext.specs.declared.ReadBack.TheVariants.{Words}
+use Rattle.optext.specs.declared.WriteRefusal.{WriteRefusal}
+use Rattle.optext.specs.declared.ReadRefusal.{ReadRefusal}
 use Rattle.optext.specs.Rows.{first_of, second_of}
 use Rattle.optext.specs.Line.{row_of, takes, operand_text, sep_text, op_text, taken, text_of}
 use Rattle.refusal.specs.Numbers.{text_short}
 use Rattle.refusal.specs.Page.{Page, answered, left}
 use Rattle.refusal.proofs.Laws.Page.{answered-one, first-both, call-right, one-call}
-use Rattle.optext.specs.Answer.{line_page, written_page, room_why, write_why, in_front, write_of, Writes, read_page}
+use Rattle.optext.specs.Answer.{line, line_page, written_page, room_why, write_why, in_front, write_of, Writes, read_page}
 use Rattle.optext.specs.Column.{Whole}
 use Rattle.optext.specs.Words.{Reads}
 use Rattle.optext.proofs.Laws.Once.{reads-one}
@@ -91,9 +90,9 @@ line-written ws b h k =
     let z : ltb (length ws) (taken (get_or ws 0 0)) ≡ false = le-ltb (length ws) (taken (get_or ws 0 0)) k in
     rw (x, y, z) refl
 
-writes_line : (ws b e : List ℕ) (r : Written) → 32 ≤ length b → taken (get_or ws 0 0) ≤ length ws → Writes ws b r e
-    → (r ≡ Line (length (text_of ws)) (taken (get_or ws 0 0))) × (e ≡ in_front_of (text_of ws) b)
-writes_line ws b e r h k p = one-call written_page written_one r (Line (length (text_of ws)) (taken (get_or ws 0 0))) e (in_front_of (text_of ws) b) (p.met ∙ line-written ws b h k)
+writes_line : (ws b e : List ℕ) (r : Result Written WriteRefusal) → 32 ≤ length b → taken (get_or ws 0 0) ≤ length ws → Writes ws b r e
+    → (r ≡ line (length (text_of ws)) (taken (get_or ws 0 0))) × (e ≡ in_front_of (text_of ws) b)
+writes_line ws b e r h k p = one-call written_page written_one r (line (length (text_of ws)) (taken (get_or ws 0 0))) e (in_front_of (text_of ws) b) (p.met ∙ line-written ws b h k)
 
 -- other words with the same ones in front
 pub same-front : (ws vs : List ℕ) (m : ℕ) → m ≡ taken (get_or ws 0 0) → m ≤ length ws → take m vs ≡ take m ws
@@ -144,27 +143,27 @@ again ws b n m b' vs vs' a u p h q =
     let z = reads-one (text_of (take m ws)) vs vs' (in_front_of (take m ws) vs) a (answered (length (take m ws))) (subst (λ (t : List ℕ). Reads a t vs vs') (line-left ws b n m b' l) q) (reads-text (take m ws) vs w h) in
     (z.0 ∙ ap answered (length-take-le m ws l.room), z.1)
 
-pub text-again : (ws b : List ℕ) (n m : ℕ) (b' vs vs' : List ℕ) (r : ReadBack) → ((i : ℕ) → get_or ws i 0 < 65536)
-    → Writes ws b (Line n m) b' → 3 ≤ length vs → Reads (read_page r) (take n b') vs vs'
-    → (r ≡ Words m) × (vs' ≡ in_front_of (take m ws) vs)
+pub text-again : (ws b : List ℕ) (n m : ℕ) (b' vs vs' : List ℕ) (r : Result ℕ ReadRefusal) → ((i : ℕ) → get_or ws i 0 < 65536)
+    → Writes ws b (line n m) b' → 3 ≤ length vs → Reads (read_page r) (take n b') vs vs'
+    → (r ≡ Ok m) × (vs' ≡ in_front_of (take m ws) vs)
 text-again ws b n m b' vs vs' r u p h q =
     let z = again ws b n m b' vs vs' (read_page r) u p.met h q in
-    (read_one r (Words m) z.0, z.1)
+    (read_one r (Ok m) z.0, z.1)
 
 -- WHAT THE READER GAVE, THE WRITER MAKES THE TEXT OF that was read
-pub text-made : (t vs vs' : List ℕ) (n : ℕ) (b b' : List ℕ) (r : Written)
-    → Reads (read_page (Words n)) t vs vs' → 32 ≤ length b → Writes (take n vs') b r b' → (r ≡ Line (length t) n) × (b' ≡ in_front_of t b)
+pub text-made : (t vs vs' : List ℕ) (n : ℕ) (b b' : List ℕ) (r : Result Written WriteRefusal)
+    → Reads (read_page (Ok n)) t vs vs' → 32 ≤ length b → Writes (take n vs') b r b' → (r ≡ line (length t) n) × (b' ≡ in_front_of t b)
 text-made t vs vs' n b b' r q h p =
     let m = q.count ∙ q.whole.count in
     let l = writes_line (take n vs') b b' r h (omega (arith, q.whole.count)) p in
-    let line : Line (length (text_of (take n vs'))) (taken (get_or (take n vs') 0 0)) ≡ Line (length t) n = rw (q.text, ← m) refl in
+    let line : line (length (text_of (take n vs'))) (taken (get_or (take n vs') 0 0)) ≡ line (length t) n = rw (q.text, ← m) refl in
     (l.0 ∙ line, l.1 ∙ ap (λ (x : List ℕ). in_front_of x b) q.text)
 
 -- WORDS LENT PAST THOSE TAKEN ARE IGNORED
-pub text-ignores : (ws vs b : List ℕ) (n m : ℕ) (b' b'' : List ℕ) (r : Written)
-    → Writes ws b (Line n m) b' → take m vs ≡ take m ws → Writes vs b r b'' → (r ≡ Line n m) × (b'' ≡ b')
+pub text-ignores : (ws vs b : List ℕ) (n m : ℕ) (b' b'' : List ℕ) (r : Result Written WriteRefusal)
+    → Writes ws b (line n m) b' → take m vs ≡ take m ws → Writes vs b r b'' → (r ≡ line n m) × (b'' ≡ b')
 text-ignores ws vs b n m b' b'' r p e q =
     let l = lined ws b n m b' p.met in
     let f = same-front ws vs m l.many l.room e in
     let d = writes_line vs b b'' r l.wide (rw f.0 f.2) q in
-    (d.0 ∙ ap (λ (x : ℕ). Line x (taken (get_or vs 0 0))) (ap length f.1 ∙ sym l.long) ∙ ap (λ (x : ℕ). Line n x) f.0, d.1 ∙ ap (λ (x : List ℕ). in_front_of x b) f.1 ∙ sym l.left)
+    (d.0 ∙ ap (λ (x : ℕ). line x (taken (get_or vs 0 0))) (ap length f.1 ∙ sym l.long) ∙ ap (λ (x : ℕ). line n x) f.0, d.1 ∙ ap (λ (x : List ℕ). in_front_of x b) f.1 ∙ sym l.left)

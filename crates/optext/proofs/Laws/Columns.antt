@@ -1,6 +1,7 @@
 -- The column and the number of a refused text, from the guess: the promises that do not speak of it.
-use Rattle.std.proofs.Common.{◌≡◌, ℕ, suc, ◌+◌, ◌<◌, ◌≤◌, true, false, List, [], length, get_or, take, drop, sym, refl, ap, ◌∙◌, subst, append-nil, add-one, arith, take-append-drop, drop_of_length-le, length-take-le, drop-cons, eq-eqb, ne_eqb}
+use Rattle.std.proofs.Common.{◌≡◌, ℕ, suc, ◌+◌, ◌<◌, ◌≤◌, true, false, Bool, ◌||◌, eqb, cond, List, [], ◌∷◌, length, get_or, take, drop, sym, refl, ap, ◌∙◌, subst, append-nil, arith, take-append-drop, length-take-le}
 use lib.Seq.{take-length}
+use Rattle.std.specs.List.{list_any}
 use Rattle.optext.specs.declared.reading.Guess.{Guess}
 use Rattle.optext.specs.First.{agree}
 use Rattle.optext.specs.Rows.{first_of}
@@ -127,12 +128,11 @@ module _ (t ws : List ℕ) (g : Guess) (e : g ≡ guess_of t) (c n : ℕ) (p : c
         pub refuses-30 : space_in (take c t) ≡ true → RefusedText 30 c t ws ws
         refuses-30 s = refused 30 other (operand refl within not_there s)
 
--- a loop that looks for a space
-pub space-here : (t : List ℕ) (i : ℕ) → space_in t ≡ space_in (drop i t) → i < length t → get_or t i 0 ≡ 32 → true ≡ space_in t
-space-here t i e h q = sym (e ∙ rw (drop-cons t i 0 h, eq-eqb (get_or t i 0) 32 q) refl)
-
-pub space-next : (t : List ℕ) (i : ℕ) → space_in t ≡ space_in (drop i t) → i < length t → (get_or t i 0 ≡ 32 → ⊥) → space_in t ≡ space_in (drop (i + 1) t)
-space-next t i e h q = e ∙ rw (drop-cons t i 0 h, ne_eqb (get_or t i 0) 32 q, add-one i) refl
-
-pub space-none : (t : List ℕ) (i : ℕ) → space_in t ≡ space_in (drop i t) → length t ≤ i → false ≡ space_in t
-space-none t i e h = sym (e ∙ rw (drop_of_length-le t h) refl)
+-- a text contains a space
+pub space-any : (t : List ℕ) → list_any (λ y. eqb y 32) t ≡ space_in t
+space-any [] = refl
+space-any (x ∷ t) = go (eqb x 32) (space-any t)
+  where
+    go : (b : Bool) → list_any (λ y. eqb y 32) t ≡ space_in t → (b || list_any (λ y. eqb y 32) t) ≡ cond b true (space_in t)
+    go true e = refl
+    go false e = e

@@ -1,10 +1,14 @@
 -- Laws of the forms of operands: which form each is, and how long.
-use Rattle.std.proofs.Common.{◌≡◌, ℕ, ◌/◌, ◌%◌, ◌≤◌, true, false, eqb, List, [], ◌∷◌, length, refl, arith, ne_eqb}
+use Rattle.std.proofs.Common.{◌≡◌, ℕ, ◌/◌, ◌%◌, ◌<◌, ◌≤◌, true, false, eqb, List, [], ◌∷◌, length, refl, ap, ◌∙◌, arith, ne_eqb}
 use Prim.Native.Char.{code}
 use Rattle.optext.proofs.Laws.Choose.{choose}
 use Rattle.optext.specs.declared.rows.OperandKind.{OperandKind}
 use Rattle.optext.specs.declared.rows.OperandKind.TheVariants.{None, Mask, Disp, Reg, Arg4, Arg6, Count, High, Mid, Dst, Addr, Src, Word}
 use Rattle.hexdigits.specs.Digits.{hex4, hex2}
+use Rattle.hexdigits.specs.Over.{Wrote, text_left, written}
+use Rattle.hexdigits.proofs.Laws.Laid.{wrote-fits}
+use Rattle.optext.specs.Rows.{row_count, name_of}
+use Rattle.optext.proofs.Laws.Table.{name-le}
 use Rattle.optext.specs.Line.{reg_text, up_text, literal_text, down_text, offset_text, plain_text, mode_text, mode_takes, operand_text, takes, is_shown, sep_text}
 
 pub plain-reg : (p r x : ℕ) → p ≡ 0 → plain_text p r x ≡ reg_text r
@@ -102,3 +106,7 @@ takes-le Dst w = mode-takes-le (w % 64)
 takes-le Addr w = mode-takes-le (w % 64)
 takes-le Src w = mode-takes-le (w / 64 % 64)
 takes-le Word w = omega arith
+
+-- a row's mnemonic, where there is room
+pub name_wrote : (k : ℕ) (t b e : List ℕ) (n : ℕ) → k < row_count → 32 ≤ length b → t ≡ name_of k → text_left n e ≡ written t b → Wrote (name_of k) b e n
+name_wrote k t b e n h g q w = wrote-fits (name_of k) b e n (omega (arith, name-le k h, g)) (w ∙ ap (λ (l : List ℕ). written l b) q)

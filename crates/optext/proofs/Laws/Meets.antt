@@ -1,15 +1,16 @@
 -- The public contracts from the facts of the code: what the writer and the reader answer and leave.
-use Rattle.std.proofs.Common.{◌≡◌, ℕ, zero, suc, ◌+◌, ◌%◌, ◌^◌, ◌<◌, ◌≤◌, ◌⊎◌, List, [], ◌∷◌, length, get_or, take, drop, sym, refl, ap, ◌∙◌, subst, inl, inr, ⊎_elim, arith, le-ltb, lt-ltb, ne_eqb}
+use Rattle.std.proofs.Common.{◌≡◌, ℕ, zero, suc, ◌+◌, ◌%◌, ◌^◌, ◌<◌, ◌≤◌, ◌⊎◌, List, [], ◌∷◌, Result, Ok, Err, length, get_or, take, drop, sym, refl, ap, ◌∙◌, subst, inl, inr, ⊎_elim, arith, le-ltb, lt-ltb, ne_eqb}
 use Rattle.optext.specs.declared.reading.Operand.{Operand}
 use Rattle.optext.specs.declared.rows.OperandKind.{OperandKind}
 use Rattle.optext.specs.declared.Written.{Written}
-use Rattle.optext.specs.declared.Written.TheVariants.{Line, TextShort, NoWords, WordMissing}
+use Rattle.optext.specs.declared.WriteRefusal.{WriteRefusal}
+use Rattle.optext.specs.declared.WriteRefusal.TheVariants.{TextShort, NoWords, WordMissing}
 use Rattle.hexdigits.specs.Over.{Wrote}
 use Rattle.optext.specs.Rows.{word_row, name_of, base_of, first_of, second_of}
 use Rattle.optext.specs.Line.{row_of, operand_text, takes, sep_text, row_text, word_text, op_text, taken, text_of}
 use Rattle.optext.specs.Guess.{row_for, un_op, guess, guess_a, guess_b, guess_of}
 use Rattle.refusal.specs.Page.{left}
-use Rattle.optext.specs.Answer.{written_page, write_why, write_of, Writes, write_word_of}
+use Rattle.optext.specs.Answer.{line, written_page, write_why, write_of, Writes, write_word_of}
 use Rattle.optext.specs.Column.{Whole}
 use Rattle.optext.specs.Words.{Accepts, own, words_of}
 use Rattle.hexdigits.proofs.Laws.Laid.{wrote-take, wrote-rest}
@@ -25,33 +26,33 @@ taken-le w = omega (arith, takes-le (first_of (row_of w)) w, takes-le (second_of
 
 -- the writer's four answers
 module _ (ws b : List ℕ) where
-  as_written : {r : Written} {e : List ℕ} → left (written_page r) e ≡ write_of ws b → Writes ws b r e
+  as_written : {r : Result Written WriteRefusal} {e : List ℕ} → left (written_page r) e ≡ write_of ws b → Writes ws b r e
   as_written h = record { met = h; few = taken-le (get_or ws 0 0); short = text-le ws }
 
-  pub writes-8 : length b < 32 → Writes ws b TextShort b
+  pub writes-8 : length b < 32 → Writes ws b (Err TextShort) b
   unfolding write_of write_why
   writes-8 h = as_written (rw (lt-ltb (length b) 32 h) refl)
 
-  pub writes-6 : 32 ≤ length b → length ws < 1 → Writes ws b NoWords b
+  pub writes-6 : 32 ≤ length b → length ws < 1 → Writes ws b (Err NoWords) b
   unfolding write_of write_why
   writes-6 h g = as_written (rw (le-ltb (length b) 32 h, lt-ltb (length ws) 1 g) refl)
 
-  pub writes-7 : 32 ≤ length b → 1 ≤ length ws → length ws < taken (get_or ws 0 0) → Writes ws b WordMissing b
+  pub writes-7 : 32 ≤ length b → 1 ≤ length ws → length ws < taken (get_or ws 0 0) → Writes ws b (Err WordMissing) b
   unfolding write_of write_why
   writes-7 h g k = as_written (rw (le-ltb (length b) 32 h, le-ltb (length ws) 1 g, lt-ltb (length ws) (taken (get_or ws 0 0)) k) refl)
 
   pub writes_line : (e : List ℕ) (n m : ℕ) → 32 ≤ length b → 1 ≤ length ws → taken (get_or ws 0 0) ≤ length ws
-      → Wrote (text_of ws) b e n → m ≡ taken (get_or ws 0 0) → Writes ws b (Line n m) e
+      → Wrote (text_of ws) b e n → m ≡ taken (get_or ws 0 0) → Writes ws b (line n m) e
   unfolding write_of write_why
   writes_line e n m h g k w q = as_written (rw (le-ltb (length b) 32 h, le-ltb (length ws) 1 g, le-ltb (length ws) (taken (get_or ws 0 0)) k, w.count, q, w.bytes) refl)
 
 -- .WORD's two
 module _ (w : ℕ) (b : List ℕ) where
-  pub word-8 : length b < 32 → left (written_page TextShort) b ≡ write_word_of w b
+  pub word-8 : length b < 32 → left (written_page (Err TextShort)) b ≡ write_word_of w b
   unfolding write_word_of
   word-8 h = rw (lt-ltb (length b) 32 h) refl
 
-  pub word-line : (e : List ℕ) (n : ℕ) → 32 ≤ length b → Wrote (row_text word_row w 0 0) b e n → left (written_page (Line n 1)) e ≡ write_word_of w b
+  pub word-line : (e : List ℕ) (n : ℕ) → 32 ≤ length b → Wrote (row_text word_row w 0 0) b e n → left (written_page (line n 1)) e ≡ write_word_of w b
   unfolding write_word_of word_text
   word-line e n h u = rw (le-ltb (length b) 32 h, u.count, u.bytes) refl
 

@@ -1,5 +1,6 @@
 -- Laws of how far two texts agree, and of the text that agrees furthest with another.
-use Rattle.std.proofs.Common.{◌≡◌, ℕ, zero, suc, ◌+◌, ◌<◌, ◌≤◌, Bool, true, false, cond, eqb, ◌⊎◌, List, [], ◌∷◌, ◌++◌, length, get_or, take, drop, sym, refl, ap, ◌∙◌, subst, inl, inr, ⊎_elim, add-one, arith, length-append, drop_of_length-le, drop-cons, eq-eqb, ne_eqb, eqb-true}
+use Rattle.std.proofs.Common.{◌≡◌, ℕ, zero, suc, ◌+◌, ◌<◌, ◌≤◌, Bool, true, false, cond, eqb, ◌⊎◌, List, [], ◌∷◌, ◌++◌, length, get_or, take, drop, sym, refl, ap, ◌∙◌, subst, inl, inr, ⊎_elim, arith, length-append, eq-eqb, eqb-true}
+use Rattle.std.specs.List.{prefix_len, zip}
 use Rattle.optext.specs.First.{agree}
 use Rattle.optext.proofs.Laws.Choose.{lt-cases}
 
@@ -111,26 +112,15 @@ take-agree (suc c) (x ∷ t) (y ∷ p) h e =
     let q : y ≡ x = ap (λ (l : List ℕ). get_or l 0 0) e in
     rw (eq-eqb x y (sym q)) (let r = take-agree c t p (omega arith) (ap (λ (l : List ℕ). drop 1 l) e) in omega arith)
 
--- a loop that compares: up to i they agree
-pub agree-goes : (t p : List ℕ) (i : ℕ) → agree t p ≡ i + agree (drop i t) (drop i p) → i < length t → i < length p → get_or t i 0 ≡ get_or p i 0
-    → agree t p ≡ i + 1 + agree (drop (i + 1) t) (drop (i + 1) p)
-agree-goes t p i e h g q =
-    let z : agree (drop i t) (drop i p) ≡ suc (agree (drop (i + 1) t) (drop (i + 1) p)) =
-    rw (drop-cons t i 0 h, drop-cons p i 0 g, eq-eqb (get_or t i 0) (get_or p i 0) q, add-one i) refl in
-    omega arith
-
-pub agree-stops : (t p : List ℕ) (i : ℕ) → agree t p ≡ i + agree (drop i t) (drop i p) → i < length t → i < length p → (get_or t i 0 ≡ get_or p i 0 → ⊥) → i ≡ agree t p
-agree-stops t p i e h g q =
-    let z : agree (drop i t) (drop i p) ≡ 0 = rw (drop-cons t i 0 h, drop-cons p i 0 g, ne_eqb (get_or t i 0) (get_or p i 0) q) refl in
-    omega arith
-
-pub agree-ends : (t p : List ℕ) (i : ℕ) → agree t p ≡ i + agree (drop i t) (drop i p) → (length t ≤ i) ⊎ (length p ≤ i) → i ≡ agree t p
-agree-ends t p i e (inl h) =
-    let z : agree (drop i t) (drop i p) ≡ 0 = rw (drop_of_length-le t h) refl in
-    omega arith
-agree-ends t p i e (inr h) =
-    let z : agree (drop i t) (drop i p) ≡ 0 = rw (drop_of_length-le p h) (agree-nil (drop i t)) in
-    omega arith
+-- as far as the pairs of their bytes are pairs of one byte
+pub agree-pairs : (t p : List ℕ) → prefix_len (λ (x : ℕ × ℕ). eqb x.0 x.1) (zip t p) ≡ agree t p
+agree-pairs [] p = refl
+agree-pairs (x ∷ t) [] = refl
+agree-pairs (x ∷ t) (y ∷ p) = go (eqb x y) (agree-pairs t p)
+  where
+    go : (b : Bool) → prefix_len (λ (x : ℕ × ℕ). eqb x.0 x.1) (zip t p) ≡ agree t p → cond b (1 + prefix_len (λ (x : ℕ × ℕ). eqb x.0 x.1) (zip t p)) 0 ≡ cond b (suc (agree t p)) 0
+    go true e = omega (arith, e)
+    go false e = refl
 
 pub near-nil : (t : List ℕ) → Near t [] []
 near-nil t = record { far = omega arith; whole = λ e. refl }

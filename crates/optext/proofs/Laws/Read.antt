@@ -1,5 +1,6 @@
 -- The reader as a function: it compares the text with the line of its guess.
-use Rattle.std.proofs.Common.{◌≡◌, ℕ, Bool, true, false, cond, eqb, List, [], ◌∷◌, sym, refl, eq-eqb, eqb-true}
+use Rattle.std.proofs.Common.{◌≡◌, ℕ, Bool, true, false, cond, ◌&&◌, eqb, List, [], ◌∷◌, sym, refl, eq-eqb, eqb-true}
+use Rattle.std.specs.Cmp.Lexicographic.{pointwise}
 use Rattle.optext.specs.Read.{same_text}
 
 -- laws of the comparison
@@ -16,6 +17,17 @@ same-eq (x ∷ xs) (y ∷ ys) e = go (eqb x y) refl (λ q. same-eq xs ys q) e
     go : (t : Bool) → eqb x y ≡ t → (same_text xs ys ≡ true → xs ≡ ys) → cond t (same_text xs ys) false ≡ true → x ∷ xs ≡ y ∷ ys
     go true p r q = rw (eqb-true x y p, r q) refl
     go false p r q = cc
+
+-- what `==` of two texts answers
+pub same-pointwise : (a b : List ℕ) → pointwise eqb a b ≡ same_text a b
+same-pointwise [] [] = refl
+same-pointwise [] (y ∷ ys) = refl
+same-pointwise (x ∷ xs) [] = refl
+same-pointwise (x ∷ xs) (y ∷ ys) = go (eqb x y) (same-pointwise xs ys)
+  where
+    go : (t : Bool) → pointwise eqb xs ys ≡ same_text xs ys → (t && pointwise eqb xs ys) ≡ cond t (same_text xs ys) false
+    go true e = e
+    go false e = refl
 
 -- what a function that tells whether two texts are equal answers
 pub same-is : (r : Bool) (a b : List ℕ) → (r ≡ true → a ≡ b) → (a ≡ b → r ≡ true) → r ≡ same_text a b

@@ -5,9 +5,14 @@ use lib.Seq.{drop-append-add}
 use Rattle.optext.specs.declared.rows.OperandKind.{OperandKind}
 use Rattle.optext.specs.declared.rows.OperandKind.TheVariants.{None, Mask, Disp, Reg, Arg4, Arg6, Count, High, Mid, Dst, Addr, Src, Word}
 use Rattle.hexdigits.specs.Digits.{hex4}
-use Rattle.optext.specs.Rows.{Row, row_count, row_width, rows, the_row, no_row, name_of, base_of, first_of, second_of, row_bytes, table_bytes, letter_of, kind_as}
+use Rattle.optext.specs.Rows.{Row, row_count, row_width, rows, the_row, no_row, name_of, base_of, first_of, second_of, row_bytes, letter_of, kind_as}
 use Rattle.optext.specs.Line.{is_shown}
 use Rattle.optext.proofs.Laws.Choose.{no, lt-cases, at}
+
+-- the rows one after another, as the program has them
+abbrev pub table_bytes : List Row → List ℕ
+table_bytes [] = []
+table_bytes (r ∷ rs) = row_bytes r ++ table_bytes rs
 
 -- from a row's place on, the flat table begins with the row
 pub flat-drop : (rs : List Row) (k : ℕ) → k < length rs → drop (k * row_width) (table_bytes rs) ≡ row_bytes (get_or rs k no_row) ++ drop (k * row_width + row_width) (table_bytes rs)

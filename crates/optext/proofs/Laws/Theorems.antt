@@ -1,10 +1,11 @@
 -- The theorems that specs/Theorems.antt states.
-use Rattle.std.proofs.Common.{◌≡◌, ℕ, ◌+◌, ◌≤◌, cond, eqb, List, [], ◌∷◌, ◌++◌, length, get_or, take, drop, sym, refl, ap, ◌∙◌, subst, arith}
+use Rattle.std.proofs.Common.{◌≡◌, ℕ, ◌+◌, ◌≤◌, cond, eqb, List, [], ◌∷◌, ◌++◌, Result, Ok, Err, length, get_or, take, drop, sym, refl, ap, ◌∙◌, subst, arith}
 use Rattle.optext.specs.declared.reading.Guess.{Guess}
 use Rattle.optext.specs.declared.Written.{Written}
-use Rattle.optext.specs.declared.Written.TheVariants.{Line, TextShort, NoWords, WordMissing}
-use Rattle.optext.specs.declared.ReadBack.{ReadBack}
-use Rattle.optext.specs.declared.ReadBack.TheVariants.{Words, WordsShort, EarlyEnd, AfterText, UnknownName, BadOperand}
+use Rattle.optext.specs.declared.WriteRefusal.{WriteRefusal}
+use Rattle.optext.specs.declared.WriteRefusal.TheVariants.{TextShort, NoWords, WordMissing}
+use Rattle.optext.specs.declared.ReadRefusal.{ReadRefusal}
+use Rattle.optext.specs.declared.ReadRefusal.TheVariants.{WordsShort, EarlyEnd, AfterText, UnknownName, BadOperand}
 use lib.Seq.{take-append_seam}
 use Rattle.hexdigits.specs.Over.{in_front_of}
 use Rattle.optext.specs.First.{agree}
@@ -78,34 +79,34 @@ none-begins us vs s g h e =
     sym ((near-text (text_of vs) us g).whole w) ∙ own_line (text_of vs) (record { words = vs; whole = h; text = refl })
 
 -- 01's numbers tell the answers apart
-abbrev written_of : Page LinePage → Written
-written_of (answered p) = Line p.count p.words
-written_of (refused r) = cond (eqb r 8) TextShort (cond (eqb r 7) WordMissing NoWords)
-written_of (refused_at r c) = NoWords
+abbrev written_of : Page LinePage → Result Written WriteRefusal
+written_of (answered p) = Ok (record { length = p.count; taken = p.words })
+written_of (refused r) = Err (cond (eqb r 8) TextShort (cond (eqb r 7) WordMissing NoWords))
+written_of (refused_at r c) = Err NoWords
 
-written_back : (r : Written) → written_of (written_page r) ≡ r
-written_back (Line n m) = refl
-written_back TextShort = refl
-written_back NoWords = refl
-written_back WordMissing = refl
+written_back : (r : Result Written WriteRefusal) → written_of (written_page r) ≡ r
+written_back (Ok line) = refl
+written_back (Err TextShort) = refl
+written_back (Err NoWords) = refl
+written_back (Err WordMissing) = refl
 
-pub written_one : (r q : Written) → written_page r ≡ written_page q → r ≡ q
+pub written_one : (r q : Result Written WriteRefusal) → written_page r ≡ written_page q → r ≡ q
 written_one = one written_of written_back
 
-abbrev read_back_of : Page ℕ → ReadBack
-read_back_of (answered n) = Words n
-read_back_of (refused r) = WordsShort
-read_back_of (refused_at r c) = cond (eqb r 32) (EarlyEnd c) (cond (eqb r 31) (AfterText c) (cond (eqb r 9) (UnknownName c) (BadOperand c)))
+abbrev read_back_of : Page ℕ → Result ℕ ReadRefusal
+read_back_of (answered n) = Ok n
+read_back_of (refused r) = Err WordsShort
+read_back_of (refused_at r c) = Err (cond (eqb r 32) (EarlyEnd c) (cond (eqb r 31) (AfterText c) (cond (eqb r 9) (UnknownName c) (BadOperand c))))
 
-read_back : (r : ReadBack) → read_back_of (read_page r) ≡ r
-read_back (Words n) = refl
-read_back WordsShort = refl
-read_back (EarlyEnd c) = refl
-read_back (AfterText c) = refl
-read_back (UnknownName c) = refl
-read_back (BadOperand c) = refl
+read_back : (r : Result ℕ ReadRefusal) → read_back_of (read_page r) ≡ r
+read_back (Ok n) = refl
+read_back (Err WordsShort) = refl
+read_back (Err (EarlyEnd c)) = refl
+read_back (Err (AfterText c)) = refl
+read_back (Err (UnknownName c)) = refl
+read_back (Err (BadOperand c)) = refl
 
-pub read_one : (r q : ReadBack) → read_page r ≡ read_page q → r ≡ q
+pub read_one : (r q : Result ℕ ReadRefusal) → read_page r ≡ read_page q → r ≡ q
 read_one = one read_back_of read_back
 
 pub one_line : OneLine
@@ -120,12 +121,12 @@ one_answer t ws e e' r r' p q =
     (read_one r r' z.0, z.1)
 
 pub refused-lines : RefusedLines
-refused-lines t ws e (Words n) h p = (λ q. absurd (no (sym q)), λ q. record { words = take n e; whole = p.whole; text = p.text })
-refused-lines t ws e WordsShort h p = (λ q. absurd (no (sym q)), λ q. absurd (not-less (length ws) h p.1.room))
-refused-lines t ws e (EarlyEnd c) h p = (λ q. p.none, λ q. absurd (no q))
-refused-lines t ws e (AfterText c) h p = (λ q. p.none, λ q. absurd (no q))
-refused-lines t ws e (UnknownName c) h p = (λ q. p.none, λ q. absurd (no q))
-refused-lines t ws e (BadOperand c) h p = (λ q. p.none, λ q. absurd (no q))
+refused-lines t ws e (Ok n) h p = (λ q. absurd (no (sym q)), λ q. record { words = take n e; whole = p.whole; text = p.text })
+refused-lines t ws e (Err WordsShort) h p = (λ q. absurd (no (sym q)), λ q. absurd (not-less (length ws) h p.1.room))
+refused-lines t ws e (Err (EarlyEnd c)) h p = (λ q. p.none, λ q. absurd (no q))
+refused-lines t ws e (Err (AfterText c)) h p = (λ q. p.none, λ q. absurd (no q))
+refused-lines t ws e (Err (UnknownName c)) h p = (λ q. p.none, λ q. absurd (no q))
+refused-lines t ws e (Err (BadOperand c)) h p = (λ q. p.none, λ q. absurd (no q))
 
 -- what the reader may answer to the text of an op code: its words, and the other words as they were
 pub reads-text : (vs ws : List ℕ) → Whole vs → 3 ≤ length ws → Reads (answered (length vs)) (text_of vs) ws (in_front_of vs ws)
@@ -142,4 +143,4 @@ reads-text vs ws h g =
     }
 
 pub read_again : ReadAgain
-read_again vs ws e r h g p = one_answer (text_of vs) ws e (in_front_of vs ws) r (Words (length vs)) p (reads-text vs ws h g)
+read_again vs ws e r h g p = one_answer (text_of vs) ws e (in_front_of vs ws) r (Ok (length vs)) p (reads-text vs ws h g)

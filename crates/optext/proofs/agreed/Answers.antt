@@ -1,30 +1,18 @@
-use Rattle.std.proofs.Common.{inl, inr, arith}
-use Rattle.optext.proofs.Laws.Near.{agree-goes, agree-stops, agree-ends}
+use Rattle.std.proofs.Common.{ℕ, eqb, ◌∙◌, rules}
+use borrow.Author.Tests.{tests}
+use Rattle.std.specs.List.{zip}
+use Rattle.std.proofs.lemmas.Iterator.{YieldsList-from_slice, YieldsList-from_zip}
+use Rattle.std.proofs.lemmas.Iterator.Consumers.{YieldsList-at, count_from_yields_List}
+use Rattle.std.proofs.lemmas.Iterator.Search.{YieldsList-from_take_while}
+use Rattle.std.proofs.lemmas.List.Folds.{length-prefix_len}
+use Rattle.optext.proofs.Laws.Near.{agree-pairs}
 use Rattle.optext.proofs.agreed.Goals as goal
 
-pub loop-i-init : goal.loop-i-init
-loop-i-init c = (omega arith, omega arith)
-
-pub returns-then-t-i : goal.returns-then-t-i
-returns-then-t-i c = agree-ends c.args.s.now c.args.t.now c.loop-i.i c.loop-i.invariant.1 (inr c.if-t-i.true)
-
-pub bounds-s-i : goal.bounds-s-i
-bounds-s-i c = omega arith
-
-pub bounds-t-i : goal.bounds-t-i
-bounds-t-i c = omega arith
-
-pub returns-then-s-i : goal.returns-then-s-i
-returns-then-s-i c = agree-stops c.args.s.now c.args.t.now c.loop-i.i c.loop-i.invariant.1 (omega arith) (omega arith) c.if-s-i.true
-
-pub overflow_add-i : goal.overflow_add-i
-overflow_add-i c = omega arith
-
-pub loop-i-smaller : goal.loop-i-smaller
-loop-i-smaller c = omega arith
-
-pub loop-i-preserved : goal.loop-i-preserved
-loop-i-preserved c = (omega arith, agree-goes c.args.s.now c.args.t.now c.loop-i.i c.loop-i.invariant.1 (omega arith) (omega arith) c.if-s-i.false)
-
 pub returns : goal.returns
-returns c = agree-ends c.args.s.now c.args.t.now c.loop-i.i c.loop-i.invariant.1 (inl c.loop-i-test.false)
+returns c = let s = c.args.s.now in
+    let t = c.args.t.now in
+    count_from_yields_List c.take_while.result _ c.count.ensures.ran
+    (YieldsList-from_take_while _ (λ (x : ℕ × ℕ). eqb x.0 x.1)
+    (YieldsList-at c.take_while.ensures.source (YieldsList-from_zip (YieldsList-from_slice s cc) (YieldsList-from_slice t cc)))
+    c.take_while.ensures.closure c.take_while.ensures.done (λ x b q k. search (rules, tests)))
+    ∙ length-prefix_len (λ (x : ℕ × ℕ). eqb x.0 x.1) (zip s t) ∙ agree-pairs s t

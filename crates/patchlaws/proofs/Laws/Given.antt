@@ -7,22 +7,22 @@ use Prim.Native.Nat.{ℕ, zero, suc, ◌+◌, ◌*◌, ◌/◌, ◌%◌, ◌≤�
 use native.Mathlib.Omega.{arith}
 use native.Mathlib.Decide.{ℕ_discrete}
 use Rattle.optext.proofs.Laws.Choose.{lt-cases}
-use lib.Dec.{ltb, eqb}
+use lib.Dec.{ltb}
 use lib.ListN.{length, drop, get_or}
 use lib.Seq.{drop-drop}
 use Rattle.hexdigits.specs.Over.{in_front_of}
 use Rattle.wordmath.specs.Address.{plus}
 use Rattle.wordbytes.specs.Words.{word_at}
 use Rattle.optext.specs.declared.Op.{Op}
-use Rattle.optext.specs.Line.{taken, text_of}
-use Rattle.optext.specs.Column.{Whole, IsText}
+use Rattle.optext.specs.Line.{text_of}
+use Rattle.optext.specs.Column.{Whole}
 use Rattle.optext.specs.Read.{words_of_text, op_of}
 use Rattle.optext.proofs.Laws.Meets.{taken-le}
 use Rattle.optext.proofs.Laws.Reader.{read-of-text, read-refuses}
 use Rattle.patchline.specs.declared.oneline.How.TheVariants.{Plain}
 use Rattle.patchline.specs.Line.{op_in, says, said_of}
 use Rattle.assembler.specs.Source.{line_count, text_at, said_at, is_origin, origin_at, end_at, here_of, misplaced, line_op}
-use Rattle.assembler.specs.Section.{inserted, lower_of, higher_of, section_entry, entered, words_placed, entry_bytes, section_bytes, section_of}
+use Rattle.assembler.specs.Section.{inserted, section_entry, entered, words_placed, entry_bytes, section_bytes, section_of}
 use Rattle.refusal.specs.Page.{Page, refused, refused_at, answered, Left, left, Told, told, call}
 use Rattle.answer.specs.Answer.{answer_why, answering}
 use Rattle.assembler.specs.Answer.{assembled, asm_of}
@@ -39,7 +39,7 @@ use Rattle.patchlaws.proofs.Laws.Labels.{branch_read, sob-read}
 use Rattle.patchlaws.proofs.Laws.Offsets.{first_read, second-read, both_read}
 use Rattle.patchlaws.proofs.Laws.Last.{only-read, last-read}
 use Rattle.patchlaws.proofs.Laws.Rising.{ends-below, words_count, placed-rises}
-use Rattle.patchlaws.proofs.Laws.Taken.{byte-is, word-is, count-is, behind, placed-few}
+use Rattle.patchlaws.proofs.Laws.Taken.{word-is, count-is, behind, placed-few}
 
 -- ---- an entry among others
 

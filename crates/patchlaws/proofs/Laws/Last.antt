@@ -1,26 +1,24 @@
 -- Labels as the one operand A or @A of formats 7 and 9, the theorems of specs/Labels.antt: JMP and CALL are among them.
 use mathlib.Core.Path.{◌≡◌, refl, ap, sym, ◌∙◌, subst}
 use mathlib.Core.Bool.{Bool, true, false, cond, not, ◌&&◌, ◌||◌}
-use mathlib.Core.List.{List, [], ◌∷◌, ◌++◌, append-nil, append_assoc}
-use Prim.Native.Nat.{ℕ, zero, suc, ◌+◌, ◌-◌, ◌*◌, ◌/◌, ◌%◌, ◌≤◌, ◌<◌}
+use mathlib.Core.List.{List, [], ◌∷◌, ◌++◌, append-nil}
+use Prim.Native.Nat.{ℕ, ◌+◌, ◌-◌, ◌*◌, ◌/◌, ◌%◌, ◌≤◌, ◌<◌}
 use native.Mathlib.Omega.{arith}
 use borrow.Author.Tests.{lt-ltb, eqb-true, eqb-false, eq-eqb, ne_eqb}
 use lib.Dec.{T, ltb, leb, eqb, eqb→eq, ltb→lt}
 use lib.ListN.{length, get_or, set}
-use Rattle.hexdigits.specs.Digits.{letters}
 use Rattle.wordmath.specs.Address.{plus, minus}
 use Rattle.opcodes.specs.Fields.{high_byte}
 use Rattle.plate.specs.Plate.{format_of}
 use Rattle.optext.specs.declared.Op.{Op}
 use Rattle.optext.specs.Rows.{rows, the_row, name_of, first_of, second_of}
 use Rattle.optext.specs.Line.{reg_text, mode_text, mode_takes, takes, taken, is_reserved, row_of, sep_text, row_text, op_text, text_of}
-use Rattle.optext.specs.Column.{Whole}
 use Rattle.optext.specs.Read.{words_of_text, op_of}
 use Rattle.optext.proofs.Laws.Choose.{both, both_left, both_right, at}
 use Rattle.optext.proofs.Laws.Inside.{inside}
 use Rattle.optext.proofs.Laws.Reader.{read-of-words}
 use Rattle.patchline.specs.declared.oneline.How.TheVariants.{Relative}
-use Rattle.patchline.specs.Line.{comma_at, first_in, second_in, label_in, filled, is_sob, op_in, said_of, with_label}
+use Rattle.patchline.specs.Line.{first_in, second_in, label_in, filled, is_sob, op_in, said_of, with_label}
 use Rattle.assembler.specs.Source.{value_of, with_labels, line_op}
 use Rattle.patchlaws.specs.Labels.{ReadsLine, takes_one, OnlyRead, LastRead}
 use Rattle.patchlaws.proofs.Laws.Modes.{offset_pc, mode-end}

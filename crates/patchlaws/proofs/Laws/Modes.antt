@@ -2,17 +2,15 @@
 use mathlib.Core.Path.{◌≡◌, refl, ap, sym, ◌∙◌, subst}
 use mathlib.Core.Bool.{Bool, true, false, cond, not}
 use mathlib.Core.List.{List, [], ◌∷◌, ◌++◌, append_assoc}
-use Prim.Native.Nat.{ℕ, zero, suc, ◌+◌, ◌*◌, ◌/◌, ◌%◌, ◌≤◌, ◌<◌}
+use Prim.Native.Nat.{ℕ, ◌+◌, ◌*◌, ◌/◌, ◌%◌, ◌<◌}
 use native.Mathlib.Omega.{arith}
-use borrow.Author.Tests.{eqb-true, eqb-false}
+use borrow.Author.Tests.{eqb-false}
 use lib.Dec.{T, eqb, eqb→eq}
 use lib.ListN.{length, drop, get_or, length-append}
 use Rattle.hexdigits.specs.Digits.{letters, digits, hex_of, hex4}
-use Rattle.optext.specs.Digits.{un_hex4}
 use Rattle.optext.specs.Shown.{other, OtherLetter, Without, none, more}
 use Rattle.optext.proofs.Laws.Shown.{without-append, without_at, lacks}
-use Rattle.optext.proofs.Laws.Choose.{both, both_left, both_right, at}
-use Rattle.optext.proofs.Laws.Back.{hex4-back}
+use Rattle.optext.proofs.Laws.Choose.{both_left, both_right, at}
 use Rattle.optext.specs.Line.{registers, reg_a, reg_b, reg_text, up_text, literal_text, down_text, offset_text, plain_text, mode_text, mode_takes}
 
 -- ---- characters

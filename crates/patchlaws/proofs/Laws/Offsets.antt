@@ -4,11 +4,11 @@ use mathlib.Core.Bool.{Bool, true, false, cond}
 use mathlib.Core.List.{List, [], ◌∷◌, ◌++◌, append_assoc}
 use Prim.Native.Nat.{ℕ, zero, suc, ◌+◌, ◌-◌, ◌*◌, ◌/◌, ◌%◌, ◌≤◌, ◌<◌}
 use native.Mathlib.Omega.{arith}
-use borrow.Author.Tests.{lt-ltb, le-ltb, eqb-false, eq-eqb, ne_eqb}
+use borrow.Author.Tests.{lt-ltb, eqb-false, eq-eqb, ne_eqb}
 use lib.Dec.{T, ltb, eqb, eqb→eq, ltb→lt}
 use lib.ListN.{length, drop, get_or, set, length-set}
 use lib.Seq.{get_or-set_same, get_or-set_other}
-use Rattle.hexdigits.specs.Digits.{letters, hex4}
+use Rattle.hexdigits.specs.Digits.{letters}
 use Rattle.wordmath.specs.Address.{plus, minus}
 use Rattle.opcodes.specs.Fields.{high_byte}
 use Rattle.plate.specs.Plate.{format_of}
@@ -26,11 +26,10 @@ use Rattle.optext.proofs.Laws.Forms.{mode-takes-le}
 use Rattle.optext.proofs.Laws.Inside.{inside}
 use Rattle.optext.proofs.Laws.Reader.{read-of-words}
 use Rattle.patchline.specs.Text.{slice, is_name}
-use Rattle.patchline.specs.declared.oneline.How.{How}
 use Rattle.patchline.specs.declared.oneline.How.TheVariants.{Unknown, Origin, Plain, Branch, Sob, Relative}
 use Rattle.patchline.specs.Line.{operands_at, comma_at, first_in, second_in, at_of, bare_operand, label_in, filled_in, alias_of, tail_of, filled, is_directive, is_branch, is_sob, says, op, op_in, said_with, said_of, with_label}
 use Rattle.assembler.specs.Source.{value_of, with_labels, line_op}
-use Rattle.patchlaws.specs.Labels.{ReadsLine, offset_digits, filled_twice, FirstRead, SecondRead, BothRead}
+use Rattle.patchlaws.specs.Labels.{filled_twice, FirstRead, SecondRead, BothRead}
 use Rattle.patchlaws.proofs.Laws.Modes.{computed, mode-commas, comma-same, offset_pc, zeros-are, mode-end}
 use Rattle.patchlaws.proofs.Laws.Labels.{unlike, zeros, offsets, is_label, no_label, before_first, before_second, second-filled, put-none, put_some, has-comma}
 use Rattle.opcodes.proofs.Laws.Past.{Below, below}

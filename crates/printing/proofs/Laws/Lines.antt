@@ -1,29 +1,24 @@
--- Where a line ends, found byte by byte.
-use Prim.Native.Nat.{ℕ, ◌+◌, ◌<◌, ◌≤◌}
-use mathlib.Core.Bool.{Bool, true, false, cond}
-use mathlib.Core.List.{List, [], ◌∷◌}
-use mathlib.Core.Path.{◌≡◌}
-use native.Mathlib.Numerals.{add-one}
-use native.Mathlib.Omega.{arith}
-use lib.Dec.{eqb}
-use lib.ListN.{length, drop, get_or, length-drop}
-use lib.Seq.{drop-cons}
+-- Where a line ends, by the bytes before its newline.
+use Rattle.std.proofs.Common.{◌≡◌, ℕ, ◌+◌, ◌≤◌, Bool, true, false, List, [], ◌∷◌, length, drop, arith, refl, ap}
+use Rattle.std.specs.Prelude.{cond, not, eqb, ◌==◌}
+use Rattle.std.specs.List.{prefix_len}
+use Rattle.std.proofs.Math.ListN.{length-drop}
 use Rattle.printing.specs.Lines.{line_length, line_ends_at}
 
--- at its newline
-pub line-ends : (t : List ℕ) (i : ℕ) → i < length t → eqb (get_or t i 0) 10 ≡ true → line_ends_at t i ≡ i
+-- counted, as the bytes of which none is a newline
+pub line-counted : (t : List ℕ) → prefix_len (λ b. not (b == 10)) t ≡ line_length t
 unfolding line_length
-line-ends t i h e = rw (drop-cons t i 0 h, e) (omega arith)
+line-counted [] = refl
+line-counted (b ∷ t) = by (eqb b 10) (line-counted t)
+  where
+    by : (e : Bool) → prefix_len (λ b. not (b == 10)) t ≡ line_length t → cond (not e) (1 + prefix_len (λ b. not (b == 10)) t) 0 ≡ cond e 0 (1 + line_length t)
+    by true h = refl
+    by false h = ap (λ n. 1 + n) h
 
--- before another byte it goes on
-pub line-goes : (t : List ℕ) (i : ℕ) → i < length t → eqb (get_or t i 0) 10 ≡ false → line_ends_at t i ≡ line_ends_at t (i + 1)
+pub line-within : (t : List ℕ) → line_length t ≤ length t
 unfolding line_length
-line-goes t i h e = rw (add-one i, drop-cons t i 0 h, e) (omega arith)
-
-within : (t : List ℕ) → line_length t ≤ length t
-unfolding line_length
-within [] = omega arith
-within (b ∷ t) = by (eqb b 10) (within t)
+line-within [] = omega arith
+line-within (b ∷ t) = by (eqb b 10) (line-within t)
   where
     by : (e : Bool) → line_length t ≤ length t → cond e 0 (1 + line_length t) ≤ length (b ∷ t)
     by true h = omega arith
@@ -31,8 +26,8 @@ within (b ∷ t) = by (eqb b 10) (within t)
 
 -- where the text ends
 pub line-whole : (t : List ℕ) (i : ℕ) → length t ≤ i → line_ends_at t i ≡ i
-line-whole t i h = let s = within (drop i t) in omega (arith, s, length-drop i t, h)
+line-whole t i h = let s = line-within (drop i t) in omega (arith, s, length-drop i t, h)
 
 -- inside the text
 pub line-fits : (t : List ℕ) (i : ℕ) → i ≤ length t → line_ends_at t i ≤ length t
-line-fits t i h = let s = within (drop i t) in omega (arith, s, length-drop i t, h)
+line-fits t i h = let s = line-within (drop i t) in omega (arith, s, length-drop i t, h)

@@ -1,5 +1,6 @@
 -- Tests over all bytes of the map and over all line words, one by one.
-use Rattle.std.proofs.Common.{◌≡◌, ℕ, zero, suc, ◌+◌, ◌<◌, ◌≤◌, Bool, true, false, cond, ◌||◌, eqb, leb, List, [], ◌∷◌, length, get_or, take, drop, refl, true≢false, add-one, arith, drop-cons, eqb-true, leb-true}
+use Rattle.std.proofs.Common.{MatchBool, HoldsAt, sym, ◌≡◌, ℕ, zero, suc, ◌+◌, ◌<◌, ◌≤◌, Bool, true, false, cond, ◌||◌, eqb, leb, List, [], ◌∷◌, length, get_or, take, drop, refl, true≢false, add-one, arith, drop-cons, eqb-true, leb-true}
+use Rattle.std.specs.List.{AllWithin}
 use lib.Seq.{drop-length}
 use Rattle.refusal.specs.Numbers.{image_length, map_length, lines_length}
 use Rattle.refusal.proofs.Laws.Page.{first-both}
@@ -28,6 +29,27 @@ all_take p (suc n) (x ∷ xs) e = split (p x) (all_take p n xs) e
     split : (b : Bool) → (all_of p xs ≡ true → all_of p (take n xs) ≡ true) → cond b (all_of p xs) false ≡ true → cond b (all_of p (take n xs)) false ≡ true
     split true h e = h e
     split false h e = e
+
+-- ---- the answer of an iterator's `all`
+
+all-within : {A : Type 0} (p : A → Bool) (xs : List A) → AllWithin (λ x. p x ≡ true) xs 0 (length xs) → all_of p xs ≡ true
+unfolding all_of
+all-within p [] h = refl
+all-within p (x ∷ xs) h = rw (h 0 x (omega arith) (omega arith), all-within p xs (λ k d l m. h (suc k) d (omega arith) (omega (arith, m)))) refl
+
+one-not : {A : Type 0} (p : A → Bool) (xs : List A) (k : ℕ) → k < length xs → HoldsAt (λ x. p x ≡ false) xs k → all_of p xs ≡ false
+unfolding all_of
+one-not p [] k l h = absurd (omega (arith, l))
+one-not p (x ∷ xs) zero l h = rw (h x) refl
+one-not p (x ∷ xs) (suc k) l h = by (p x) (one-not p xs k (omega (arith, l)) (λ d. h d))
+  where
+    by : (b : Bool) → all_of p xs ≡ false → cond b (all_of p xs) false ≡ false
+    by true e = e
+    by false e = refl
+
+pub all-decided : {A : Type 0} (p : A → Bool) (xs : List A) (r : Bool) → MatchBool r (AllWithin (λ x. p x ≡ true) xs 0 (length xs)) ((k : ℕ) × (k < length xs) × HoldsAt (λ x. p x ≡ false) xs k) → r ≡ all_of p xs
+all-decided p xs true h = sym (all-within p xs h)
+all-decided p xs false h = sym (one-not p xs h.0 h.1 h.2)
 
 -- ---- what is known where nothing is refused
 

@@ -1,6 +1,6 @@
 -- A block move's steps, where its microm is fitted, nothing is heard, no element meets a blank, nothing is written over the op code, and
 -- neither register is R0 or PC.
-use Prim.Native.Nat.{ℕ, zero, suc, ◌*◌, ◌/◌, ◌%◌, ◌<◌, ◌≤◌}
+use Prim.Native.Nat.{ℕ, suc, ◌/◌, ◌%◌, ◌<◌, ◌≤◌}
 use native.Mathlib.Omega.{arith}
 use native.Mathlib.Decide.{ℕ_discrete}
 use mathlib.Core.Bool.{Bool, true, false, cond, not, ◌&&◌}
@@ -16,7 +16,7 @@ use Rattle.state.specs.declared.State.{State}
 use Rattle.state.specs.declared.Outside.{Outside}
 use Rattle.state.specs.State.{reg, with_reg, with_mark, with_pc}
 use Rattle.state.specs.Registers.{reg_of, set_reg}
-use Rattle.state.specs.Answer.{taken_word}
+use Rattle.state.specs.Stack.{taken_word}
 use Rattle.state.specs.Stack.{fetch}
 use Rattle.format8.specs.declared.BlockMove.{BlockMove}
 use Rattle.format8.specs.Format8.{move_row, transfer, onward, registers_moved, again, element, format8}
@@ -25,7 +25,8 @@ use Rattle.format8.specs.Page.{Plain, element_count, along, block_moved, image_m
 use Rattle.format8.proofs.Laws.Moved.{once_more, once_after, once-pc, once-count, once-source, once-destination, last-after, counted-count, past-source, past-destination}
 use Rattle.step.specs.declared.Kind.TheVariants.{OpCode}
 use Rattle.step.specs.Execute.{by_format, execute, reserved}
-use Rattle.step.specs.Xct.{code, begun, traced, carry, op_work}
+use Rattle.step.specs.Xct.{begun, traced, carry, op_work}
+use Rattle.step.specs.declared.Begun.TheVariants.{Code}
 use Rattle.step.specs.declared.Cause.TheVariants as Cause
 use Rattle.step.specs.Step.{after, hears, kind_in, kind_of, work_of, step_of}
 use Rattle.step.proofs.Laws.Ends.{step-well}
@@ -63,7 +64,7 @@ fetched : (map : List ℕ) (s : State) (m : List ℕ) (op : ℕ) → fitted map 
 unfolding run fetch ◌>>=◌
 fetched map s m op e h = rw (e, h)
 
-begun-well : (map : List ℕ) (out : Outside) (s : State) (op : ℕ) (m : List ℕ) → op / 512 ≡ 7 → run map (begun out s op) m ≡ value (code s op false) m
+begun-well : (map : List ℕ) (out : Outside) (s : State) (op : ℕ) (m : List ℕ) → op / 512 ≡ 7 → run map (begun out s op) m ≡ value (Code s op false) m
 unfolding run begun
 begun-well map out s op m h = rw (ne_eqb op 5 (λ e. omega arith))
 

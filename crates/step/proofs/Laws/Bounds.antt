@@ -16,7 +16,9 @@ use Rattle.format10.proofs.Laws.Bounds.{bounded-format10}
 use Rattle.step.specs.declared.Kind.{Kind}
 use Rattle.step.specs.declared.Kind.TheVariants.{OpCode, HaltEnd, Boots, Saves, LocksUp, Restarts, Restores, NonVectored, Vectored, Waits, Stuck}
 use Rattle.step.specs.Execute.{moves, by_format}
-use Rattle.step.specs.Xct.{Begin, code, abort, begin_xct, begun, trace, traced, carry, op_work}
+use Rattle.step.specs.Xct.{begin_xct, begun, trace, traced, carry, op_work}
+use Rattle.step.specs.declared.Begun.{Begun}
+use Rattle.step.specs.declared.Begun.TheVariants.{Code, Abort}
 use Rattle.step.specs.Places.{keep, pick_up, keep_four, pick_up_four, keep_registers, pick_up_registers, save_places, restore_places}
 use Rattle.step.specs.Step.{vectored, work_of, bus_error}
 
@@ -36,10 +38,10 @@ bounded-begun : (out : Outside) (s : State) (op : ℕ) → Bounded 0 (begun out 
 unfolding begun begin_xct opened
 bounded-begun out s op = bounded-cond (eqb op 5) (search bounds) (gives _)
 
-bounded-carry : (out : Outside) (b : Begin) → Bounded 11 (carry out b)
+bounded-carry : (out : Outside) (b : Begun) → Bounded 11 (carry out b)
 unfolding carry traced trace opened
-bounded-carry out (code s op b) = bounded-then {k = 2} (omega arith) (bounded-by_format out (format_of (op / 256)) _ op) (λ s. bounded-cond b (search bounds) (gives _))
-bounded-carry out (abort s) = search bounds
+bounded-carry out (Code s op b) = bounded-then {k = 2} (omega arith) (bounded-by_format out (format_of (op / 256)) _ op) (λ s. bounded-cond b (search bounds) (gives _))
+bounded-carry out (Abort s) = search bounds
 
 pub bounded-op_work : (out : Outside) (s : State) → Bounded 11 (op_work out s)
 unfolding op_work opened

@@ -16,7 +16,6 @@ use Rattle.state.specs.Stack.{push, push_both, from_loc, trap}
 use Rattle.step.specs.declared.Kind.{Kind}
 use Rattle.step.specs.declared.Kind.TheVariants.{OpCode, HaltEnd, Boots, Saves, LocksUp, Restarts, Restores, NonVectored, Vectored, Waits, Stuck}
 use Rattle.step.specs.declared.Cause.{Cause}
-use Rattle.step.specs.declared.Cause.TheVariants as Cause
 use Rattle.step.specs.declared.Cause.TheVariants.{OpCodeBlank, InterruptBlank, SaveBlank, LockedAt}
 use Rattle.step.specs.Step.{after, cause_number, is_blank, hears, kind_in, kind_of, work_of, bus_error, cause_of, error_cause_of, error_of, step_of, or_at, past}
 use Rattle.step.proofs.Laws.Ends.{step-well, step-ill}

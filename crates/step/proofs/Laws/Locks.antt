@@ -9,12 +9,10 @@ use Rattle.board.specs.Work.{Came, value, blank, run, fitted, ◌>>=◌}
 use Rattle.state.specs.declared.State.{State}
 use Rattle.state.specs.declared.Outside.{Outside}
 use Rattle.state.specs.declared.Mode.{Mode}
-use Rattle.state.specs.declared.Mode.TheVariants as Mode
 use Rattle.state.specs.State.{with_mode}
 use Rattle.state.specs.Stack.{from_loc}
 use Rattle.step.specs.declared.Kind.{Kind}
 use Rattle.step.specs.declared.Kind.TheVariants.{OpCode, HaltEnd, Boots, Saves, Restarts, Restores, NonVectored, Vectored, Waits, Stuck}
-use Rattle.step.specs.declared.Kind.TheVariants as Kind
 use Rattle.step.specs.declared.Cause.TheVariants.{LockedAt}
 use Rattle.step.specs.Places.{pick_up, pick_up_four, pick_up_registers, restore_places}
 use Rattle.step.specs.Step.{after, cause_number, cause_of, hears, kind_in, kind_of, halt_option, work_of, step_of}

@@ -12,7 +12,7 @@ use Rattle.state.specs.State.{with_mode}
 use Rattle.step.specs.declared.Kind.{Kind}
 use Rattle.step.specs.declared.Kind.TheVariants.{OpCode, HaltEnd, Boots, Saves, LocksUp, Restarts, Restores, NonVectored, Vectored, Waits, Stuck}
 use Rattle.step.specs.declared.Cause.TheVariants.{LockedAt}
-use Rattle.step.specs.declared.Reached.TheVariants.{Nowhere, At}
+use Rattle.std.specs.Prelude.{Some, None}
 use Rattle.step.specs.Step.{After, after, cause_address, is_blank, cause_of, error_cause_of, kind_of, work_of, bus_error, or_at, error_of, step_of}
 use Rattle.step.proofs.Laws.Ends.{step-well}
 use Rattle.step.proofs.Laws.Causes.{blank-error, blank-counted, value-no-blank}
@@ -52,7 +52,7 @@ reaches map (write_at z a v w) m = found-answered map (writes a) (writable map a
 
 -- ---- what a step tells
 
-pub told-in-none : (k : Kind) → cause_address (cause_of k) ≡ Nowhere
+pub told-in-none : (k : Kind) → cause_address (cause_of k) ≡ None
 told-in-none OpCode = refl
 told-in-none HaltEnd = refl
 told-in-none Boots = refl
@@ -65,7 +65,7 @@ told-in-none Vectored = refl
 told-in-none Waits = refl
 told-in-none Stuck = refl
 
-pub told-in-error : (k : Kind) (a : ℕ) → cause_address (error_cause_of k a) ≡ At a
+pub told-in-error : (k : Kind) (a : ℕ) → cause_address (error_cause_of k a) ≡ Some a
 told-in-error OpCode a = refl
 told-in-error HaltEnd a = refl
 told-in-error Boots a = refl
@@ -79,29 +79,29 @@ told-in-error Waits a = refl
 told-in-error Stuck a = refl
 
 -- whatever the trap comes to
-trap-tells : (c : Came State) (k : Kind) (a : ℕ) (other : After) → cause_address other.cause ≡ At a → cause_address (or_at c (error_cause_of k a) (λ _. other)).cause ≡ At a
+trap-tells : (c : Came State) (k : Kind) (a : ℕ) (other : After) → cause_address other.cause ≡ Some a → cause_address (or_at c (error_cause_of k a) (λ _. other)).cause ≡ Some a
 trap-tells (value t n) k a other h = told-in-error k a
 trap-tells (blank b) k a other h = h
 
 module _ (map : List ℕ) (out : Outside) (s : State) (m : List ℕ) where
   -- Work that is done tells none.
-  pub tells_none : {t : State} {n : List ℕ} → run map (work_of (kind_of s out) out s) m ≡ value t n → cause_address (step_of map out s m).cause ≡ Nowhere
+  pub tells_none : {t : State} {n : List ℕ} → run map (work_of (kind_of s out) out s) m ≡ value t n → cause_address (step_of map out s m).cause ≡ None
   tells_none h = ap (λ a. cause_address a.cause) (sym (step-well map out s m refl h refl)) ∙ told-in-none (kind_of s out)
 
   -- Work that is dropped tells where it stopped, whether the trap succeeds or the step locks.
-  pub tells : {a : ℕ} → run map (work_of (kind_of s out) out s) m ≡ blank a → cause_address (step_of map out s m).cause ≡ At a
+  pub tells : {a : ℕ} → run map (work_of (kind_of s out) out s) m ≡ blank a → cause_address (step_of map out s m).cause ≡ Some a
   unfolding error_of
   tells {a} h =
       let k = kind_of s out in
       ap (λ r. cause_address r.cause) (blank-error map out s m h) ∙ trap-tells (run map (bus_error k out s) m) k a (after (with_mode s Locked) m (LockedAt a)) refl
 
   -- THE ADDRESS TOLD: the step's work reached it and it was not answered, and every access before it was.
-  pub told : {a : ℕ} → cause_address (step_of map out s m).cause ≡ At a → StopsAt map a (accesses map (work_of (kind_of s out) out s) m)
+  pub told : {a : ℕ} → cause_address (step_of map out s m).cause ≡ Some a → StopsAt map a (accesses map (work_of (kind_of s out) out s) m)
   told {a} h = came (run map (work_of (kind_of s out) out s) m) refl
     where
       came : (c : Came State) → run map (work_of (kind_of s out) out s) m ≡ c → StopsAt map a (accesses map (work_of (kind_of s out) out s) m)
-      came (value t n) r = let none : Nowhere ≡ At a = sym (tells_none r) ∙ h in let z : ◌≡◌ {A = ℕ} 0 1 = cc in absurd (omega arith)
-      came (blank b) r = let some : At b ≡ At a = sym (tells r) ∙ h in let same : b ≡ a = cc in subst (λ (x : ℕ). StopsAt map x (accesses map (work_of (kind_of s out) out s) m)) same (stops map _ m r)
+      came (value t n) r = let none : None ≡ Some a = sym (tells_none r) ∙ h in let z : ◌≡◌ {A = ℕ} 0 1 = cc in absurd (omega arith)
+      came (blank b) r = let some : Some b ≡ Some a = sym (tells r) ∙ h in let same : b ≡ a = cc in subst (λ (x : ℕ). StopsAt map x (accesses map (work_of (kind_of s out) out s) m)) same (stops map _ m r)
 
 -- ---- WHAT BECOMES OF A STEP, by its accesses and those of its bus error's trap
 

@@ -7,7 +7,9 @@ use mathlib.Core.List.{List, [], ◌∷◌, ◌++◌, append_assoc, append-nil}
 use mathlib.Core.Path.{◌≡◌, refl, sym, ap, ◌∙◌}
 use lib.ListN.{get_or, set, length}
 use Rattle.board.specs.Work.{Work, give, read_at, write_at, fitted, writable, get, put, image_word, run, value, blank}
-use Rattle.board.specs.Exec.{Store, beside, Now, good, log_count, log_room, note, with_note, allowed, exec, Board, Got}
+use Rattle.std.specs.Prelude.{Result, Ok}
+use Rattle.board.specs.Exec.{Store, beside, Now, good, log_count, log_room, note, with_note, allowed, exec, Board, Did, answer_as}
+use Rattle.board.specs.declared.Blank.{Blank}
 use Rattle.board.proofs.Laws.{board-noted, count-note, room-few}
 use Rattle.board.proofs.Laws.Exec.{store_of}
 use Rattle.board.proofs.Laws.Ended.{Fresh}
@@ -68,10 +70,10 @@ none_told : (l : List ℕ) → log_count l ≡ 0 → addresses l ≡ []
 unfolding entries
 none_told l e = rw e refl
 
-pub wrote-fresh : {A : Type 0} {map : List ℕ} {w : Work A} {st st₁ : Store} {r : Now A} {x : A} → Fresh map st → Got map w st r → r ≡ good x st₁
+pub wrote-fresh : {A : Type 0} {map : List ℕ} {w : Work A} {st st₁ : Store} {r : Result A Blank} {x : A} → Fresh map st → Did map w st r st₁ → r ≡ Ok x
     → addresses st₁.log ≡ written_by map w st.image
-wrote-fresh {map = map} {w = w} {st = st} f g e =
-    wrote map w st f.board (sym g.came ∙ e) ∙ ap (λ ws. ws ++ written_by map w st.image) (none_told st.log f.empty)
+wrote-fresh {map = map} {w = w} {st = st} {st₁ = st₁} f d e =
+    wrote map w st f.board (sym d.got.came ∙ ap (λ z. answer_as z st₁) e) ∙ ap (λ ws. ws ++ written_by map w st.image) (none_told st.log f.empty)
 
 pub emptied : {map m l l' : List ℕ} → Board map (beside m l) → l' ≡ set l 0 0 → addresses l' ≡ []
 emptied {l = l} {l' = l'} b e = none_told l' (ap log_count e ∙ none_left l b.whole)

@@ -3,4 +3,4 @@ use Rattle.step.proofs.bus_error.Goals as goal
 
 pub returns : goal.returns
 unfolding bus_error
-returns c = record { got = (rw (c.ps.ensures, c.past-t.ensures) at c.trap.ensures).got; board = c.trap.ensures.board }
+returns c = rw (c.ps.ensures, c.past-t.ensures) at c.trap.ensures

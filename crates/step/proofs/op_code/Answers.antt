@@ -1,6 +1,4 @@
 use Rattle.board.proofs.Laws.Ended.{ended-well, ended-blank, taken_back}
-use Rattle.state.proofs.Laws.Answer.{went_as}
-use Rattle.board.proofs.Laws.{means}
 use Rattle.step.specs.declared.Kind.TheVariants.{OpCode}
 use Rattle.step.specs.Step.{work_of}
 use Rattle.step.proofs.Laws.Bounds.{bounded-step}
@@ -12,9 +10,10 @@ op_work-requires c = (fresh-clear c.requires c.clear.ensures).board
 
 pub returns : goal.returns
 unfolding work_of
-returns c = record {
-  done = λ e. ended-well (fresh-clear c.requires c.clear.ensures) (bounded-step OpCode _ _) c.op_work.ensures.got (means went_as e);
-  lost = λ e. ended-blank (fresh-clear c.requires c.clear.ensures) (bounded-step OpCode _ _) c.op_work.ensures.got (means went_as e);
-  back = λ e. taken_back (fresh-clear c.requires c.clear.ensures) c.op_work.ensures.got (means went_as e);
-  board = c.op_work.ensures.board;
-}
+returns c = let f = fresh-clear c.requires c.clear.ensures in
+    record {
+      done = λ e. ended-well f (bounded-step OpCode _ _) c.op_work.ensures e;
+      lost = λ e. ended-blank f (bounded-step OpCode _ _) c.op_work.ensures e;
+      back = λ e. taken_back f c.op_work.ensures e;
+      board = c.op_work.ensures.board;
+    }

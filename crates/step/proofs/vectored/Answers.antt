@@ -1,17 +1,11 @@
-use Rattle.board.proofs.Laws.{got-then, got-gone, did, means}
-use Rattle.state.proofs.Laws.Answer.{went_store, went_as}
+use Rattle.board.proofs.Laws.{did-then, did-fail, did-saw}
 use Rattle.step.specs.Step.{vectored}
 use Rattle.step.proofs.vectored.Goals as goal
 
-pub returns-in_default : goal.returns-in_default
+pub returns-in_err-t : goal.returns-in_err-t
 unfolding vectored
-returns-in_default c = did (went_store c.trap_now-went.result) c.requires
-    (got-gone _ c.trap_now-went.ensures.got (means went_as c.in_default.is) (means went_as c.in_default.is))
+returns-in_err-t c = did-fail _ c.trap_now.ensures c.in_err-t.was c.from_residual.ensures.1
 
 pub returns : goal.returns
 unfolding vectored
-returns c = record {
-  got = got-then _ c.trap_now-went.ensures.got (means went_as c.in-Done.is)
-      (rw (c.plus-2.ensures, c.plus.ensures) at c.tabled.ensures).got;
-  board = c.trap_now-went.ensures.board;
-}
+returns c = did-then _ c.trap_now.ensures c.in_ok-t.was (did-saw c.trap_now.ensures.board (rw (c.plus-2.ensures, c.plus.ensures) at c.tabled.ensures))

@@ -1,12 +1,9 @@
-use Prim.Native.Nat.{◌-◌, ◌*◌, ◌≤◌}
+use Prim.Native.Nat.{◌*◌}
 use mathlib.Core.Path.{◌≡◌}
 use lib.ListN.{length}
 use Rattle.hexdigits.specs.Over.{Wrote}
 use Rattle.stepline.specs.Shown.{columns}
 use Rattle.stepline.proofs.put_columns.Given as goal
 
-abbrev pub invariant-loop-i : goal.invariant-loop-i
-invariant-loop-i l = (l.i ≤ 15) × (length l.text ≡ length l.initial.text) × (l.at ≡ l.i * 5) × Wrote (columns l.values l.i) l.initial.text l.text l.at
-
-abbrev pub decreases-loop-i : goal.decreases-loop-i
-decreases-loop-i l = 15 - l.i
+abbrev pub invariant-loop-x : goal.invariant-loop-x
+invariant-loop-x l = (length l.text ≡ length l.initial.text) × (l.at ≡ l.x-index * 5) × Wrote (columns l.fn.values l.x-index) l.initial.text l.text l.at

@@ -11,16 +11,14 @@ use borrow.Author.Tests.{eqb-true, eq-eqb}
 use Rattle.wordbytes.specs.Words.{byte_at}
 use Rattle.hexdigits.specs.Over.{in_front_of}
 use Rattle.step.specs.Step.{After}
-use Rattle.refusal.specs.Page.{Page, refused, refused_at, answered, left}
+use Rattle.refusal.specs.Page.{answered, left}
+use Rattle.std.proofs.Common.{Ok, Err}
+use Rattle.refusal.proofs.Laws.Answer.{page-one}
 use Rattle.refusal.proofs.Laws.Page.{apart, answered-one, first-both, call-right, one, one-call}
 use Rattle.job.specs.Job.{why_read}
 use Rattle.trace.specs.declared.Verdict.{Verdict}
 use Rattle.trace.specs.declared.Verdict.TheVariants.{Accepted, Wrong, Missing, Extra}
-use Rattle.trace.specs.declared.Checked.{Checked}
-use Rattle.trace.specs.declared.Checked.TheVariants as Checked
-use Rattle.trace.specs.declared.Made.{Made}
-use Rattle.trace.specs.declared.Made.TheVariants as Made
-use Rattle.trace.specs.Trace.{entry_of, entries_of, steps_of, right_trace, trace_bytes, fields_from, entries_from, told_in, why_trace, or_else, first_wrong, compared, verdict_of, VerdictPage, accepted, wrong, missing, extra, verdict_page, checked_page, why_check, buffers_after, check_of, made_page, why_make, made_of, make_of}
+use Rattle.trace.specs.Trace.{Checked, Made, entry_of, entries_of, steps_of, right_trace, trace_bytes, fields_from, entries_from, told_in, why_trace, or_else, first_wrong, compared, verdict_of, VerdictPage, accepted, wrong, missing, extra, verdict_page, checked_page, why_check, buffers_after, check_of, made_page, why_make, made_of, make_of}
 use Rattle.trace.proofs.Laws.Bytes.{right-ten, words-length, told-again, taken-again, bytes_back}
 
 -- ---- entries that are the same, and only those, are accepted
@@ -92,27 +90,27 @@ verdict-one = one verdict_from verdict-back
 -- ACCEPTED IF AND ONLY IF IT IS THE MANUAL'S TRACE: of what the check answers to a job that is not refused and a trace of bytes
 module _ (input t image map lines : List ℕ) (job : why_read (length image) (length map) (length lines) input ≡ 0) (bytes : (i : ℕ) → byte_at t i < 256)
     (r : Checked) (x : List ℕ × List ℕ × List ℕ) (met : left (checked_page r) x ≡ check_of input t image map lines) where
-  pub accepted-only : r ≡ Checked.Done Accepted → t ≡ trace_bytes (right_trace input)
+  pub accepted-only : r ≡ Ok Accepted → t ≡ trace_bytes (right_trace input)
   unfolding check_of
   accepted-only d =
       let h = call-right (why_check input t (length image) (length map) (length lines)) (left (answered (verdict_page (verdict_of input t))) (buffers_after input)) (image, map, lines) (rw d at met) in
       let v : verdict_of input t ≡ Accepted = sym (verdict-one Accepted (verdict_of input t) (answered-one (ap (λ z. z.page) h.1))) in
       accepted-right input t bytes (first-both (why_read (length image) (length map) (length lines) input) (why_trace t) h.0).1 v
 
-  pub accepted-if : t ≡ trace_bytes (right_trace input) → r ≡ Checked.Done Accepted
+  pub accepted-if : t ≡ trace_bytes (right_trace input) → r ≡ Ok Accepted
   unfolding check_of
   accepted-if e =
       let h = right-accepted input t e in
       done r (ap (λ z. z.page) (rw (job, h.0, h.1) at met))
     where
-      done : (r : Checked) → checked_page r ≡ answered accepted → r ≡ Checked.Done Accepted
-      done (Checked.Done v) e = ap Checked.Done (verdict-one v Accepted (answered-one e))
-      done (Checked.Refused why) e = absurd (apart (sym e))
+      done : (r : Checked) → checked_page r ≡ answered accepted → r ≡ Ok Accepted
+      done (Ok v) e = ap Ok (verdict-one v Accepted (answered-one e))
+      done (Err why) e = absurd (apart (sym e))
 
 -- ---- WHAT IS MADE IS ACCEPTED
 
 pub made-accepted : (input out image map lines : List ℕ) (n : ℕ) (out' image' map' lines' : List ℕ)
-    → left (made_page (Made.Bytes n)) (out', image', map', lines') ≡ make_of input out image map lines
+    → left (made_page (Ok n)) (out', image', map', lines') ≡ make_of input out image map lines
     → (i m l : List ℕ) → length i ≡ length image → length m ≡ length map → length l ≡ length lines
     → (check_of input (take n out') i m l).page ≡ answered accepted
 unfolding make_of check_of in_front_of
@@ -127,29 +125,11 @@ made-accepted input out image map lines n out' image' map' lines' e i m l hi hm 
 
 -- ---- ONE OUTCOME
 
-abbrev checked_of : Page VerdictPage → Checked
-checked_of (answered p) = Checked.Done (verdict_from p)
-checked_of (refused why) = Checked.Refused why
-checked_of (refused_at why at) = Checked.Refused why
-
-checked-back : (r : Checked) → checked_of (checked_page r) ≡ r
-checked-back (Checked.Done v) = ap Checked.Done (verdict-back v)
-checked-back (Checked.Refused why) = refl
-
 pub checked-one : (r q : Checked) → checked_page r ≡ checked_page q → r ≡ q
-checked-one = one checked_of checked-back
-
-abbrev made_from : Page ℕ → Made
-made_from (answered n) = Made.Bytes n
-made_from (refused why) = Made.Refused why
-made_from (refused_at why at) = Made.Refused why
-
-made-back : (r : Made) → made_from (made_page r) ≡ r
-made-back (Made.Bytes n) = refl
-made-back (Made.Refused why) = refl
+checked-one = page-one verdict-one
 
 pub made_one : (r q : Made) → made_page r ≡ made_page q → r ≡ q
-made_one = one made_from made-back
+made_one = page-one (λ x y e. e)
 
 pub one-check : (r q : Checked) (x y : List ℕ × List ℕ × List ℕ) → left (checked_page r) x ≡ left (checked_page q) y → (r ≡ q) × (x ≡ y)
 one-check = one-call checked_page checked-one

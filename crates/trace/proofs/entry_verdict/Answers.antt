@@ -1,4 +1,3 @@
-use Prim.Native.Nat.{◌-◌}
 use mathlib.Core.Path.{refl, sym, ◌∙◌}
 use native.Mathlib.Omega.{arith}
 use Rattle.trace.specs.Trace.{fields_from}
@@ -7,10 +6,7 @@ use Rattle.trace.proofs.Laws.{words-at, differ-more, differ-here, differ-end}
 use Rattle.trace.proofs.entry_verdict.Goals as goal
 
 pub loop-field-init : goal.loop-field-init
-loop-field-init c = (omega arith, refl)
-
-pub bounds-entry-field : goal.bounds-entry-field
-bounds-entry-field c = omega arith
+loop-field-init c = refl
 
 pub overflow_mul-field : goal.overflow_mul-field
 overflow_mul-field c = omega arith
@@ -25,21 +21,13 @@ pub returns-then-right-word_at : goal.returns-then-right-word_at
 returns-then-right-word_at c = let told = words-length c.args.trace.now c.args.at 10 in
     differ-here c.args.step c.loop-field.field c.args.entry (fields_from c.args.trace.now c.args.at 10) (omega arith) (omega arith)
     (λ e. c.if-right-word_at.true (e ∙ words-at c.args.trace.now c.args.at 10 c.loop-field.field (omega arith) ∙ sym c.word_at.ensures))
-    ∙ c.loop-field.invariant.1
-
-pub overflow_add-field : goal.overflow_add-field
-overflow_add-field c = omega arith
-
-pub loop-field-smaller : goal.loop-field-smaller
-loop-field-smaller c = omega arith
+    ∙ c.loop-field.invariant
 
 pub loop-field-preserved : goal.loop-field-preserved
-loop-field-preserved c = let told = words-length c.args.trace.now c.args.at 10 in (
-  omega arith,
-  differ-more c.args.step c.loop-field.field c.args.entry (fields_from c.args.trace.now c.args.at 10) (omega arith) (omega arith)
-      (c.if-right-word_at.false ∙ c.word_at.ensures ∙ sym (words-at c.args.trace.now c.args.at 10 c.loop-field.field (omega arith)))
-      ∙ c.loop-field.invariant.1,
-)
+loop-field-preserved c = let told = words-length c.args.trace.now c.args.at 10 in
+    differ-more c.args.step c.loop-field.field c.args.entry (fields_from c.args.trace.now c.args.at 10) (omega arith) (omega arith)
+    (c.if-right-word_at.false ∙ c.word_at.ensures ∙ sym (words-at c.args.trace.now c.args.at 10 c.loop-field.field (omega arith)))
+    ∙ c.loop-field.invariant
 
 pub returns : goal.returns
-returns c = differ-end c.args.step c.loop-field.field c.args.entry (fields_from c.args.trace.now c.args.at 10) (omega arith) ∙ c.loop-field.invariant.1
+returns c = differ-end c.args.step c.loop-field.field c.args.entry (fields_from c.args.trace.now c.args.at 10) (omega arith) ∙ c.loop-field.invariant

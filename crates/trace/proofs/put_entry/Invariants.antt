@@ -1,4 +1,4 @@
-use Prim.Native.Nat.{◌≤◌, ◌+◌, ◌*◌, ◌-◌}
+use Prim.Native.Nat.{◌+◌, ◌*◌}
 use mathlib.Core.Path.{◌≡◌}
 use lib.ListN.{length, drop}
 use lib.Seq.{sets}
@@ -6,7 +6,4 @@ use Rattle.wordbytes.specs.Words.{bytes_in}
 use Rattle.trace.proofs.put_entry.Given as goal
 
 abbrev pub invariant-loop-field : goal.invariant-loop-field
-invariant-loop-field l = (l.field ≤ 10) × (length l.out ≡ length l.initial.out) × (sets l.out (l.at + l.field * 2) (bytes_in (drop l.field l.entry)) ≡ sets l.initial.out l.at (bytes_in l.entry))
-
-abbrev pub decreases-loop-field : goal.decreases-loop-field
-decreases-loop-field l = 10 - l.field
+invariant-loop-field l = (length l.out ≡ length l.initial.out) × (sets l.out (l.at + l.field * 2) (bytes_in (drop l.field l.fn.entry)) ≡ sets l.initial.out l.at (bytes_in l.fn.entry))

@@ -7,7 +7,4 @@ use Rattle.assembler.specs.Labels.{labels_to}
 use Rattle.assembler.proofs.labelling.put_labels.Given as goal
 
 abbrev pub invariant-loop-i : goal.invariant-loop-i
-invariant-loop-i l = (l.i ≤ l.lines) × (l.lines ≡ line_count l.source) × (length l.out ≡ length l.initial.out) × WroteAt 0 (labels_to l.source l.i) l.initial.out l.out l.at
-
-abbrev pub decreases-loop-i : goal.decreases-loop-i
-decreases-loop-i l = l.lines - l.i
+invariant-loop-i l = (l.lines ≡ line_count l.source) × (length l.out ≡ length l.initial.out) × WroteAt 0 (labels_to l.source l.i) l.initial.out l.out l.at

@@ -6,7 +6,4 @@ use lib.ListN.{length, take}
 use Rattle.assembler.proofs.section.place_all.Given as goal
 
 abbrev pub invariant-loop-i : goal.invariant-loop-i
-invariant-loop-i l = (l.i ≤ l.lines) × (l.lines ≡ line_count l.source) × (l.n ≤ 3 * l.i) × (length l.table ≡ 3072) × (take l.n l.table ≡ words_placed l.source l.i)
-
-abbrev pub decreases-loop-i : goal.decreases-loop-i
-decreases-loop-i l = l.lines - l.i
+invariant-loop-i l = (l.lines ≡ line_count l.source) × (l.n ≤ 3 * l.i) × (length l.table ≡ 3072) × (take l.n l.table ≡ words_placed l.source l.i)

@@ -6,7 +6,4 @@ use lib.ListN.{length, take}
 use Rattle.assembler.proofs.section.put_entries.Given as goal
 
 abbrev pub invariant-loop-i : goal.invariant-loop-i
-invariant-loop-i l = (l.i ≤ l.n) × (length l.out ≡ length l.initial.out) × WroteAt l.from (section_bytes (take l.i l.table)) l.initial.out l.out l.at
-
-abbrev pub decreases-loop-i : goal.decreases-loop-i
-decreases-loop-i l = l.n - l.i
+invariant-loop-i l = (length l.out ≡ length l.initial.out) × WroteAt l.from (section_bytes (take l.i l.table)) l.initial.out l.out l.at

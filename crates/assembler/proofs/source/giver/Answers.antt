@@ -1,4 +1,4 @@
-use mathlib.Core.Path.{refl, sym, ◌∙◌}
+use mathlib.Core.Path.{◌≡◌, refl, sym, ◌∙◌}
 use Prim.Native.Nat.{◌-◌}
 use native.Mathlib.Omega.{arith}
 use Rattle.optext.proofs.Laws.Choose.{first_found, first_next, first-end}
@@ -8,16 +8,16 @@ use Rattle.assembler.proofs.source.giver.Goals as goal
 
 pub loop-i-init : goal.loop-i-init
 unfolding giver_of
-loop-i-init c = (omega arith, c.count-n.ensures, rw c.count-n.ensures (first-start (gives_at c.args.source.now c.args.u.now) (line_count c.args.source.now) _ refl))
+loop-i-init c = (c.count-n.ensures, rw c.count-n.ensures (first-start (gives_at c.args.source.now c.args.u.now) (line_count c.args.source.now) _ refl))
 
 pub gives_at-requires : goal.gives_at-requires
-gives_at-requires c = omega (arith, c.loop-i.invariant.1)
+gives_at-requires c = omega (arith, c.loop-i.invariant.0)
 
 pub returns-then-gives_at : goal.returns-then-gives_at
-returns-then-gives_at c = let l = c.loop-i in (first_found (gives_at c.args.source.now c.args.u.now) c.count-n.result l.i _ l.invariant.2 c.loop-i-test.true (sym c.gives_at.ensures ∙ c.if-gives_at.true), omega (arith, l.invariant.1))
+returns-then-gives_at c = let l = c.loop-i in (first_found (gives_at c.args.source.now c.args.u.now) c.count-n.result l.i _ l.invariant.1 c.loop-i-test.true (sym c.gives_at.ensures ∙ c.if-gives_at.true), omega (arith, l.invariant.0))
 
 pub loop-i-preserved : goal.loop-i-preserved
-loop-i-preserved c = let l = c.loop-i in (omega arith, l.invariant.1, first_next (gives_at c.args.source.now c.args.u.now) c.count-n.result l.i _ l.invariant.2 c.loop-i-test.true (sym c.gives_at.ensures ∙ c.if-gives_at.false))
+loop-i-preserved c = let l = c.loop-i in (l.invariant.0, first_next (gives_at c.args.source.now c.args.u.now) c.count-n.result l.i _ l.invariant.1 c.loop-i-test.true (sym c.gives_at.ensures ∙ c.if-gives_at.false))
 
 pub returns : goal.returns
-returns c = let l = c.loop-i in (first-end (gives_at c.args.source.now c.args.u.now) c.count-n.result l.i _ l.invariant.2 c.loop-i-test.false, omega (arith, l.invariant.1))
+returns c = let l = c.loop-i in let z : l.i ≡ c.count-n.result = omega arith in (sym z ∙ first-end (gives_at c.args.source.now c.args.u.now) c.count-n.result l.i _ l.invariant.1 c.loop-i-test.false, omega (arith, l.invariant.0))

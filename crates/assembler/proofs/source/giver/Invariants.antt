@@ -5,7 +5,4 @@ use Rattle.optext.specs.First.{first_from}
 use Rattle.assembler.proofs.source.giver.Given as goal
 
 abbrev pub invariant-loop-i : goal.invariant-loop-i
-invariant-loop-i l = (l.i ≤ l.n) × (l.n ≡ line_count l.source) × (giver_of l.source l.u ≡ first_from (gives_at l.source l.u) (l.n - l.i) l.i)
-
-abbrev pub decreases-loop-i : goal.decreases-loop-i
-decreases-loop-i l = l.n - l.i
+invariant-loop-i l = (l.n ≡ line_count l.source) × (giver_of l.source l.u ≡ first_from (gives_at l.source l.u) (l.n - l.i) l.i)

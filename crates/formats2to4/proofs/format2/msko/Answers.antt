@@ -1,15 +1,11 @@
-use mathlib.Core.Path.{refl}
-use Rattle.board.proofs.Laws.{got-then, got-gone, got-give, did, unwritten_at, stored_as, means}
+use Rattle.board.proofs.Laws.{did-then, did-fail, did-give}
 use Rattle.formats2to4.specs.Format2.{msko}
 use Rattle.formats2to4.proofs.format2.msko.Goals as goal
 
-pub returns-in_default : goal.returns-in_default
+pub returns-in_err-store : goal.returns-in_err-store
 unfolding msko
-returns-in_default c = let kept = (rw c.reg.ensures at c.store.ensures).got in
-    did refl c.requires (got-gone _ kept (unwritten_at kept (means stored_as c.in_default.is)) refl)
+returns-in_err-store c = did-fail _ (rw c.reg.ensures at c.store.ensures) c.in_err-store.was c.from_residual.ensures.1
 
 pub returns : goal.returns
 unfolding msko
-returns c = did refl c.requires
-    (got-then _ (rw c.reg.ensures at c.store.ensures).got (means stored_as c.in-Done.is)
-    (got-give refl))
+returns c = did-then _ (rw c.reg.ensures at c.store.ensures) c.in_ok-store.was (did-give c.store.ensures.board)

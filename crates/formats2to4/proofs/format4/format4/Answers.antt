@@ -5,18 +5,12 @@ use Rattle.formats2to4.proofs.format4.format4.Goals as goal
 
 pub returns-then-opc-eq1 : goal.returns-then-opc-eq1
 unfolding format4
-returns-then-opc-eq1 c = rw (← c.argument-n.ensures, ← c.format4_code-opc.ensures)
-    (rw c.if-opc-eq1.true
-    (record { got = c.svca.ensures.got; board = c.svca.ensures.board }))
+returns-then-opc-eq1 c = rw (← c.argument-n.ensures, ← c.format4_code-opc.ensures, c.if-opc-eq1.true) c.svca.ensures
 
 pub returns-then-opc-eq2 : goal.returns-then-opc-eq2
 unfolding format4
-returns-then-opc-eq2 c = rw (← c.argument-n.ensures, ← c.format4_code-opc.ensures)
-    (rw c.if-opc-eq2.true
-    (record { got = c.svc.ensures.got; board = c.svc.ensures.board }))
+returns-then-opc-eq2 c = rw (← c.argument-n.ensures, ← c.format4_code-opc.ensures, c.if-opc-eq2.true) c.svc.ensures
 
 pub returns : goal.returns
 unfolding format4
-returns c = rw (← c.argument-n.ensures, ← c.format4_code-opc.ensures)
-    (rw (format4-last _ _ _ _ c.if-opc-eq1.false c.if-opc-eq2.false (search rules))
-    (record { got = c.svc-2.ensures.got; board = c.svc-2.ensures.board }))
+returns c = rw (← c.argument-n.ensures, ← c.format4_code-opc.ensures, format4-last _ _ _ _ c.if-opc-eq1.false c.if-opc-eq2.false (search rules)) c.svc-2.ensures

@@ -1,35 +1,28 @@
-use Rattle.board.proofs.Laws.{got-then, got-gone, did, means}
-use Rattle.state.proofs.Laws.Answer.{went_store, went_as}
+use Rattle.board.proofs.Laws.{did-then, did-fail, did-saw}
 use Rattle.formats2to4.specs.Format4.{svc}
 use Rattle.formats2to4.proofs.format4.svc.Goals as goal
 
-pub returns-in_default : goal.returns-in_default
+pub returns-in_err-both : goal.returns-in_err-both
 unfolding svc
-returns-in_default c = did (went_store c.push_both-went.result) c.requires
-    (got-gone _ (rw c.ps.ensures at c.push_both-went.ensures).got (means went_as c.in_default.is) (means went_as c.in_default.is))
+returns-in_err-both c = did-fail _ (rw c.ps.ensures at c.push_both.ensures) c.in_err-both.was c.from_residual.ensures.1
 
-pub returns-in_default-went : goal.returns-in_default-went
+pub returns-in_err-pushed : goal.returns-in_err-pushed
 unfolding svc
-returns-in_default-went c = did (went_store c.push-went.result) c.requires
-    (got-then _ (rw c.ps.ensures at c.push_both-went.ensures).got (means went_as c.in-Done.is)
-    (got-gone _ c.push-went.ensures.got (means went_as c.in_default-went.is) (means went_as c.in_default-went.is)))
+returns-in_err-pushed c = did-then _ (rw c.ps.ensures at c.push_both.ensures) c.in_ok-both.was
+    (did-fail _ c.push.ensures c.in_err-pushed.was c.from_residual-in_err-pushed.ensures.1)
 
-pub returns-in_default-went-2 : goal.returns-in_default-went-2
+pub returns-in_err-saved : goal.returns-in_err-saved
 unfolding svc
-returns-in_default-went-2 c = did (went_store c.save-went.result) c.requires
-    (got-then _ (rw c.ps.ensures at c.push_both-went.ensures).got (means went_as c.in-Done.is)
-    (got-then _ c.push-went.ensures.got (means went_as c.in-Done-went.is)
-    (got-gone _ c.save-went.ensures.got (means went_as c.in_default-went-2.is) (means went_as c.in_default-went-2.is))))
+returns-in_err-saved c = did-then _ (rw c.ps.ensures at c.push_both.ensures) c.in_ok-both.was
+    (did-then _ c.push.ensures c.in_ok-pushed.was
+    (did-fail _ c.save.ensures c.in_err-saved.was c.from_residual-in_err-saved.ensures.1))
 
 pub from_loc-requires : goal.from_loc-requires
-from_loc-requires c = c.save-went.ensures.board.lent
+from_loc-requires c = c.save.ensures.board.lent
 
 pub returns : goal.returns
 unfolding svc
-returns c = record {
-  got = got-then _ (rw c.ps.ensures at c.push_both-went.ensures).got (means went_as c.in-Done.is)
-      (got-then _ c.push-went.ensures.got (means went_as c.in-Done-went.is)
-      (got-then _ c.save-went.ensures.got (means went_as c.in-Done-went-2.is)
-      (rw (c.with_reg-2.ensures, c.plus.ensures, c.with_reg.ensures) at c.from_loc.ensures).got));
-  board = c.save-went.ensures.board;
-}
+returns c = did-then _ (rw c.ps.ensures at c.push_both.ensures) c.in_ok-both.was
+    (did-then _ c.push.ensures c.in_ok-pushed.was
+    (did-then _ c.save.ensures c.in_ok-saved.was
+    (did-saw c.save.ensures.board (rw (c.with_reg-2.ensures, c.plus.ensures, c.with_reg.ensures) at c.from_loc.ensures))))

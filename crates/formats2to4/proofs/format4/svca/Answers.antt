@@ -1,25 +1,18 @@
-use mathlib.Core.Path.{refl}
-use Rattle.board.proofs.Laws.{got-then, got-gone, did, unread-at, word_as, means}
-use Rattle.state.proofs.Laws.Answer.{went_store, went_as}
+use Rattle.board.proofs.Laws.{did-then, did-fail, did-saw}
 use Rattle.formats2to4.specs.Format4.{svca}
 use Rattle.formats2to4.proofs.format4.svca.Goals as goal
 
-pub returns-in_default : goal.returns-in_default
+pub returns-in_err-t : goal.returns-in_err-t
 unfolding svca
-returns-in_default c = did (went_store c.push_both-went.result) c.requires
-    (got-gone _ (rw c.ps.ensures at c.push_both-went.ensures).got (means went_as c.in_default.is) (means went_as c.in_default.is))
+returns-in_err-t c = did-fail _ (rw c.ps.ensures at c.push_both.ensures) c.in_err-t.was c.from_residual.ensures.1
 
-pub returns-in_default-load : goal.returns-in_default-load
+pub returns-in_err-table : goal.returns-in_err-table
 unfolding svca
-returns-in_default-load c = did refl c.requires
-    (got-then _ (rw c.ps.ensures at c.push_both-went.ensures).got (means went_as c.in-Done.is)
-    (got-gone _ c.load.ensures.got (unread-at c.load.ensures.got (means word_as c.in_default-load.is)) refl))
+returns-in_err-table c = did-then _ (rw c.ps.ensures at c.push_both.ensures) c.in_ok-t.was
+    (did-fail _ (did-saw c.push_both.ensures.board c.load.ensures) c.in_err-table.was c.from_residual-in_err-table.ensures.1)
 
 pub returns : goal.returns
 unfolding svca
-returns c = record {
-  got = got-then _ (rw c.ps.ensures at c.push_both-went.ensures).got (means went_as c.in-Done.is)
-      (got-then _ c.load.ensures.got (means word_as c.in-Value.is)
-      (rw (c.plus-2.ensures, c.plus.ensures) at c.tabled.ensures).got);
-  board = c.push_both-went.ensures.board;
-}
+returns c = did-then _ (rw c.ps.ensures at c.push_both.ensures) c.in_ok-t.was
+    (did-then _ (did-saw c.push_both.ensures.board c.load.ensures) c.in_ok-table.was
+    (did-saw c.push_both.ensures.board (rw (c.plus-2.ensures, c.plus.ensures) at c.tabled.ensures)))

@@ -1,4 +1,3 @@
-use Prim.Native.Nat.{◌-◌}
 use native.Mathlib.Omega.{arith}
 use mathlib.Core.Path.{refl, sym, ◌∙◌}
 use Rattle.machine.proofs.Laws.Until.{onto-none, onto-more, steps-more, steps-end, steps-over, ended}

@@ -2,10 +2,10 @@ use native.Mathlib.Omega.{arith}
 use Rattle.machine.specs.Run.{blank_noted}
 use Rattle.machine.proofs.runs.blank_noted.Goals as goal
 
-pub returns-in-At : goal.returns-in-At
+pub returns-in-Some : goal.returns-in-Some
 unfolding blank_noted
-returns-in-At c = (rw (c.in-At.is, c.first_kept.ensures), omega arith)
+returns-in-Some c = (rw (c.in-Some.is, c.first_kept.ensures), omega arith)
 
-pub returns-in-Nowhere : goal.returns-in-Nowhere
+pub returns-in-None : goal.returns-in-None
 unfolding blank_noted
-returns-in-Nowhere c = (rw c.in-Nowhere.is, omega arith)
+returns-in-None c = (rw c.in-None.is, omega arith)

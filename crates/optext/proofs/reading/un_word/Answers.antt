@@ -4,8 +4,8 @@ use Rattle.optext.proofs.reading.un_word.Goals as goal
 
 pub returns-then-c-eq55 : goal.returns-then-c-eq55
 unfolding un_word
-returns-then-c-eq55 c = rw (← c.ch-c.ensures, eq-eqb _ _ c.if-c-eq55.true, c.un_hex-x.ensures.0, c.un_hex-y.ensures.0, c.un_hex-z.ensures.0, c.ch.ensures, c.ch-2.ensures, c.ch-3.ensures) refl
+returns-then-c-eq55 c = rw (← c.byte_at-c.ensures, eq-eqb _ _ c.if-c-eq55.true, c.un_hex-x.ensures.0, c.un_hex-y.ensures.0, c.un_hex-z.ensures.0, c.byte_at.ensures, c.byte_at-2.ensures, c.byte_at-3.ensures) refl
 
 pub returns : goal.returns
 unfolding un_word
-returns c = rw (← c.ch-c.ensures, ne_eqb _ _ c.if-c-eq55.false, c.un_hex-x.ensures.0, c.un_hex-y.ensures.0, c.un_hex-z.ensures.0, c.ch.ensures, c.ch-2.ensures, c.ch-3.ensures) refl
+returns c = rw (← c.byte_at-c.ensures, ne_eqb _ _ c.if-c-eq55.false, c.un_hex-x.ensures.0, c.un_hex-y.ensures.0, c.un_hex-z.ensures.0, c.byte_at.ensures, c.byte_at-2.ensures, c.byte_at-3.ensures) refl

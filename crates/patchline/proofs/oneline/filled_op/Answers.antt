@@ -2,18 +2,18 @@ use mathlib.Core.Path.{◌≡◌, ap, sym, ◌∙◌}
 use mathlib.Core.List.{List}
 use Prim.Native.Nat.{ℕ}
 use native.Mathlib.Omega.{arith}
-use Rattle.patchline.proofs.Laws.{filled-le}
+use Rattle.patchline.proofs.Laws.{filled-le, op_or-is, op-some}
 use Rattle.patchline.proofs.Long.{long-none}
 use lib.ListN.{length}
 use lib.Seq.{length-take-le}
-use Rattle.patchline.specs.Line.{op_in}
+use Rattle.patchline.specs.Line.{op_in, op_or}
 use Rattle.optext.specs.Read.{words_of_text, op_of}
 use Rattle.hexdigits.proofs.Laws.Laid.{wrote-take}
 use Rattle.patchline.proofs.oneline.filled_op.Goals as goal
 
 pub returns-then-t-gt33 : goal.returns-then-t-gt33
 returns-then-t-gt33 c = let a = c.args in
-    (c.word_op.ensures ∙ sym (long-none a.d.now a.t.now c.requires.0 c.if-t-gt33.true), rw c.word_op.ensures (omega arith))
+    (sym (long-none a.d.now a.t.now c.requires.0 c.if-t-gt33.true), tt)
 
 pub slice_bounds-out-end : goal.slice_bounds-out-end
 slice_bounds-out-end c = let a = c.args in
@@ -27,4 +27,5 @@ slice_bounds-op_of-end c = let a = c.args in
 
 pub returns : goal.returns
 unfolding op_in
-returns c = (c.op_of.ensures.0 ∙ ap (λ (l : List ℕ). op_of (words_of_text l)) (wrote-take _ _ _ _ c.put_filled-n.ensures), c.op_of.ensures.1)
+returns c = let e = c.op_of.ensures.0 in
+    (ap op_or e ∙ op_or-is _ ∙ ap (λ (l : List ℕ). op_of (words_of_text l)) (wrote-take _ _ _ _ c.put_filled-n.ensures), op-some _ _ e c.op_of.ensures.1)

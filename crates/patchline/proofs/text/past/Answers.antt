@@ -1,20 +1,19 @@
-use mathlib.Core.Path.{refl, sym, ◌∙◌}
-use native.Mathlib.Omega.{arith}
-use Rattle.optext.proofs.Laws.Choose.{first_found, first_next, first-end}
-use Rattle.patchline.proofs.Laws.Search.{first-start}
-use Rattle.patchline.specs.Text.{is_past, past_of}
-use lib.ListN.{length}
+use Rattle.std.proofs.Common.{ℕ, ◌≡◌, leb, ◌&&◌, ◌∙◌, arith, rules}
+use borrow.Author.Tests.{tests}
+use Rattle.std.proofs.lemmas.Iterator.{YieldsList-from_slice}
+use Rattle.std.proofs.lemmas.Iterator.Consumers.{YieldsList-at, count_from_yields_List}
+use Rattle.std.proofs.lemmas.Iterator.Search.{YieldsList-from_take_while}
+use Rattle.std.proofs.lemmas.List.Folds.{length-prefix_len}
+use Rattle.patchline.specs.Text.{past_of}
+use Rattle.patchline.proofs.Laws.{letters-past, letters-le}
 use Rattle.patchline.proofs.text.past.Goals as goal
 
-pub loop-i-init : goal.loop-i-init
-unfolding past_of
-loop-i-init c = (omega arith, first-start (is_past c.args.top c.args.t.now) (length c.args.t.now) _ refl)
-
-pub returns-then-is_past : goal.returns-then-is_past
-returns-then-is_past c = let l = c.loop-i in (first_found (is_past c.args.top c.args.t.now) (length c.args.t.now) l.i _ l.invariant.1 (omega arith) (sym c.is_past.ensures ∙ c.if-is_past.true), omega arith)
-
-pub loop-i-preserved : goal.loop-i-preserved
-loop-i-preserved c = let l = c.loop-i in (omega arith, first_next (is_past c.args.top c.args.t.now) (length c.args.t.now) l.i _ l.invariant.1 (omega arith) (sym c.is_past.ensures ∙ c.if-is_past.false))
-
 pub returns : goal.returns
-returns c = let l = c.loop-i in (first-end (is_past c.args.top c.args.t.now) (length c.args.t.now) l.i _ l.invariant.1 (omega arith), omega arith)
+returns c = let t = c.args.t.now in
+    let top = c.args.top in
+    let e : c.count.result ≡ past_of top t = count_from_yields_List c.take_while.result _ c.count.ensures.ran
+    (YieldsList-from_take_while _ (λ (x : ℕ). leb 65 x && leb x top)
+    (YieldsList-at c.take_while.ensures.source (YieldsList-from_slice t cc))
+    c.take_while.ensures.closure c.take_while.ensures.done (λ x b q k. search (rules, tests)))
+    ∙ length-prefix_len (λ (x : ℕ). leb 65 x && leb x top) t ∙ letters-past top t in
+    (e, omega (arith, letters-le top t, e))

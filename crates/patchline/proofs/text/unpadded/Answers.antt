@@ -1,13 +1,20 @@
-use mathlib.Core.Path.{ap, sym}
-use Prim.Native.Nat.{ℕ}
+use Rattle.std.proofs.Common.{refl, ap, sym, ◌∙◌, arith, rules}
 use Rattle.patchline.specs.Text.{without_padding}
-use lib.ListN.{take}
-use lib.Seq.{length-take-le}
+use Rattle.patchline.proofs.Laws.{pad-kept, pad_more, pad_none}
 use Rattle.patchline.proofs.text.unpadded.Goals as goal
 
-pub slice_bounds-result-end : goal.slice_bounds-result-end
-slice_bounds-result-end c = sym (length-take-le _ _ c.end-n.ensures.1)
+pub loop-last-init : goal.loop-last-init
+loop-last-init c = refl
+
+pub returns-then-last-ne32 : goal.returns-then-last-ne32
+returns-then-last-ne32 c = let e = c.in-Some.ensures.cases.0 in
+    e ∙ sym (pad-kept _ _ c.if-last-ne32.true) ∙ ap without_padding (sym e) ∙ c.loop-last.invariant
+
+pub loop-last-smaller : goal.loop-last-smaller
+loop-last-smaller c = omega (arith, c.in-Some.ensures.cases.1)
+
+pub loop-last-preserved : goal.loop-last-preserved
+loop-last-preserved c = sym (pad_more _ _ c.if-last-ne32.false) ∙ ap without_padding (sym c.in-Some.ensures.cases.0) ∙ c.loop-last.invariant
 
 pub returns : goal.returns
-unfolding without_padding
-returns c = ap (λ (n : ℕ). take n c.args.t.now) c.end-n.ensures.0
+returns c = pad_none _ (search rules) ∙ c.loop-last.invariant

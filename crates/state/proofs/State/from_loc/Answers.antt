@@ -1,15 +1,11 @@
-use mathlib.Core.Path.{refl}
-use Rattle.board.proofs.Laws.{got-then, got-gone, got-give, unread-at, word_as, means}
+use Rattle.board.proofs.Laws.{saw-then, saw-fail, saw-give}
 use Rattle.state.specs.Stack.{from_loc}
 use Rattle.state.proofs.State.from_loc.Goals as goal
 
-pub returns-in_default : goal.returns-in_default
+pub returns-in_err-v : goal.returns-in_err-v
 unfolding from_loc
-returns-in_default c = record { got = got-gone _ c.load.ensures.got (unread-at c.load.ensures.got (means word_as c.in_default.is)) refl }
+returns-in_err-v c = saw-fail _ c.load.ensures c.in_err-v.was c.from_residual.ensures.1
 
 pub returns : goal.returns
 unfolding from_loc
-returns c = record {
-  got = got-then _ c.load.ensures.got (means word_as c.in-Value.is)
-      (got-give (rw c.with_pc.ensures));
-}
+returns c = saw-then _ c.load.ensures c.in_ok-v.was (rw c.with_pc.ensures saw-give)

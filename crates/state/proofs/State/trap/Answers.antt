@@ -1,20 +1,11 @@
-use Rattle.board.proofs.Laws.{got-then, got-gone, did, means}
-use Rattle.state.proofs.Laws.Answer.{went_store, went_as}
+use Rattle.board.proofs.Laws.{did-then, did-fail, did-saw}
 use Rattle.state.specs.Stack.{trap}
 use Rattle.state.proofs.State.trap.Goals as goal
 
-pub returns-in_default : goal.returns-in_default
+pub returns-in_err-s : goal.returns-in_err-s
 unfolding trap
-returns-in_default c = did (went_store c.push_both-pushed.result) c.requires
-    (got-gone _ c.push_both-pushed.ensures.got (means went_as c.in_default.is) (means went_as c.in_default.is))
-
-pub from_loc-requires : goal.from_loc-requires
-from_loc-requires c = c.push_both-pushed.ensures.board.lent
+returns-in_err-s c = did-fail _ c.push_both.ensures c.in_err-s.was c.from_residual.ensures.1
 
 pub returns : goal.returns
 unfolding trap
-returns c = record {
-  got = got-then _ c.push_both-pushed.ensures.got (means went_as c.in-Done.is)
-      (rw (c.with_mode.ensures, c.with_mark.ensures, c.with_i2.ensures) at c.from_loc.ensures).got;
-  board = c.push_both-pushed.ensures.board;
-}
+returns c = did-then _ c.push_both.ensures c.in_ok-s.was (rw (← c.with_i2.ensures, ← c.with_mark.ensures, ← c.with_mode.ensures) (did-saw c.push_both.ensures.board c.from_loc.ensures))

@@ -3,4 +3,4 @@ use Rattle.step.proofs.places.keep.Goals as goal
 
 pub returns : goal.returns
 unfolding keep
-returns c = record { got = (rw (c.reg.ensures, c.plus.ensures) at c.store.ensures).got; board = c.store.ensures.board }
+returns c = rw (c.reg.ensures, c.plus.ensures) at c.store.ensures

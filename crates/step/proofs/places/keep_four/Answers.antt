@@ -1,32 +1,24 @@
-use Rattle.board.proofs.Laws.{got-then, got-gone, did, stored_as, means}
-use Rattle.state.proofs.Laws.Answer.{kept_store}
+use Rattle.board.proofs.Laws.{did-then, did-fail}
 use Rattle.step.specs.Places.{keep_four}
 use Rattle.step.proofs.places.keep_four.Goals as goal
 
-pub returns-in_default : goal.returns-in_default
+pub returns-in_err-keep : goal.returns-in_err-keep
 unfolding keep_four
-returns-in_default c = did (kept_store c.keep-kept1.result) c.requires
-    (got-gone _ c.keep-kept1.ensures.got (means stored_as c.in_default.is) (means stored_as c.in_default.is))
+returns-in_err-keep c = did-fail _ c.keep.ensures c.in_err-keep.was c.from_residual.ensures.1
 
-pub returns-in_default-kept2 : goal.returns-in_default-kept2
+pub returns-in_err-keep-2 : goal.returns-in_err-keep-2
 unfolding keep_four
-returns-in_default-kept2 c = did (kept_store c.keep-kept2.result) c.requires
-    (got-then _ c.keep-kept1.ensures.got (means stored_as c.in-Done.is)
-    (got-gone _ c.keep-kept2.ensures.got (means stored_as c.in_default-kept2.is) (means stored_as c.in_default-kept2.is)))
+returns-in_err-keep-2 c = did-then _ c.keep.ensures c.in_ok-keep.was
+    (did-fail _ c.keep-2.ensures c.in_err-keep-2.was c.from_residual-in_err-keep-2.ensures.1)
 
-pub returns-in_default-kept3 : goal.returns-in_default-kept3
+pub returns-in_err-keep-3 : goal.returns-in_err-keep-3
 unfolding keep_four
-returns-in_default-kept3 c = did (kept_store c.keep-kept3.result) c.requires
-    (got-then _ c.keep-kept1.ensures.got (means stored_as c.in-Done.is)
-    (got-then _ c.keep-kept2.ensures.got (means stored_as c.in-Done-kept2.is)
-    (got-gone _ c.keep-kept3.ensures.got (means stored_as c.in_default-kept3.is) (means stored_as c.in_default-kept3.is))))
+returns-in_err-keep-3 c = did-then _ c.keep.ensures c.in_ok-keep.was
+    (did-then _ c.keep-2.ensures c.in_ok-keep-2.was
+    (did-fail _ c.keep-3.ensures c.in_err-keep-3.was c.from_residual-in_err-keep-3.ensures.1))
 
 pub returns : goal.returns
 unfolding keep_four
-returns c = record {
-  got = got-then _ c.keep-kept1.ensures.got (means stored_as c.in-Done.is)
-      (got-then _ c.keep-kept2.ensures.got (means stored_as c.in-Done-kept2.is)
-      (got-then _ c.keep-kept3.ensures.got (means stored_as c.in-Done-kept3.is)
-      c.keep.ensures.got));
-  board = c.keep.ensures.board;
-}
+returns c = did-then _ c.keep.ensures c.in_ok-keep.was
+    (did-then _ c.keep-2.ensures c.in_ok-keep-2.was
+    (did-then _ c.keep-3.ensures c.in_ok-keep-3.was c.keep-4.ensures))

@@ -1,17 +1,11 @@
-use Rattle.board.proofs.Laws.{got-then, got-gone, did, stored_as, means}
-use Rattle.state.proofs.Laws.Answer.{kept_store}
+use Rattle.board.proofs.Laws.{did-then, did-fail}
 use Rattle.step.specs.Places.{keep_registers}
 use Rattle.step.proofs.places.keep_registers.Goals as goal
 
-pub returns-in_default : goal.returns-in_default
+pub returns-in_err-keep_four : goal.returns-in_err-keep_four
 unfolding keep_registers
-returns-in_default c = did (kept_store c.keep_four-kept.result) c.requires
-    (got-gone _ c.keep_four-kept.ensures.got (means stored_as c.in_default.is) (means stored_as c.in_default.is))
+returns-in_err-keep_four c = did-fail _ c.keep_four.ensures c.in_err-keep_four.was c.from_residual.ensures.1
 
 pub returns : goal.returns
 unfolding keep_registers
-returns c = record {
-  got = got-then _ c.keep_four-kept.ensures.got (means stored_as c.in-Done.is)
-      c.keep_four.ensures.got;
-  board = c.keep_four.ensures.board;
-}
+returns c = did-then _ c.keep_four.ensures c.in_ok-keep_four.was c.keep_four-2.ensures

@@ -1,15 +1,11 @@
-use mathlib.Core.Path.{refl}
-use Rattle.board.proofs.Laws.{got-then, got-gone, got-give, unread-at, word_as, means}
+use Rattle.board.proofs.Laws.{saw-then, saw-fail, saw-give}
 use Rattle.step.specs.Places.{pick_up}
 use Rattle.step.proofs.places.pick_up.Goals as goal
 
-pub returns-in_default : goal.returns-in_default
+pub returns-in_err-v : goal.returns-in_err-v
 unfolding pick_up
-returns-in_default c = record { got = got-gone _ (rw c.plus-place.ensures at c.load.ensures).got (unread-at (rw c.plus-place.ensures at c.load.ensures).got (means word_as c.in_default.is)) (rw c.plus-place.ensures refl) }
+returns-in_err-v c = saw-fail _ (rw c.plus-place.ensures at c.load.ensures) c.in_err-v.was c.from_residual.ensures.1
 
 pub returns : goal.returns
 unfolding pick_up
-returns c = record {
-  got = got-then _ (rw c.plus-place.ensures at c.load.ensures).got (means word_as c.in-Value.is)
-      (got-give (rw c.with_reg.ensures));
-}
+returns c = saw-then _ (rw c.plus-place.ensures at c.load.ensures) c.in_ok-v.was (rw c.with_reg.ensures saw-give)

@@ -1,35 +1,24 @@
-use Rattle.board.proofs.Laws.{got-then, got-gone, means}
-use Rattle.state.proofs.Laws.Answer.{went_as}
+use Rattle.board.proofs.Laws.{saw-then, saw-fail}
 use Rattle.step.specs.Places.{pick_up_four}
 use Rattle.step.proofs.places.pick_up_four.Goals as goal
 
-pub pick_up-requires : goal.pick_up-requires
-pick_up-requires c = c.requires
-
-pub returns-in_default : goal.returns-in_default
+pub returns-in_err-s1 : goal.returns-in_err-s1
 unfolding pick_up_four
-returns-in_default c = record { got = got-gone _ c.pick_up-went1.ensures.got (means went_as c.in_default.is) (means went_as c.in_default.is) }
+returns-in_err-s1 c = saw-fail _ c.pick_up.ensures c.in_err-s1.was c.from_residual.ensures.1
 
-pub returns-in_default-went2 : goal.returns-in_default-went2
+pub returns-in_err-s2 : goal.returns-in_err-s2
 unfolding pick_up_four
-returns-in_default-went2 c = record {
-  got = got-then _ c.pick_up-went1.ensures.got (means went_as c.in-Done.is)
-      (got-gone _ c.pick_up-went2.ensures.got (means went_as c.in_default-went2.is) (means went_as c.in_default-went2.is));
-}
+returns-in_err-s2 c = saw-then _ c.pick_up.ensures c.in_ok-s1.was
+    (saw-fail _ c.pick_up-2.ensures c.in_err-s2.was c.from_residual-in_err-s2.ensures.1)
 
-pub returns-in_default-went3 : goal.returns-in_default-went3
+pub returns-in_err-s3 : goal.returns-in_err-s3
 unfolding pick_up_four
-returns-in_default-went3 c = record {
-  got = got-then _ c.pick_up-went1.ensures.got (means went_as c.in-Done.is)
-      (got-then _ c.pick_up-went2.ensures.got (means went_as c.in-Done-went2.is)
-      (got-gone _ c.pick_up-went3.ensures.got (means went_as c.in_default-went3.is) (means went_as c.in_default-went3.is)));
-}
+returns-in_err-s3 c = saw-then _ c.pick_up.ensures c.in_ok-s1.was
+    (saw-then _ c.pick_up-2.ensures c.in_ok-s2.was
+    (saw-fail _ c.pick_up-3.ensures c.in_err-s3.was c.from_residual-in_err-s3.ensures.1))
 
 pub returns : goal.returns
 unfolding pick_up_four
-returns c = record {
-  got = got-then _ c.pick_up-went1.ensures.got (means went_as c.in-Done.is)
-      (got-then _ c.pick_up-went2.ensures.got (means went_as c.in-Done-went2.is)
-      (got-then _ c.pick_up-went3.ensures.got (means went_as c.in-Done-went3.is)
-      c.pick_up.ensures.got));
-}
+returns c = saw-then _ c.pick_up.ensures c.in_ok-s1.was
+    (saw-then _ c.pick_up-2.ensures c.in_ok-s2.was
+    (saw-then _ c.pick_up-3.ensures c.in_ok-s3.was c.pick_up-4.ensures))

@@ -1,24 +1,17 @@
-use mathlib.Core.Path.{refl}
-use Rattle.board.proofs.Laws.{got-then, got-gone, got-give, unread-at, word_as, means}
-use Rattle.state.proofs.Laws.Answer.{went_as}
+use Rattle.board.proofs.Laws.{saw-then, saw-fail, saw-give}
 use Rattle.step.specs.Places.{restore_places}
 use Rattle.step.proofs.places.restore_places.Goals as goal
 
-pub returns-in_default : goal.returns-in_default
+pub returns-in_err-t : goal.returns-in_err-t
 unfolding restore_places
-returns-in_default c = record { got = got-gone _ c.pick_up_registers-went.ensures.got (means went_as c.in_default.is) (means went_as c.in_default.is) }
+returns-in_err-t c = saw-fail _ c.pick_up_registers.ensures c.in_err-t.was c.from_residual.ensures.1
 
-pub returns-in_default-load : goal.returns-in_default-load
+pub returns-in_err-ps : goal.returns-in_err-ps
 unfolding restore_places
-returns-in_default-load c = record {
-  got = got-then _ c.pick_up_registers-went.ensures.got (means went_as c.in-Done.is)
-      (got-gone _ c.load.ensures.got (unread-at c.load.ensures.got (means word_as c.in_default-load.is)) refl);
-}
+returns-in_err-ps c = saw-then _ c.pick_up_registers.ensures c.in_ok-t.was
+    (saw-fail _ c.load.ensures c.in_err-ps.was c.from_residual-in_err-ps.ensures.1)
 
 pub returns : goal.returns
 unfolding restore_places
-returns c = record {
-  got = got-then _ c.pick_up_registers-went.ensures.got (means went_as c.in-Done.is)
-      (got-then _ c.load.ensures.got (means word_as c.in-Value.is)
-      (got-give (rw (c.with_mode.ensures, c.with_status.ensures))));
-}
+returns c = saw-then _ c.pick_up_registers.ensures c.in_ok-t.was
+    (saw-then _ c.load.ensures c.in_ok-ps.was (rw (c.with_mode.ensures, c.with_status.ensures) saw-give))

@@ -1,24 +1,17 @@
-use mathlib.Core.Path.{refl}
-use Rattle.board.proofs.Laws.{got-then, got-gone, got-give, did, unwritten_at, stored_as, means, passes}
-use Rattle.state.proofs.Laws.Answer.{went_store, went_as, unwritten}
+use Rattle.board.proofs.Laws.{did-then, did-fail, did-give}
 use Rattle.step.specs.Places.{save_places}
 use Rattle.step.proofs.places.save_places.Goals as goal
 
-pub returns-in_default : goal.returns-in_default
+pub returns-in_err-keep_registers : goal.returns-in_err-keep_registers
 unfolding save_places
-returns-in_default c = did (went_store c.unwritten.result) c.requires
-    (got-gone _ c.keep_registers-registers.ensures.got (means stored_as c.in_default.is) (passes went_as unwritten c.unwritten.ensures c.in_default.is))
+returns-in_err-keep_registers c = did-fail _ c.keep_registers.ensures c.in_err-keep_registers.was c.from_residual.ensures.1
 
-pub returns-in_default-store : goal.returns-in_default-store
+pub returns-in_err-store : goal.returns-in_err-store
 unfolding save_places
-returns-in_default-store c = let kept = (rw c.ps.ensures at c.store.ensures).got in
-    did refl c.requires
-    (got-then _ c.keep_registers-registers.ensures.got (means stored_as c.in-Done.is)
-    (got-gone _ kept (unwritten_at kept (means stored_as c.in_default-store.is)) refl))
+returns-in_err-store c = did-then _ c.keep_registers.ensures c.in_ok-keep_registers.was
+    (did-fail _ (rw c.ps.ensures at c.store.ensures) c.in_err-store.was c.from_residual-in_err-store.ensures.1)
 
 pub returns : goal.returns
 unfolding save_places
-returns c = did refl c.requires
-    (got-then _ c.keep_registers-registers.ensures.got (means stored_as c.in-Done.is)
-    (got-then _ (rw c.ps.ensures at c.store.ensures).got (means stored_as c.in-Done-store.is)
-    (got-give (rw c.with_mode.ensures))))
+returns c = did-then _ c.keep_registers.ensures c.in_ok-keep_registers.was
+    (did-then _ (rw c.ps.ensures at c.store.ensures) c.in_ok-store.was (rw c.with_mode.ensures (did-give c.store.ensures.board)))

@@ -1,5 +1,4 @@
-use Rattle.board.proofs.Laws.{got-give}
-use mathlib.Core.Path.{refl}
+use Rattle.board.proofs.Laws.{saw-give}
 use Rattle.step.specs.Xct.{begun}
 use borrow.Author.Tests.{eq-eqb, ne_eqb}
 use Rattle.step.proofs.xct.begun.Goals as goal
@@ -10,4 +9,4 @@ returns-then-op-eq5 c = rw (eq-eqb _ _ c.if-op-eq5.true) c.begin_xct.ensures
 
 pub returns : goal.returns
 unfolding begun
-returns c = rw (ne_eqb _ _ c.if-op-eq5.false) (record { got = got-give refl })
+returns c = rw (ne_eqb _ _ c.if-op-eq5.false) saw-give

@@ -1,34 +1,25 @@
-use mathlib.Core.Path.{refl}
-use Rattle.board.proofs.Laws.{got-then, got-gone, did, means, passes}
-use Rattle.state.proofs.Laws.Answer.{went_store, went_as, took_as, untaken}
+use mathlib.Core.Path.{ap, ◌∙◌}
+use Rattle.std.specs.Prelude.{Ok}
+use Rattle.board.proofs.Laws.{did-then, did-fail, did-saw}
 use Rattle.step.specs.Xct.{op_work, carry}
-use Rattle.step.specs.Inner.{begun_as}
 use Rattle.step.proofs.xct.op_work.Goals as goal
 
-pub returns-in_default : goal.returns-in_default
+pub returns-in_err-t : goal.returns-in_err-t
 unfolding op_work
-returns-in_default c = did (went_store c.untaken.result) c.requires
-    (got-gone _ c.fetch-took.ensures.got (means took_as c.in_default.is) (passes went_as untaken c.untaken.ensures c.in_default.is))
+returns-in_err-t c = did-fail _ (did-saw c.requires c.fetch.ensures) c.in_err-t.was c.from_residual.ensures.1
+
+pub returns-in_err-u : goal.returns-in_err-u
+unfolding op_work
+returns-in_err-u c = did-then _ (did-saw c.requires c.fetch.ensures) c.in_ok-t.was
+    (did-fail _ (did-saw c.requires c.begun.ensures) c.in_err-u.was c.from_residual-in_err-u.ensures.1)
 
 pub returns-in-Code : goal.returns-in-Code
 unfolding op_work
-returns-in-Code c = record {
-  got = got-then _ c.fetch-took.ensures.got (means took_as c.in-Word.is)
-      (got-then _ c.begun.ensures.got (means begun_as c.in-Code.is) c.carry.ensures.got);
-  board = c.carry.ensures.board;
-}
+returns-in-Code c = did-then _ (did-saw c.requires c.fetch.ensures) c.in_ok-t.was
+    (did-then _ (did-saw c.requires c.begun.ensures) (c.in_ok-u.was ∙ ap Ok c.in-Code.is) c.carry.ensures)
 
 pub returns-in-Abort : goal.returns-in-Abort
 unfolding op_work carry
 returns-in-Abort c = rw c.apart.ensures
-    (record {
-      got = got-then _ c.fetch-took.ensures.got (means took_as c.in-Word.is)
-          (got-then _ c.begun.ensures.got (means begun_as c.in-Abort.is) c.trap_now.ensures.got);
-      board = c.trap_now.ensures.board;
-    })
-
-pub returns-in-Blank : goal.returns-in-Blank
-unfolding op_work
-returns-in-Blank c = did refl c.requires
-    (got-then _ c.fetch-took.ensures.got (means took_as c.in-Word.is)
-    (got-gone _ c.begun.ensures.got (means begun_as c.in-Blank.is) refl))
+    (did-then _ (did-saw c.requires c.fetch.ensures) c.in_ok-t.was
+    (did-then _ (did-saw c.requires c.begun.ensures) (c.in_ok-u.was ∙ ap Ok c.in-Abort.is) c.trap_now.ensures))

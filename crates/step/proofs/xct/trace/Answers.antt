@@ -1,17 +1,11 @@
-use Rattle.board.proofs.Laws.{got-then, got-gone, did, means}
-use Rattle.state.proofs.Laws.Answer.{went_store, went_as}
+use Rattle.board.proofs.Laws.{did-then, did-fail, did-saw}
 use Rattle.step.specs.Xct.{trace}
 use Rattle.step.proofs.xct.trace.Goals as goal
 
-pub returns-in_default : goal.returns-in_default
+pub returns-in_err-t : goal.returns-in_err-t
 unfolding trace
-returns-in_default c = did (went_store c.push_both-went.result) c.requires
-    (got-gone _ (rw c.ps.ensures at c.push_both-went.ensures).got (means went_as c.in_default.is) (means went_as c.in_default.is))
+returns-in_err-t c = did-fail _ (rw c.ps.ensures at c.push_both.ensures) c.in_err-t.was c.from_residual.ensures.1
 
 pub returns : goal.returns
 unfolding trace
-returns c = record {
-  got = got-then _ (rw c.ps.ensures at c.push_both-went.ensures).got (means went_as c.in-Done.is)
-      c.from_loc.ensures.got;
-  board = c.push_both-went.ensures.board;
-}
+returns c = did-then _ (rw c.ps.ensures at c.push_both.ensures) c.in_ok-t.was (did-saw c.push_both.ensures.board c.from_loc.ensures)

@@ -1,9 +1,0 @@
-use Rattle.std.proofs.Common.{sym, ◌∙◌, arith}
-use Rattle.optext.proofs.Laws.Reserved.{row_word, row-found}
-use Rattle.optext.proofs.rows.row_of.Goals as goal
-
-pub returns-then-is_reserved : goal.returns-then-is_reserved
-returns-then-is_reserved c = (sym (row_word _ (sym c.is_reserved.ensures ∙ c.if-is_reserved.true)), omega arith)
-
-pub returns : goal.returns
-returns c = (c.row_made.ensures.0 ∙ sym (row-found _ (sym c.is_reserved.ensures ∙ c.if-is_reserved.false)), c.row_made.ensures.1)
