@@ -16,14 +16,14 @@ use Rattle.state.specs.declared.State.{State}
 use Rattle.operand.specs.declared.Place.{Place}
 use Rattle.operand.specs.declared.Place.TheVariants.{Reg, Mem}
 use Rattle.operand.specs.Operand.{decode, decoded_to, read_of, write_to}
+use Rattle.operand.proofs.Laws.Operand.{not_left}
 use Rattle.operand.specs.declared.Held.{Held}
 use Rattle.operand.specs.Destination.{holding, operand_of}
 use Rattle.format10.specs.Format10.{binary_code, byte_code, move_byte}
 
 -- a write to an operand in memory whose page isn't fitted
 unwritten : (map : List ℕ) (z : Size) (s : State) (k a which w v : ℕ) {st : Store} → fitted map a ≡ false → exec map (write_to z s k (Mem a which w) v) st ≡ gone a st
-unfolding write_to
-unwritten map z s k a which w v e = sym (got-gone _ (got-lost z a (rw (unfitted-unwritable map a e))) refl refl).came
+unwritten map z s k a which w v e = sym (not_left z s k a which w v (got-lost z a (rw (unfitted-unwritable map a e))) refl).came
 
 module _ {map : List ℕ} {st : Store} (z : Size) (s : State) (mode k : ℕ) (F : Held → Work State) (W : Work State) (u : State) (v : ℕ) where
   -- the work after the operand is read is W, whatever was read; and where the operand is in memory W writes there

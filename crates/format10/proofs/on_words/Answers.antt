@@ -14,7 +14,7 @@ returns-in_err-source c = rw (← c.source_register-from.ensures, ← c.source_m
 pub returns-in_err-x : goal.returns-in_err-x
 unfolding on_operands
 returns-in_err-x c = rw (← c.source_register-from.ensures, ← c.source_mode-mode.ensures)
-    (did-fail _ (did-saw c.requires (never-read word _ _ _ refl c.reg.ensures c.locate.ensures c.in_ok-source.was c.moved-t.ensures c.reg-2.ensures c.read_word.ensures c.in_err-x.was)) refl c.from_residual-in_err-x.ensures.1)
+    (did-fail _ (did-saw c.requires (never-read word _ _ _ refl c.reg.ensures c.locate.ensures c.in_ok-source.was c.moved-t.ensures c.reg-2.ensures c.read_word.ensures c.in_err-x.was).0) refl c.from_residual-in_err-x.ensures.1)
 
 pub returns : goal.returns
 unfolding on_operands onto

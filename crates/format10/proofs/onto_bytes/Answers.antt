@@ -25,7 +25,7 @@ returns-then-opc-eq13 c = rw (← c.destination_register-to.ensures, ← c.desti
 pub returns-in_err-y : goal.returns-in_err-y
 unfolding onto
 returns-in_err-y c = rw (← c.destination_register-to.ensures, ← c.destination_mode-mode.ensures)
-    (did-fail _ (did-saw c.requires (never-read byte _ _ _ c.byte_step-step.ensures c.reg.ensures c.locate.ensures c.in_ok-place.was c.moved-u.ensures c.reg-2.ensures c.read_byte.ensures c.in_err-y.was)) refl c.from_residual-in_err-y.ensures.1)
+    (did-fail _ (did-saw c.requires (never-read byte _ _ _ c.byte_step-step.ensures c.reg.ensures c.locate.ensures c.in_ok-place.was c.moved-u.ensures c.reg-2.ensures c.read_byte.ensures c.in_err-y.was).0) refl c.from_residual-in_err-y.ensures.1)
 
 pub returns : goal.returns
 unfolding onto

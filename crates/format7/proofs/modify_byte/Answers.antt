@@ -13,7 +13,7 @@ returns-in_err-place c = rw (← c.destination_register-k.ensures, ← c.destina
 pub returns-in_err-d : goal.returns-in_err-d
 unfolding modify_at
 returns-in_err-d c = rw (← c.destination_register-k.ensures, ← c.destination_mode-mode.ensures)
-    (did-fail _ (did-saw c.requires (never-read byte _ _ _ c.byte_step.ensures c.reg.ensures c.locate.ensures c.in_ok-place.was c.moved-t.ensures c.reg-2.ensures c.read_byte.ensures c.in_err-d.was)) refl c.from_residual-in_err-d.ensures.1)
+    (did-fail _ (did-saw c.requires (never-read byte _ _ _ c.byte_step.ensures c.reg.ensures c.locate.ensures c.in_ok-place.was c.moved-t.ensures c.reg-2.ensures c.read_byte.ensures c.in_err-d.was).0) refl c.from_residual-in_err-d.ensures.1)
 
 pub returns : goal.returns
 unfolding modify_at

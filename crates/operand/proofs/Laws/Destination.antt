@@ -11,7 +11,7 @@ use Rattle.state.specs.declared.State.{State}
 use Rattle.state.specs.State.{reg}
 use Rattle.operand.specs.declared.Place.{Place}
 use Rattle.operand.specs.Operand.{increment_of, locate, moved, read_of}
-use Rattle.operand.proofs.Laws.Operand.{decoded, undecoded}
+use Rattle.operand.proofs.Laws.Operand.{address_of, decoded, undecoded, read-address}
 use Rattle.operand.specs.Destination.{holding, operand_of}
 
 -- ---- how code comes to it, of words and of bytes alike
@@ -24,11 +24,12 @@ module _ {map m : List ℕ} (z : Size) (s : State) (mode k : ℕ) {step r : ℕ}
   never-found d e g h = saw-fail _ (undecoded z s mode k d e g h) refl refl
 
   module _ {t : State} {p : Place} {x : ℕ} {u : Result ℕ Blank} where
-    -- a place was found, and reading there, where t is the state and x what the register then holds, gave nothing
+    -- a place was found, and reading there, where t is the state and x what the register then holds, gave nothing: what is told is the
+    -- operand's own address
     pub never-read : {b : Blank} → step ≡ increment_of z k → r ≡ reg s k → Saw map (locate step k r s.regs.pc mode) m q → q ≡ Ok p → t ≡ moved s p
-        → x ≡ reg t k → Saw map (read_of z x p) m u → u ≡ Err b → Saw map (operand_of z s mode k) m (Err b)
+        → x ≡ reg t k → Saw map (read_of z x p) m u → u ≡ Err b → Saw map (operand_of z s mode k) m (Err b) × (b.at ≡ address_of p)
     unfolding operand_of
-    never-read d e g h i j w v = saw-then _ (decoded z s mode k d e g h i) refl (saw-fail _ (rw j at w) v refl)
+    never-read d e g h i j w v = (saw-then _ (decoded z s mode k d e g h i) refl (saw-fail _ (rw j at w) v refl), read-address z x p w v)
 
     -- a place was found, and the value there
     pub held : {v : ℕ} → step ≡ increment_of z k → r ≡ reg s k → Saw map (locate step k r s.regs.pc mode) m q → q ≡ Ok p → t ≡ moved s p

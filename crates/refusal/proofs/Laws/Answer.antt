@@ -1,7 +1,7 @@
 -- What a check's answer says of the number: a refusal that `?` passes on is the first met, and where nothing was refused the later one is.
 use Rattle.std.proofs.Common.{◌≡◌, ℕ, cond, Result, Ok, Err, eqb, sym, refl, ap, ◌∙◌, arith}
 use Rattle.refusal.specs.declared.Refusal.{Refusal}
-use Rattle.refusal.specs.Answer.{number, page_of}
+use Rattle.refusal.specs.Answer.{number, page_of, why_of}
 use Rattle.refusal.specs.Page.{first}
 use Rattle.refusal.proofs.Laws.Page.{first_some, apart, refused-one, answered-one}
 
@@ -124,3 +124,10 @@ page-one once (Ok a) (Ok b) e = ap Ok (once a b (answered-one e))
 page-one once (Ok a) (Err why) e = absurd (apart e)
 page-one once (Err why) (Ok a) e = absurd (apart (sym e))
 page-one once (Err why) (Err other) e = ap Err (number-one why other (refused-one e))
+
+-- one number, one answer: what is told of a check, 0 or the refusal's number, tells the check's whole answer
+pub why-one : (r q : Result (Unit {0}) Refusal) → why_of r ≡ why_of q → r ≡ q
+why-one (Ok a) (Ok b) e = refl
+why-one (Ok a) (Err why) e = absurd (number-some why (sym e))
+why-one (Err why) (Ok a) e = absurd (number-some why e)
+why-one (Err why) (Err other) e = ap Err (number-one why other e)

@@ -8,7 +8,7 @@ returns-in_err-to c = rw (passed c.from_residual.ensures.1, ← c.destination_re
 
 pub returns-in_err-v : goal.returns-in_err-v
 returns-in_err-v c = rw (passed c.from_residual-in_err-v.ensures.1, ← c.destination_register-k.ensures, ← c.destination_mode-mode.ensures)
-    (never-read _ _ _ _ c.step_of.ensures c.reg.ensures c.locate.ensures c.in_ok-to.was c.moved-t.ensures c.reg-2.ensures c.read.ensures c.in_err-v.was)
+    (never-read _ _ _ _ c.step_of.ensures c.reg.ensures c.locate.ensures c.in_ok-to.was c.moved-t.ensures c.reg-2.ensures c.read.ensures c.in_err-v.was).0
 
 pub returns : goal.returns
 returns c = rw (← c.destination_register-k.ensures, ← c.destination_mode-mode.ensures)
