@@ -3,7 +3,7 @@ pub mod Longest
 pub mod Sound
 use Prim.Native.Nat.{ℕ, zero, suc, ◌+◌, ◌-◌, ◌*◌, ◌<◌, ◌≤◌}
 use mathlib.Core.Bool.{true, false, cond}
-use mathlib.Core.List.{List, ◌++◌, append-nil}
+use mathlib.Core.List.{List}
 use mathlib.Core.Path.{◌≡◌, refl, sym, ap, ◌∙◌}
 use lib.ListN.{length, get_or, set, drop, replicate}
 use Rattle.job.specs.declared.Section.{Section}
@@ -14,8 +14,7 @@ use native.Mathlib.Numerals.{add-one}
 use native.Mathlib.Nat.{suc-mul}
 use borrow.Author.Tests.{le-leb, lt-leb, leb-true, eqb-true}
 use lib.Dec.{leb, eqb}
-use borrow.Author.Fill.{fill_more}
-use lib.Seq.{drop-cons, drop-length}
+use lib.Seq.{drop-cons}
 use Rattle.wordbytes.specs.Words.{byte_at, word_at}
 use Rattle.refusal.specs.Numbers.{image_length, map_length, lines_length, job_ends}
 use Rattle.refusal.specs.Page.{refused, answered, left, first}
@@ -59,7 +58,7 @@ pub count-good : (s : Section) (input : List ℕ) (at : ℕ) → at ≤ length i
 unfolding why_count
 count-good s input at b h m = rw (cut-none input at 2 b h, le-leb (word_at input at) (most_of s) m) refl
 
-first-first : (a b later : ℕ) → first (first a b) later ≡ first a (first b later)
+pub first-first : (a b later : ℕ) → first (first a b) later ≡ first a (first b later)
 first-first zero b later = refl
 first-first (suc a) b later = refl
 

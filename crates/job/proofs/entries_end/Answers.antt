@@ -4,7 +4,7 @@ use Rattle.wordbytes.specs.Words.{word_at}
 use Rattle.refusal.proofs.Laws.Answer.{number-some}
 use Rattle.job.specs.Job.{entry_size, why_entries, fit_pages}
 use Rattle.job.proofs.Laws.{count_room, entry-room, entry-refused, entry-taken, page-noted, entry-passed, entries-end, pages-end}
-use Rattle.job.proofs.section_end.Goals as goal
+use Rattle.job.proofs.entries_end.Goals as goal
 
 pub loop-init : goal.loop-init
 loop-init c =
