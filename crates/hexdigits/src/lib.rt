@@ -18,7 +18,8 @@ pub fn hex(d: u16) -> u8
     0
 }
 
-// A text at the front; answers its length. A shorter buffer is left as it is, and the answer is 0.
+// A text at the front; answers its length. A shorter buffer is left as it is, and the answer is 0. Byte by byte: `copy_from_slice`
+// would have the library for C need memmove.
 pub fn put_text(out: &mut [u8], text: &[u8]) -> usize
     ensures { text_left result out.new ≡ written text.now out.old }
 {
@@ -26,7 +27,9 @@ pub fn put_text(out: &mut [u8], text: &[u8]) -> usize
     if out.len() < n {
         return 0;
     }
-    out[..n].copy_from_slice(text);
+    for (i, &byte) in text.iter().enumerate() {
+        out[i] = byte;
+    }
     n
 }
 

@@ -7,7 +7,7 @@ use native.Mathlib.Nat.{zero-add}
 use native.Mathlib.Numerals.{add-one}
 use borrow.Author.Tests.{le-leb, lt-leb}
 use lib.ListN.{length, take, drop, set, get_or, length-append, length-take, length-drop}
-use lib.Seq.{sets, sets-eq, take_at, drop_at, drop-drop, drop-cons, set_at, append_snoc, take_all, drop-length, take-append_seam}
+use lib.Seq.{sets, sets-eq, take_at, drop_at, drop-drop, drop-cons, set_at, append_snoc, take_all, drop-length, take-suc, take-append_seam, length-take-le}
 use Rattle.hexdigits.specs.Over.{in_front_of, Wrote, WroteAt, text_left, written, TextLeft}
 use borrow.Rule.Slice.PartMut.{mid_of, put_mid, Post-is, same_len_mid}
 
@@ -63,10 +63,16 @@ part_length a xs ys e = same_len_mid a (length xs - a) xs ys e
 pub part_room : (at k : ℕ) (b : List ℕ) → at + k ≤ length b → k ≤ length (mid_of at (length b - at) b)
 part_room at k b h = simp (length-take, length-drop) (omega arith)
 
--- a text that was copied to the front
-pub copied : (s b y : List ℕ) → y ≡ s → Wrote s b (y ++ drop (length s) b) (length s)
+-- a text that is copied to the front byte by byte
+pub copy-none : (s b : List ℕ) → b ≡ in_front_of (take 0 s) b
 unfolding in_front_of
-copied s b y e = record { bytes = ap (λ (l : List ℕ). l ++ drop (length s) b) e; count = refl }
+copy-none s b = refl
+
+pub copy_more : (s b e : List ℕ) (i : ℕ) → e ≡ in_front_of (take i s) b → i < length s → length s ≤ length b
+    → set e i (get_or s i 0) ≡ in_front_of (take (i + 1) s) b
+copy_more s b e i q h l =
+    let t : length (take i s) ≡ i = length-take-le i s (omega arith) in
+    rw (q, add-one i, take-suc s i 0 h) (over-set (take i s) b i (get_or s i 0) t (omega arith))
 
 -- a writer got the part from a place on
 pub at_part : (at n : ℕ) (s b y : List ℕ) → at ≤ length b → Wrote s (mid_of at (length b - at) b) y n
