@@ -42,7 +42,7 @@ fn run_from(
             out.write_all(map)?;
             put_pages(out, image, map)
         }
-        Err(why) => put_refused(out, why),
+        Err(why) => put_refused(out, u8::from(why)),
     }
 }
 
@@ -55,7 +55,7 @@ fn run_up(
 ) -> io::Result<()> {
     match machine::power_up(image, map, board) {
         Ok(s) => run_from(out, s, image, map, board, lines),
-        Err(why) => put_refused(out, why),
+        Err(why) => put_refused(out, u8::from(why)),
     }
 }
 
@@ -69,7 +69,7 @@ fn run_first(
 ) -> io::Result<()> {
     match lines.get(..usize::from(count)) {
         Some(lines) => run_up(out, image, map, board, lines),
-        None => put_refused(out, Refusal::LinesLength),
+        None => put_refused(out, u8::from(Refusal::LinesLength)),
     }
 }
 
@@ -80,7 +80,7 @@ fn run_job(out: &impl Print, input: &[u8], board: Settings) -> io::Result<()> {
     let mut lines = [0u16; MOST_LINE_WORDS];
     match job::read_job(input, &mut image, &mut map, &mut lines) {
         Ok(count) => run_first(out, &mut image, &map, board, &lines, count),
-        Err(why) => put_refused(out, why),
+        Err(why) => put_refused(out, u8::from(why)),
     }
 }
 
@@ -89,5 +89,5 @@ fn main(rt: HostRuntime) {
     let mut input = [0u8; READ_OF_JOB];
     let got = read_full(&mut rt.stdin(), &mut input);
     let written = run_job(&rt.stdout(), &input[..got], board);
-    say_unless(&rt.stderr(), written, "afterrun");
+    say_unless(&rt.stderr(), written, b"afterrun");
 }

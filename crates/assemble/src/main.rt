@@ -111,7 +111,7 @@ fn answer_section(out: &impl Print, err: &impl Print, source: &[u8]) -> io::Resu
     let mut section = [0u8; LONGEST_SECTION];
     match assembler::assemble(source, &mut section) {
         Ok(n) => {
-            say_unless(err, put_answer(out, &section, n), "assemble");
+            say_unless(err, put_answer(out, &section, n), b"assemble");
             Ok(())
         }
         Err(why) => say_refused(err, source, why),
@@ -122,7 +122,7 @@ fn answer_labels(out: &impl Print, err: &impl Print, source: &[u8]) -> io::Resul
     let mut labels = [0u8; MOST_LABELS];
     match assembler::labels(source, &mut labels) {
         Ok(n) => {
-            say_unless(err, put_answer(out, &labels, n), "assemble");
+            say_unless(err, put_answer(out, &labels, n), b"assemble");
             Ok(())
         }
         Err(why) => say_refused(err, source, why),

@@ -11,7 +11,7 @@ use std::io::Print;
 fn put_answer(out: &impl Print, text: &[u8], printed: Result<usize, Refusal>) -> io::Result<()> {
     match printed {
         Ok(n) => put_line(out, first(text, n)?),
-        Err(why) => put_refused(out, why),
+        Err(why) => put_refused(out, u8::from(why)),
     }
 }
 
@@ -24,5 +24,5 @@ fn main(rt: HostRuntime) {
     let mut text = [0u8; 64];
     let printed = runjob::run_job(&mut text, &input[..got], &mut image, &mut map, &mut lines);
     let written = put_answer(&rt.stdout(), &text, printed);
-    say_unless(&rt.stderr(), written, "bench");
+    say_unless(&rt.stderr(), written, b"bench");
 }

@@ -119,5 +119,5 @@ fn main(rt: HostRuntime) {
     let mut trace = trace_buffer();
     let trace_length = read_full(&mut trace_file, &mut trace);
     let written = answer(&rt.stdout(), &job[..job_length], &trace[..trace_length]);
-    say_unless(&err, written, "check_trace");
+    say_unless(&err, written, b"check_trace");
 }

@@ -26,7 +26,7 @@ fn list_input(out: &impl Print, input: &[u8]) -> io::Result<()> {
     let mut text = whole_listing();
     match listjob::list_job(&mut text, input, &mut image, &mut map, &mut lines) {
         Ok(n) => out.write_all(first(&text, n)?),
-        Err(why) => put_refused(out, why),
+        Err(why) => put_refused(out, u8::from(why)),
     }
 }
 
@@ -35,5 +35,5 @@ fn main(rt: HostRuntime) {
     let mut input = [0u8; 4 + READ_OF_JOB];
     let got = read_full(&mut rt.stdin(), &mut input);
     let written = list_input(&rt.stdout(), &input[..got]);
-    say_unless(&rt.stderr(), written, "list");
+    say_unless(&rt.stderr(), written, b"list");
 }

@@ -24,7 +24,7 @@ fn main(rt: HostRuntime) {
     match trace::make(&input[..got], &mut out, &mut image, &mut map, &mut lines) {
         Ok(n) => {
             let written = put_trace(&rt.stdout(), &out, n);
-            say_unless(&rt.stderr(), written, "make_trace");
+            say_unless(&rt.stderr(), written, b"make_trace");
         }
         Err(why) => {
             let number = u8::from(why);

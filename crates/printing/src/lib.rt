@@ -46,16 +46,17 @@ pub fn put_printed(
 }
 
 // bench's line of a refusal: REFUSED and its number.
-pub fn put_refused(out: &impl Print, why: Refusal) -> io::Result<()> {
+pub fn put_refused(out: &impl Print, why: u8) -> io::Result<()> {
     let mut text = [0u8; 16];
-    let printed = benchline::write_refused(&mut text, u8::from(why));
+    let printed = benchline::write_refused(&mut text, why);
     put_printed(out, &text, printed)
 }
 
 // Says on standard error that a program's answer could not be written, where it was not.
-pub fn say_unless(err: &impl Print, written: io::Result<()>, program: &str) {
+pub fn say_unless(err: &impl Print, written: io::Result<()>, program: &[u8]) {
     if written.is_err() {
-        let _ = println!(err; "{program}: the answer could not be written");
+        let _ = err.write_all(program);
+        let _ = err.write_all(b": the answer could not be written\n");
     }
 }
 

@@ -28,7 +28,7 @@ fn put_steps(
                 put_line(out, first(&text, shown.length)?)?;
                 state = shown.turn.state;
             }
-            Err(why) => return put_refused(out, why),
+            Err(why) => return put_refused(out, u8::from(why)),
         }
     }
     Ok(())
@@ -43,7 +43,7 @@ fn step_up(
 ) -> io::Result<()> {
     match machine::power_up(image, map, board) {
         Ok(s) => put_steps(out, s, image, map, board, lines),
-        Err(why) => put_refused(out, why),
+        Err(why) => put_refused(out, u8::from(why)),
     }
 }
 
@@ -57,7 +57,7 @@ fn step_first(
 ) -> io::Result<()> {
     match lines.get(..usize::from(count)) {
         Some(lines) => step_up(out, image, map, board, lines),
-        None => put_refused(out, Refusal::LinesLength),
+        None => put_refused(out, u8::from(Refusal::LinesLength)),
     }
 }
 
@@ -68,7 +68,7 @@ fn step_job(out: &impl Print, input: &[u8], board: Settings) -> io::Result<()> {
     let mut lines = [0u16; MOST_LINE_WORDS];
     match job::read_job(input, &mut image, &mut map, &mut lines) {
         Ok(count) => step_first(out, &mut image, &map, board, &lines, count),
-        Err(why) => put_refused(out, why),
+        Err(why) => put_refused(out, u8::from(why)),
     }
 }
 
@@ -77,5 +77,5 @@ fn main(rt: HostRuntime) {
     let mut input = [0u8; READ_OF_JOB];
     let got = read_full(&mut rt.stdin(), &mut input);
     let written = step_job(&rt.stdout(), &input[..got], board);
-    say_unless(&rt.stderr(), written, "steps");
+    say_unless(&rt.stderr(), written, b"steps");
 }

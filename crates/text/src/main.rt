@@ -138,5 +138,5 @@ fn main(rt: HostRuntime) {
         return;
     }
     let written = answer_all(&rt.stdout(), &input[..got]);
-    say_unless(&rt.stderr(), written, "text");
+    say_unless(&rt.stderr(), written, b"text");
 }
