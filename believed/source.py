@@ -1,10 +1,11 @@
-"""Files of src/: their types, and their functions' contracts."""
+"""Files of src/: their types and traits, what a trait stands for at a type, and their functions' contracts."""
 import os
 import re
 
 from antt import Item, Names, parts_of
 
 PAIRS = {"{": "}", "(": ")"}
+GHOST = re.compile(r"^    ghost [^;]*;$", re.M)
 CLAUSE = re.compile(r"[^{]*?\b(requires|ensures)\*?(?: \w+)?\s*(?=\{)|[^{]*(?=\{)")
 
 
@@ -54,7 +55,11 @@ class Source:
         self.imports = {p.split("::")[-1]: p.split("::")[:-1] for p in re.findall(r"^(?:pub )?use ([\w:]+);$", text, re.M)}
         self.public_mods = set(re.findall(r"^pub mod (\w+);$", text, re.M))
         self.items = [self.type_at(text, found) for found in re.finditer(r"^(pub(?:\(crate\))? )?(?:struct|enum) (\w+)", text, re.M)]
+        self.items += [self.ghosts_at(text, found, found.group(2)) for found in re.finditer(r"^(pub(?:\(crate\))? )?trait (\w+)", text, re.M)]
         self.types = {item.name: item for item in self.items}
+        impls = [self.ghosts_at(text, found, found.group(1)) for found in re.finditer(r"^impl(?:<[^{]*?>)? ([^{\n]* for [^{\n]*?) \{$", text, re.M)]
+        self.impls = [item for item in impls if item.signature[1:]]
+        self.items += self.impls
         heads = re.finditer(r"^\s*(pub(?:\(crate\))? )?(?:extern \"C\" )?fn (\w+)", text, re.M)
         self.functions = [Function(text, found) for found in heads]
 
@@ -64,4 +69,12 @@ class Source:
         item = Item(self, found.group(2), "type of src", True, text.count("\n", 0, found.start()), [])
         item.last = text.count("\n", 0, end)
         item.signature = [text[found.start() : end + 1]]
+        return item
+
+    def ghosts_at(self, text, found, name):
+        """A trait or an impl of one, of which a reader believes the ghost members: its head, and then each of these."""
+        end = closing(text, text.index("{", found.end() - 1))
+        item = Item(self, name, "type of src", True, text.count("\n", 0, found.start()), [])
+        item.signature = [found.group()] + GHOST.findall(text[found.start() : end + 1])
+        item.last = item.first + "\n".join(item.signature).count("\n")
         return item

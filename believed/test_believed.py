@@ -65,7 +65,7 @@ TREE = {
     "docs/CONTRACTS.md": "Users call `machine`.\n",
     "docs/PROOFS.md": PROOFS,
     "docs/BELIEVE.md": "```\n$ believed/believed.py --sums\n```\n",
-    "crates/low/src/lib.rt": "ghost use Rattle.low.specs.Work as W;\n\nfn inner(x: u16) -> u16\n    ensures { result ≡ W.twice x }\n{\n    x\n}\n",
+    "crates/low/src/lib.rt": "ghost use Rattle.low.specs.Work as W;\n\npub trait Width {\n    ghost wide: { ℕ → ℕ };\n\n    fn bits(self) -> u32;\n}\n\nimpl Width for u8 {\n    ghost wide = { W.twice };\n\n    fn bits(self) -> u32 {\n        8\n    }\n}\n\nfn inner<T: Width>(x: u16) -> u16\n    ensures { result ≡ W.twice x }\n{\n    x\n}\n",
     "crates/low/specs/Lib.antt": "pub mod Work\n",
     "crates/low/specs/Work.antt": SPECS,
     "crates/low/proofs/Laws/Work.antt": LAWS,
@@ -125,6 +125,8 @@ def main():
         assert run("--check")[0] == 0, run("--check")
         assert run("--list") == (0, LIST), run("--list")
         assert run("--sums")[1].startswith("    17 lines of 7 definitions in 2 files: reached by a contract for users\n"), run("--sums")
+        for ghosts in ("Width (type of src, 2 lines, an inner function's contract)", "Width for u8 (type of src, 2 lines, an inner function's contract)"):
+            assert ghosts in run("--items")[1], run("--items")
         with open("docs/PROOFS.md", encoding="utf-8") as file:
             TREE["docs/PROOFS.md"] = file.read()
         unreached = "no contract and no named theorem's statement reaches it; its place is proofs/"

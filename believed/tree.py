@@ -62,7 +62,12 @@ class Tree:
         """What each item names."""
         for source in self.sources.values():
             for item in source.items:
-                item.shown = item.all = {found.key for found in self.types_in(item.signature[0], source)} - {item.key}
+                told = {key for line in item.signature[1:] for key in self.named(line, source)}
+                item.shown = item.all = ({found.key for found in self.types_in(item.signature[0], source)} | told) - {item.key}
+        for source in self.sources.values():
+            for impl in source.impls:
+                for found in self.types_in(impl.signature[0], source):
+                    found.shown = found.all = found.all | {impl.key}
         for file in self.files.values():
             for item in file.items:
                 around = "\n".join(s.text for s in item.sections)
