@@ -16,13 +16,13 @@ ROOT = pathlib.Path(__file__).resolve().parent.parent
 PAPER = ROOT / "docs" / "CONTRACTS.md"
 BEGIN, END = "<!-- edits/table.py --write -->", "<!-- the table's end -->"
 HEAD = "| Function | Wrong answers |\n|---|---|\n"
-FUNCTION = re.compile(r"^( *)(pub )?(?:pub\(crate\) )?(?:extern \"C\" )?(?:fn|const|static) (\w+)", re.M)
+FUNCTION = re.compile(r"^( *)(pub )?(?:pub\(crate\) )?(?:extern \"C\" )?(?:final )?(?:fn|const|static) (\w+)", re.M)
 DEFINITION = re.compile(r"^(?: *(?:abbrev|unfoldable) (?:pub )?|(?:pub )?(?:data|record) |pub )([^\s:({]+)", re.M)
 # Functions whose edits change their definition, which they are proved to be: of a field the one line of code stands in other fields
-# too, and an edit's old text must stand once; `write_end` is one call, `mode_number` one cast.
+# too, and an edit's old text must stand once; `write_end` is one call.
 ALIKE = """destination_mode destination_register source_mode source_register register format9_code offset format2_code only_register
     format4_code argument format8_code block_source block_destination"""
-DEFINED = {"endline write_end": "Report end_text", "state mode_number": "State mode_number"}
+DEFINED = {"endline write_end": "Report end_text"}
 DEFINED |= {f"opcodes fields::{field}": f"Fields {field}" for field in ALIKE.split()}
 # Functions with fewer than two edits, and why.
 PRINTS = "put_line put_spaces put_printed put_refused say_unless read_board"
